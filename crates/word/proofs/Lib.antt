@@ -1,0 +1,3 @@
+pub mod Cut
+pub mod Search
+pub mod Signed

@@ -1,0 +1,70 @@
+-- What a search finds, said of the numbers alone, so that nobody has to open a search over 2^w words: each search stops
+-- at the one number that passes (or is the last one allowed) and before which nothing passes. By induction on the words
+-- left. Assumes nothing.
+use mathlib.Core.Path.{_≡_, refl, sym, ap, _∙_, subst}
+use mathlib.Core.Bool.{Bool, true, false}
+use mathlib.Core.Logic.{_⊎_, inl, inr, ⊎-elim}
+use Prim.Native.Nat.{ℕ, zero, suc, _+_, _≤_, _<_}
+use native.Mathlib.Nat.{add-suc, suc-add, add-zero}
+use native.Mathlib.Decide.{decLt}
+use native.Mathlib.Omega.{arith}
+use Rattle.word.specs.declared.Found.{Found}
+use Rattle.word.specs.declared.Found.the-variants.{At, Nothing}
+use Rattle.word.specs.Search.{first, last, climb, sink}
+
+module _ (f : ℕ → Bool) where
+  pub first-at : (k p x : ℕ) → p ≤ x → x < p + k → f x ≡ true → ((y : ℕ) → p ≤ y → y < x → f y ≡ false)
+      → first f k p ≡ At x
+  unfolding first
+  first-at zero p x l h t n = absurd (omega arith)
+  first-at (suc k) p x l h t n = go (decLt p x) (λ q. first-at k (suc p) x q (omega arith) t (λ y a. n y (omega arith)))
+    where
+      go : Dec (p < x) → (p < x → first f k (suc p) ≡ At x) → first f (suc k) p ≡ At x
+      go (yes q) later = rw (n p (omega arith) q, first) (later q)
+      go (no q) later = let e : p ≡ x = omega arith in rw (ap f e ∙ t, first) (ap At e)
+
+  pub first-none : (k p : ℕ) → ((y : ℕ) → p ≤ y → y < p + k → f y ≡ false) → first f k p ≡ Nothing
+  unfolding first
+  first-none zero p n = refl
+  first-none (suc k) p n = rw (n p (omega arith) (omega arith), first) (first-none k (suc p) (λ y a b. n y (omega arith) (omega arith)))
+
+  pub last-at : (k x : ℕ) → x < k → f x ≡ true → ((y : ℕ) → x < y → y < k → f y ≡ false) → last f k ≡ At x
+  unfolding last
+  last-at zero x h t n = absurd (omega arith)
+  last-at (suc k) x h t n = go (decLt x k) (λ q. last-at k x q t (λ y a b. n y a (omega arith)))
+    where
+      go : Dec (x < k) → (x < k → last f k ≡ At x) → last f (suc k) ≡ At x
+      go (yes q) later = rw (n k q (omega arith), last) (later q)
+      go (no q) later = let e : k ≡ x = omega arith in rw (ap f e ∙ t, last) (ap At e)
+
+  pub last-none : (k : ℕ) → ((y : ℕ) → y < k → f y ≡ false) → last f k ≡ Nothing
+  unfolding last
+  last-none zero n = refl
+  last-none (suc k) n = rw (n k (omega arith), last) (last-none k (λ y a. n y (omega arith)))
+
+  pub climb-to : (k p q : ℕ) → p ≤ q → q ≤ p + k → ((y : ℕ) → p < y → y ≤ q → f y ≡ false) → (q ≡ p + k) ⊎ (f (suc q) ≡ true)
+      → climb f k p ≡ q
+  unfolding climb
+  climb-to zero p q l h n s = omega arith
+  climb-to (suc k) p q l h n s =
+      go (decLt p q) (λ d. climb-to k (suc p) q d (omega arith) (λ y a. n y (omega arith)) (⊎-elim (λ e. inl (omega arith)) inr s))
+    where
+      here : p ≡ q → f (suc p) ≡ true
+      here e = ⊎-elim (λ t. absurd (omega arith)) (λ t. rw e t) s
+
+      go : Dec (p < q) → (p < q → climb f k (suc p) ≡ q) → climb f (suc k) p ≡ q
+      go (yes d) later = rw (n (suc p) (omega arith) d, climb) (later d)
+      go (no d) later = let e : p ≡ q = omega arith in rw (here e, climb) e
+
+  pub sink-to : (p q : ℕ) → q ≤ p → ((y : ℕ) → q ≤ y → y < p → f y ≡ false) → (q ≡ 0) ⊎ ((y : ℕ) → suc y ≡ q → f y ≡ true)
+      → sink f p ≡ q
+  unfolding sink
+  sink-to zero q l n s = omega arith
+  sink-to (suc p) q l n s = go (decLt p q) (λ d. sink-to p q d (λ y a b. n y a (omega arith)) s)
+    where
+      here : suc p ≡ q → f p ≡ true
+      here e = ⊎-elim (λ t. absurd (omega arith)) (λ t. t p e) s
+
+      go : Dec (p < q) → (q ≤ p → sink f p ≡ q) → sink f (suc p) ≡ q
+      go (yes d) later = let e : suc p ≡ q = omega arith in rw (here e, sink) e
+      go (no d) later = let h : q ≤ p = omega arith in rw (n p h (omega arith), sink) (later h)
