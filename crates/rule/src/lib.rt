@@ -1,0 +1,49 @@
+// A rule on one unknown word, and whether a word meets it.
+ghost use mathlib.Core.Path.{_≡_};
+ghost use Prim.Native.Nat.{_≤_};
+ghost use Rattle.word.specs.Word.{IsWidth, top};
+ghost use Rattle.rule.specs.Meaning.{meets, written};
+use word::Width;
+
+// A form of 1 to 8, a sense (0 as written, 1 negated) and two constants.
+pub struct Rule {
+    pub form: u64,
+    pub sense: u64,
+    pub c1: u64,
+    pub c2: u64,
+}
+
+impl Rule {
+    // The most rules that may be in force on a sheet.
+    pub const LIMIT: usize = 64;
+
+    // Whether the word x meets the rule.
+    pub fn meets(self, width: Width, x: u64) -> bool
+        requires { ⌜ IsWidth (width .bits) ⌝ }
+        requires { ⌜ (x ≤ top (width .bits)) × (self .c1 ≤ top (width .bits)) ⌝ }
+        ensures { λ r. ⌜ r ≡ meets (width .bits) self x ⌝ }
+    {
+        let holds = self.written(width, x);
+        if self.sense == 0 { holds } else { !holds }
+    }
+
+    // Whether x meets the rule as written.
+    fn written(self, width: Width, x: u64) -> bool
+        requires { ⌜ IsWidth (width .bits) ⌝ }
+        requires { ⌜ (x ≤ top (width .bits)) × (self .c1 ≤ top (width .bits)) ⌝ }
+        ensures { λ r. ⌜ r ≡ written (width .bits) self x ⌝ }
+    {
+        let form = self.form;
+        match form {
+            1 => width.add(self.c1, x) <= width.add(self.c2, x),
+            2 => self.c1 <= width.add(self.c2, x),
+            3 => width.add(self.c1, x) <= self.c2,
+            4 => width.signed(x) <= width.signed(self.c1),
+            5 => width.signed(self.c1) <= width.signed(x),
+            6 => x == self.c1,
+            7 => x & self.c1 == self.c2,
+            8 => self.c2 <= width.sub(x, self.c1),
+            _ => true,
+        }
+    }
+}
