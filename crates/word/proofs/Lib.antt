@@ -1,3 +1,7 @@
 pub mod Cut
 pub mod Search
 pub mod Signed
+pub mod Slips
+pub mod Sums
+pub mod Tests
+pub mod Widths

@@ -9,7 +9,8 @@ use mir.Syntax.{w64}
 use mir.Val.{SFits, toZ, ofZ}
 use mir.ValLaws.{toZ-pos, toZ-ofZ}
 use Rattle.word.specs.Word.{signed}
-use Rattle.word.proofs.Signed.{halves, half-fits, low, high, below-zero}
+use Rattle.word.proofs.Signed.{low, high, below-zero}
+use Rattle.word.proofs.Widths.{halves, half-fits}
 use Rattle.word.proofs.Width.signed.Statement.{statement}
 use Rattle.word.proofs.Width.signed.Tie as tie
 
