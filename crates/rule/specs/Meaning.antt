@@ -1,14 +1,14 @@
 -- What a rule means (01, "The eight forms of rule"), and how far a rule fails around a word.
 use mathlib.Core.Path.{_≡_}
-use mathlib.Core.Bool.{Bool, true, false, not, _&&_, cond}
+use mathlib.Core.Bool.{Bool, true, false, not, _&&_, _||_, cond}
 use mathlib.Core.List.{List, [], _∷_}
-use Prim.Native.Nat.{ℕ, _-_, _≤_}
+use Prim.Native.Nat.{ℕ, suc, _-_, _≤_}
 use lib.Dec.{leb, eqb}
 use lib.ListN.{getD}
 use lib.Bits.{bitAnd}
 use lib.Signed.{leZ}
 use Rattle.word.specs.Word.{top, plus, minus, signed}
-use Rattle.word.specs.Search.{climb, sink}
+use Rattle.word.specs.Search.{climb, count, sink}
 use Rattle.rule.specs.declared.Rule.{Rule}
 
 -- The table, a row for each form from 1 to 8: what it says of the word x. (0 is no form.)
@@ -45,6 +45,14 @@ reach w r p = climb (meets w r) (top w - p) p
 -- where the run of failing words around p starts: the smallest q such that every word from q to p fails the rule
 unfoldable pub start : ℕ → Rule → ℕ → ℕ
 start w r p = sink (meets w r) p
+
+-- a run of failing words ends at x: x fails the rule, and x is the top word or the next word meets it
+unfoldable pub ends : ℕ → Rule → ℕ → Bool
+ends w r x = not (meets w r x) && (eqb x (top w) || meets w r (suc x))
+
+-- the runs of words that fail the rule and end at p or later
+unfoldable pub runs : ℕ → Rule → ℕ → ℕ
+runs w r p = count (ends w r) (suc (top w) - p) p
 
 -- the word x meets all form 7 rules
 unfoldable pub meets7 : ℕ → List Rule → ℕ → Bool

@@ -99,3 +99,23 @@ module _ (w : ℕ) where
       let (k, r) = minus-turns (minus w x c) (minus w a c) (minus-word a c) in
       let (l, s) = minus-turns x a ha in
       same (minus-word _ _) (minus-word x a) (i + k) (j + l) (omega (arith, p, q, r, s, add-mul i k (2 ^ w), add-mul j l (2 ^ w)))
+
+  -- the difference of two amounts, added to a word turned by the one, is the word turned by the other
+  pub regroup : (a b x : ℕ) → a ≤ top w → plus w (plus w a x) (minus w b a) ≡ plus w b x
+  regroup a b x ha =
+      let (i, p) = plus-turns a x in
+      let (j, q) = minus-turns b a ha in
+      let (k, r) = plus-turns (plus w a x) (minus w b a) in
+      let (l, s) = plus-turns b x in
+      same (plus-word _ _) (plus-word b x) (i + j + k) (l + 1)
+      (omega (arith, p, q, r, s, add-mul (i + j) k (2 ^ w), add-mul i j (2 ^ w), add-mul l 1 (2 ^ w)))
+
+  -- what a difference leaves below the top word, turned back
+  pub rest : (a b : ℕ) → a ≤ top w → b ≤ top w → minus w (top w - minus w b a) a ≡ minus w (top w) b
+  rest a b ha hb =
+      let d = minus-word b a in
+      let (i, p) = minus-turns b a ha in
+      let (j, q) = minus-turns (top w - minus w b a) a ha in
+      let (k, r) = minus-turns (top w) b hb in
+      same (minus-word _ _) (minus-word (top w) b) (j + 1) (i + k)
+      (omega (arith, p, q, r, add-mul j 1 (2 ^ w), add-mul i k (2 ^ w)))

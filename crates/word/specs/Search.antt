@@ -23,3 +23,8 @@ climb f (suc k) p = elim (f (suc p)) [ true ↦ p | false ↦ climb f k (suc p) 
 unfoldable pub sink : (ℕ → Bool) → ℕ → ℕ
 sink f zero = zero
 sink f (suc p) = elim (f p) [ true ↦ suc p | false ↦ sink f p ]
+
+-- how many of k words from p pass
+unfoldable pub count : (ℕ → Bool) → ℕ → ℕ → ℕ
+count f zero p = zero
+count f (suc k) p = elim (f p) [ true ↦ suc (count f k (suc p)) | false ↦ count f k (suc p) ]

@@ -1,20 +1,13 @@
 -- `Rule::written` meets its contract: each arm computes its form's row. Assumes nothing.
-use mathlib.Core.Path.{_≡_, refl, sym, ap, ap₂, _∙_}
-use mathlib.Core.Bool.{Bool, true}
-use Prim.Native.Nat.{ℕ, zero, suc, _≤_}
-use native.Mathlib.Nat.{lt-of-not-le}
-use native.Mathlib.Decide.{decLe}
-use native.Mathlib.Omega.{arith}
+use mathlib.Core.Path.{sym, ap, ap₂, _∙_}
+use Prim.Native.Nat.{ℕ}
 use borrow.Author.Needs.{needs}
-use lib.Arith.{lt-of-le-ne, lt-one}
-use lib.Bits.{bitAnd}
-use lib.Dec.{leb, eqb}
-use lib.IntN.{ℤ}
+use lib.Dec.{leb}
 use lib.Signed.{leZ}
 use mir.Syntax.{w64}
 use mir.ValLaws.{toZ-ofZ}
-use Rattle.rule.specs.Meaning.{rows, written}
-use Rattle.rule.proofs.Rows.{at-row, past-rows}
+use Rattle.rule.specs.Meaning.{rows}
+use Rattle.rule.proofs.Rows.{at-row, no-row}
 use Rattle.rule.proofs.Rule.written.Statement.{statement}
 use Rattle.rule.proofs.Rule.written.Tie as tie
 
@@ -88,28 +81,11 @@ returns-8 c =
     ap (leb (c .before .before .before .args .self .c2)) (c .before .sub .ensures) ∙ sym (at-row _ _ _ 8 (c .before .before .match .keys8))
 
 returns-9 : tie.Need-returns-9
-unfolding rows
-returns-9 c = sym (go (decLe 1 n))
-  where
-    n : ℕ
-    n = c .before .args .self .form
-
-    up : (k : ℕ) → (n ≡ k → ⊥) → k ≤ n → suc k ≤ n
-    up k d h = lt-of-le-ne h (λ e. d (sym e))
-
-    go : Dec (1 ≤ n) → written (c .before .args .width .bits) (c .before .args .self) (c .before .args .x) ≡ true
-    go (yes h) =
-        let r = c .match .rest in
-        past-rows _ _ _
-        (up 8 (r .1)
-        (up 7 (r .0 .1)
-        (up 6 (r .0 .0 .1)
-        (up 5 (r .0 .0 .0 .1)
-        (up 4 (r .0 .0 .0 .0 .1)
-        (up 3 (r .0 .0 .0 .0 .0 .1)
-        (up 2 (r .0 .0 .0 .0 .0 .0 .1)
-        (up 1 (r .0 .0 .0 .0 .0 .0 .0 .1) h))))))))
-    go (no h) = at-row _ _ _ 0 (lt-one (lt-of-not-le h))
+returns-9 c =
+    let d = c .match .rest in
+    sym
+    (no-row _ _ _ (d .0 .0 .0 .0 .0 .0 .0 .1) (d .0 .0 .0 .0 .0 .0 .1) (d .0 .0 .0 .0 .0 .1) (d .0 .0 .0 .0 .1)
+    (d .0 .0 .0 .1) (d .0 .0 .1) (d .0 .1) (d .1))
 
 pub written-spec : {M : Type 1} → statement M
 written-spec =

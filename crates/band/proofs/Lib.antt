@@ -1,0 +1,5 @@
+pub mod Arcs
+pub mod Law
+pub mod Laying
+pub mod Runs
+pub mod Sides
