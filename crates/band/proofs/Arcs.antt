@@ -1,8 +1,8 @@
 -- The arc law. The distance of x from the arc's start, going up, is at most that of its end exactly when x is within the
 -- arc; turning the wheel keeps distances; and each form is a plain bound on the word turned by some amount: by c1 or c2
 -- for forms 1, 2, 3 and 8, by half for the signed forms 4 and 5. Assumes nothing.
-use mathlib.Core.Path.{_≡_, refl, sym, ap, ap₂, _∙_}
-use mathlib.Core.Bool.{Bool, true, false}
+use mathlib.Core.Path.{_≡_, sym, ap, ap₂, _∙_}
+use mathlib.Core.Bool.{Bool}
 use mathlib.Core.Logic.{_⊎_, inl, inr, ⊎-elim}
 use Prim.Native.Nat.{ℕ, suc, _+_, _-_, _≤_, _<_}
 use native.Mathlib.Nat.{le-of-eq}

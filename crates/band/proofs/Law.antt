@@ -1,15 +1,13 @@
 -- A word meets a rule exactly when it is on the holding side of the rule's band, and so the run around a failing word is
 -- the band's. Assumes nothing.
 use mathlib.Core.Path.{_≡_, refl, sym, ap, _∙_, subst}
-use mathlib.Core.Bool.{Bool, true, false, not, cond}
-use mathlib.Core.List.{List, [], _∷_}
+use mathlib.Core.Bool.{Bool, true, not}
 use mathlib.Core.Logic.{_⊎_, inl, inr, ⊎-elim}
-use Prim.Native.Nat.{ℕ, zero, suc, _+_, _-_, _≤_, _<_}
+use Prim.Native.Nat.{ℕ, suc, _-_, _≤_}
 use native.Mathlib.Nat.{le-refl}
 use native.Mathlib.Decide.{ℕ-discrete}
 use native.Mathlib.Omega.{arith}
 use borrow.Author.Tests.{eq-eqb, le-leb, ne-eqb}
-use lib.Dec.{eqb, leb}
 use lib.ListN.{getD}
 use Rattle.word.specs.Word.{top, half, minus}
 use Rattle.word.specs.Search.{climb, sink}

@@ -1,7 +1,7 @@
 -- A rule laid on the wheel of words. This is a route and no meaning: that a word is on the holding side of a rule's band
 -- exactly when it meets the rule is proved (proofs/Arcs.antt).
 use mathlib.Core.Path.{_≡_}
-use mathlib.Core.Bool.{Bool, true, false, not, _&&_, _||_, cond}
+use mathlib.Core.Bool.{Bool, not, _&&_, _||_, cond}
 use mathlib.Core.List.{List, [], _∷_}
 use Prim.Native.Nat.{ℕ, suc, _-_, _≤_}
 use lib.Dec.{leb, eqb}

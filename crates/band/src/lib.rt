@@ -5,7 +5,7 @@ ghost use mathlib.Core.Bool.{false};
 ghost use Prim.Native.Nat.{_-_, _≤_};
 ghost use Rattle.word.specs.Word.{IsWidth};
 ghost use Rattle.word.specs.Search.{climb, sink};
-ghost use Rattle.band.specs.Band.{Laid, arcOf, bandOf, holds, within};
+ghost use Rattle.band.specs.Band.{Laid, arcOf, bandOf, holds, span, within};
 use rule::Rule;
 use word::Width;
 
@@ -26,6 +26,14 @@ pub struct Band {
 pub struct Run {
     pub from: u64,
     pub to: u64,
+}
+
+impl Arc {
+    fn new(from: u64, to: u64) -> Arc
+        ensures { λ r. ⌜ r ≡ span from to ⌝ }
+    {
+        Arc { from, to }
+    }
 }
 
 impl Band {
@@ -123,34 +131,13 @@ fn arc_of(rule: Rule, width: Width) -> Arc
     let form = rule.form;
     let top = width.top();
     match form {
-        1 => Arc {
-            from: width.sub(0, rule.c1),
-            to: width.sub(top, rule.c2),
-        },
-        2 => Arc {
-            from: width.sub(rule.c1, rule.c2),
-            to: width.sub(top, rule.c2),
-        },
-        3 => Arc {
-            from: width.sub(0, rule.c1),
-            to: width.sub(rule.c2, rule.c1),
-        },
-        4 => Arc {
-            from: width.half(),
-            to: rule.c1,
-        },
-        5 => Arc {
-            from: rule.c1,
-            to: width.half() - 1,
-        },
-        6 => Arc {
-            from: rule.c1,
-            to: rule.c1,
-        },
-        8 => Arc {
-            from: width.add(rule.c1, rule.c2),
-            to: width.sub(rule.c1, 1),
-        },
-        _ => Arc { from: 0, to: top },
+        1 => Arc::new(width.sub(0, rule.c1), width.sub(top, rule.c2)),
+        2 => Arc::new(width.sub(rule.c1, rule.c2), width.sub(top, rule.c2)),
+        3 => Arc::new(width.sub(0, rule.c1), width.sub(rule.c2, rule.c1)),
+        4 => Arc::new(width.half(), rule.c1),
+        5 => Arc::new(rule.c1, width.half() - 1),
+        6 => Arc::new(rule.c1, rule.c1),
+        8 => Arc::new(width.add(rule.c1, rule.c2), width.sub(rule.c1, 1)),
+        _ => Arc::new(0, top),
     }
 }

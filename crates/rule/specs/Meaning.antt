@@ -1,6 +1,6 @@
 -- What a rule means (01, "The eight forms of rule"), and how far a rule fails around a word.
 use mathlib.Core.Path.{_≡_}
-use mathlib.Core.Bool.{Bool, true, false, not, _&&_, _||_, cond}
+use mathlib.Core.Bool.{Bool, true, not, _&&_, _||_, cond}
 use mathlib.Core.List.{List, [], _∷_}
 use Prim.Native.Nat.{ℕ, suc, _-_, _≤_}
 use lib.Dec.{leb, eqb}
@@ -64,3 +64,12 @@ pub record Lawful (w : ℕ) (r : Rule) : Type 0 where
   pub c1-word : r .c1 ≤ top w
   pub c2-word : r .c2 ≤ top w
   pub plain : r .form ≡ 7 → r .sense ≡ 0
+
+-- every rule of the list is
+unfoldable pub AllLawful : ℕ → List Rule → Type 0
+AllLawful w [] = Unit {0}
+AllLawful w (r ∷ rs) = Lawful w r × AllLawful w rs
+
+-- "up to 64 rules in force"
+abbrev pub RULES : ℕ
+RULES = 64

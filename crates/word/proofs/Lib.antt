@@ -4,4 +4,5 @@ pub mod Signed
 pub mod Slips
 pub mod Sums
 pub mod Tests
+pub mod Turn
 pub mod Widths

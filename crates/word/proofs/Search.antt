@@ -1,7 +1,7 @@
 -- What a search finds, said of the numbers alone, so that nobody has to open a search over 2^w words: each search stops
 -- at the one number that passes (or is the last one allowed) and before which nothing passes. By induction on the words
 -- left. Assumes nothing.
-use mathlib.Core.Path.{_≡_, refl, sym, ap, _∙_, subst}
+use mathlib.Core.Path.{_≡_, refl, ap, _∙_}
 use mathlib.Core.Bool.{Bool, true, false}
 use mathlib.Core.Logic.{_⊎_, inl, inr, ⊎-elim}
 use Prim.Native.Nat.{ℕ, zero, suc, _+_, _≤_, _<_, suc-le-suc}
@@ -129,3 +129,13 @@ module _ (f g : ℕ → Bool) where
       go : (b : Bool) → f p ≡ g p → g p ≡ b → sink f p ≡ sink g p → sink f (suc p) ≡ sink g (suc p)
       go true e d later = rw (e ∙ d, sink) (rw (d, sink))
       go false e d later = rw (e ∙ d, sink) (rw (d, sink) later)
+
+-- a search finds no word past its end
+pub first-end : (g : ℕ → Bool) (k p x : ℕ) → first g k p ≡ At x → x < p + k
+unfolding first
+first-end g zero p x e = let z : _≡_ {A = ℕ} 0 1 = cc in omega arith
+first-end g (suc k) p x e = go (g p) e (first-end g k (suc p) x)
+  where
+    go : (s : Bool) → elim s as (λ (b : Bool). Found) [ true ↦ At p | false ↦ first g k (suc p) ] ≡ At x → (first g k (suc p) ≡ At x → x < suc p + k) → x < p + suc k
+    go true e i = let q : p ≡ x = cc in omega arith
+    go false e i = omega (arith, i e)

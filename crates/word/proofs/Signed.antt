@@ -1,15 +1,15 @@
 -- The signed reading: below half a word reads as itself, from half on as itself less 2^w, so that the top word reads
 -- as -1 and half as the least number. Adding half turns the signed order into the plain one. Assumes nothing.
 use mathlib.Core.Path.{_≡_, refl, sym, ap, ap₂, _∙_}
-use mathlib.Core.Bool.{Bool, true, false, cond}
+use mathlib.Core.Bool.{Bool, cond}
 use mathlib.Core.Logic.{⊎-elim}
-use Prim.Native.Nat.{ℕ, zero, suc, _+_, _-_, _^_, _≤_, _<_}
+use Prim.Native.Nat.{ℕ, zero, suc, _+_, _-_, _≤_, _<_}
 use native.Mathlib.Nat.{sub-self, suc-sub-suc, zero-add}
 use native.Mathlib.Decide.{decLt}
 use native.Mathlib.Omega.{arith}
 use borrow.Author.Tests.{le-leb, le-ltb, lt-leb, lt-ltb}
-use lib.Dec.{leb, ltb}
-use lib.IntN.{ℤ, pos, negsuc, negℤ, subℕ, _+ℤ_, _-ℤ_}
+use lib.Dec.{leb}
+use lib.IntN.{pos, negsuc, _-ℤ_}
 use lib.Signed.{leZ}
 use Rattle.word.specs.Word.{top, half, plus, signed}
 use Rattle.word.proofs.Sums.{plus-cases}

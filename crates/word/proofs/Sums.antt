@@ -1,8 +1,8 @@
 -- Sums and differences on the wheel of 2^w words. Each is the plain one up to whole turns of the wheel, and two words
 -- that differ by whole turns are the same word, so an equation of words is an equation of plain sums. Assumes nothing.
-use mathlib.Core.Path.{_≡_, refl, sym, ap, _∙_, subst}
+use mathlib.Core.Path.{_≡_, sym, ap, _∙_}
 use mathlib.Core.Logic.{_⊎_, inl, inr}
-use Prim.Native.Nat.{ℕ, zero, suc, _+_, _-_, _*_, _/_, _%_, _^_, _≤_, _<_}
+use Prim.Native.Nat.{ℕ, suc, _+_, _-_, _*_, _/_, _%_, _^_, _≤_, _<_}
 use native.Mathlib.Nat.{
   add-mod-right,
   add-mul,

@@ -1,14 +1,19 @@
--- Two tests are the same test where each holds when the other does. Assumes nothing.
-use mathlib.Core.Path.{_≡_, sym, _∙_}
+-- Two tests are the same test where each passes when the other does, and a test of two things passes where both do.
+-- Assumes nothing.
+use mathlib.Core.Path.{_≡_, refl, sym}
+use mathlib.Core.Bool.{Bool, true, false, _&&_, false≢true}
 use Prim.Native.Nat.{ℕ, _≤_}
-use native.Mathlib.Nat.{lt-of-not-le}
-use native.Mathlib.Decide.{decLe}
-use borrow.Author.Tests.{le-leb, lt-leb}
+use borrow.Author.Tests.{le-leb, leb-true}
 use lib.Dec.{leb}
 
+pub same-test : (a b : Bool) → (a ≡ true → b ≡ true) → (b ≡ true → a ≡ true) → a ≡ b
+same-test true b f g = sym (f refl)
+same-test false true f g = g refl
+same-test false false f g = refl
+
+pub both-pass : (a b : Bool) → (a && b) ≡ true → (a ≡ true) × (b ≡ true)
+both-pass true b e = (refl, e)
+both-pass false b e = absurd (false≢true e)
+
 pub leb-same : (a b c d : ℕ) → (a ≤ b → c ≤ d) → (c ≤ d → a ≤ b) → leb a b ≡ leb c d
-leb-same a b c d f g = go (decLe a b)
-  where
-    go : Dec (a ≤ b) → leb a b ≡ leb c d
-    go (yes h) = le-leb a b h ∙ sym (le-leb c d (f h))
-    go (no h) = lt-leb a b (lt-of-not-le h) ∙ sym (lt-leb c d (lt-of-not-le (λ k. h (g k))))
+leb-same a b c d f g = same-test (leb a b) (leb c d) (λ e. le-leb c d (f (leb-true a b e))) (λ e. le-leb a b (g (leb-true c d e)))

@@ -1,6 +1,5 @@
 -- `Width::sub` meets its contract: the machine's wrapping difference, masked to the width. Assumes nothing.
 use mathlib.Core.Path.{ap, _∙_}
-use Prim.Native.Nat.{ℕ}
 use borrow.Author.Needs.{needs}
 use lib.Bits.{bitAnd}
 use Rattle.word.proofs.Cut.{minus-masked}

@@ -1,0 +1,122 @@
+// The bits that rules of form 7 fix, and the words that have them.
+ghost use mathlib.Core.Path.{_≡_};
+ghost use Prim.Native.Nat.{suc, _-_, _≤_};
+ghost use lib.ListN.{take};
+ghost use Rattle.rule.specs.Meaning.{RULES};
+ghost use Rattle.word.specs.Word.{IsWidth, top};
+ghost use Rattle.word.specs.Search.{first, last};
+ghost use Rattle.bits.specs.Fixed.{hasBits, joined, fixedBits, Tidy, Within, turnedBits};
+use rule::Rule;
+use word::Found;
+use word::Width;
+
+// A word has the bits when its AND with the mask is the value. Where rules clash, no word meets them together.
+pub enum Fixed {
+    Bits { mask: u64, value: u64 },
+    Clash,
+}
+
+impl Fixed {
+    // The bits that the first n of the rules fix.
+    pub fn of(rules: [Rule; Rule::LIMIT], n: usize) -> Fixed
+        requires { ⌜ n ≤ RULES ⌝ }
+        ensures { λ r. ⌜ r ≡ fixedBits (take n rules) ⌝ }
+    {
+        let mut fixed = Fixed::Bits { mask: 0, value: 0 };
+        for i in 0..n {
+            fixed = fixed.with(rules[i]);
+        }
+        fixed
+    }
+
+    // These bits and, where the rule is of form 7, those that it fixes too.
+    pub fn with(self, rule: Rule) -> Fixed
+        ensures { λ r. ⌜ r ≡ joined self rule ⌝ }
+    {
+        if rule.form != 7 {
+            return self;
+        }
+        let Fixed::Bits { mask, value } = self else {
+            return Fixed::Clash;
+        };
+        let c1 = rule.c1;
+        let c2 = rule.c2;
+        // a bit of the value that its own mask leaves out
+        if c2 & c1 != c2 {
+            return Fixed::Clash;
+        }
+        // a bit that is set in one value and clear in the other
+        if value & c1 != c2 & mask {
+            return Fixed::Clash;
+        }
+        Fixed::Bits {
+            mask: mask | c1,
+            value: value | c2,
+        }
+    }
+
+    // Whether x has the bits.
+    pub fn has(self, x: u64) -> bool
+        ensures { λ r. ⌜ r ≡ hasBits self x ⌝ }
+    {
+        match self {
+            Fixed::Bits { mask, value } => x & mask == value,
+            Fixed::Clash => false,
+        }
+    }
+
+    // The smallest word at or above p that has the bits.
+    pub fn next(self, width: Width, p: u64) -> Found
+        requires { ⌜ IsWidth (width .bits) ⌝ }
+        requires { ⌜ p ≤ top (width .bits) ⌝ }
+        requires { ⌜ Tidy self ⌝ }
+        ensures { λ r. ⌜ r ≡ first (hasBits self) (suc (top (width .bits)) - p) p ⌝ }
+    {
+        let Fixed::Bits { mask, value } = self else {
+            return Found::Nothing;
+        };
+        if p & mask == value {
+            return Found::At(p);
+        }
+        let top = width.top();
+        // with larger and larger blocks of 2^k words: the block after p's own, where it has a word with the bits
+        for k in 0..width.bits {
+            let q = p >> k;
+            if q < top >> k {
+                let up = q + 1;
+                if up & (mask >> k) == value >> k {
+                    return Found::At((up << k) + value % (1 << k));
+                }
+            }
+        }
+        Found::Nothing
+    }
+
+    // The same bits on the wheel of words turned round, where x stands at top - x.
+    pub fn turned(self) -> Fixed
+        requires { ⌜ Tidy self ⌝ }
+        ensures { λ r. ⌜ r ≡ turnedBits self ⌝ }
+    {
+        match self {
+            Fixed::Bits { mask, value } => Fixed::Bits {
+                mask,
+                value: mask ^ value,
+            },
+            Fixed::Clash => Fixed::Clash,
+        }
+    }
+
+    // The largest word at or below p that has the bits: the next one on the wheel turned round.
+    pub fn prev(self, width: Width, p: u64) -> Found
+        requires { ⌜ IsWidth (width .bits) ⌝ }
+        requires { ⌜ p ≤ top (width .bits) ⌝ }
+        requires { ⌜ Tidy self × Within (width .bits) self ⌝ }
+        ensures { λ r. ⌜ r ≡ last (hasBits self) (suc p) ⌝ }
+    {
+        let top = width.top();
+        let Found::At(x) = self.turned().next(width, top - p) else {
+            return Found::Nothing;
+        };
+        Found::At(top - x)
+    }
+}
