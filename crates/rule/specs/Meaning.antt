@@ -11,6 +11,10 @@ use Rattle.word.specs.Word.{top, plus, minus, signed}
 use Rattle.word.specs.Search.{climb, count, sink}
 use Rattle.rule.specs.declared.Rule.{Rule}
 
+-- a rule by its four numbers
+abbrev pub rule : (form sense c1 c2 : ℕ) → Rule
+rule form sense c1 c2 = record { form = form; sense = sense; c1 = c1; c2 = c2 }
+
 -- The table, a row for each form from 1 to 8: what it says of the word x. (0 is no form.)
 unfoldable pub rows : (w c1 c2 x : ℕ) → List Bool
 rows w c1 c2 x =
