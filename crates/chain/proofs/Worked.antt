@@ -1,0 +1,14 @@
+-- The worked cases that 01 marks P, of the meanings themselves: one table and one statement, by computing. Assumes nothing.
+use mathlib.Core.Path.{_≡_, refl}
+use mathlib.Core.List.{map}
+use Rattle.word.specs.Word.{half, minus, plus, signed, top}
+use Rattle.word.specs.Search.{climb, first, last}
+use Rattle.rule.specs.Meaning.{fits, meets, meets7, reach, rows, written}
+use Rattle.verdict.specs.Kept.{kept, verdictOf}
+use Rattle.chain.specs.Cases.{Case, answer, cases, chainFor}
+use Rattle.chain.specs.Links.{before, blocks, further, furthest, furthestOf, gap, linkAt, linkBy, links, linksFrom}
+
+pub worked : map (λ (c : Case). answer (c .width) (c .rules)) cases ≡ map (λ (c : Case). c .expected) cases
+unfolding
+    answer chainFor kept verdictOf links linksFrom linkAt linkBy gap before furthest furthestOf further blocks reach meets7 fits meets written rows first last climb top half plus minus signed
+worked = refl

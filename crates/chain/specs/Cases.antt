@@ -1,0 +1,63 @@
+-- The sheets worked by hand that 01 marks P, as one table: width, rules, verdict, smallest, largest and links.
+use mathlib.Core.Bool.{true, false}
+use mathlib.Core.List.{List, [], _∷_}
+use Prim.Native.Nat.{ℕ}
+use lib.Dec.{eqb}
+use Rattle.rule.specs.declared.Rule.{Rule}
+use Rattle.rule.specs.Meaning.{rule}
+use Rattle.verdict.specs.declared.Kept.{Kept}
+use Rattle.verdict.specs.Kept.{keeps, kept}
+use Rattle.chain.specs.Links.{BITS, Link, link, links}
+
+-- what the desk says of a sheet: what it keeps, and for "none" the chain
+pub record Answer : Type 0 where
+  pub kept : Kept
+  pub chain : List Link
+
+abbrev pub says : Kept → List Link → Answer
+says k ls = record { kept = k; chain = ls }
+
+-- "It is written for "none" only."
+unfoldable pub chainFor : ℕ → List Rule → Kept → List Link
+chainFor w rs k = elim (eqb (k .verdict) 0) [ true ↦ links w rs | false ↦ [] ]
+
+unfoldable pub answer : ℕ → List Rule → Answer
+answer w rs = let k = kept w rs in says k (chainFor w rs k)
+
+pub record Case : Type 0 where
+  pub width : ℕ
+  pub rules : List Rule
+  pub expected : Answer
+
+abbrev pub case : ℕ → List Rule → Answer → Case
+case w rs a = record { width = w; rules = rs; expected = a }
+
+abbrev pub cases : List Case
+cases =
+    -- 1, at width 4 and at width 1
+    case 4 [] (says (keeps 2 0 15) [])
+    ∷ case 1 [] (says (keeps 2 0 1) [])
+    -- 2
+    ∷ case 4 (rule 3 0 5 3 ∷ []) (says (keeps 2 11 14) [])
+    -- 3, as written and negated
+    ∷ case 4 (rule 1 0 0 1 ∷ []) (says (keeps 2 0 14) [])
+    ∷ case 4 (rule 1 1 0 1 ∷ []) (says (keeps 1 15 15) [])
+    -- 4
+    ∷ case 4 (rule 1 0 0 0 ∷ []) (says (keeps 2 0 15) [])
+    -- 5
+    ∷ case 4 (rule 3 0 0 15 ∷ []) (says (keeps 2 0 15) [])
+    -- 6
+    ∷ case 4 (rule 4 0 3 0 ∷ rule 5 0 13 0 ∷ []) (says (keeps 2 0 15) [])
+    -- 7
+    ∷ case 4 (rule 3 0 5 3 ∷ rule 7 0 3 3 ∷ []) (says (keeps 1 11 11) [])
+    -- 8
+    ∷ case 4 (rule 3 0 5 3 ∷ rule 7 0 12 4 ∷ []) (says (keeps 0 0 0) (link 0 10 0 ∷ link 11 15 BITS ∷ []))
+    -- 9
+    ∷ case 4 (rule 7 0 1 2 ∷ []) (says (keeps 0 0 0) (link 0 15 BITS ∷ []))
+    -- 10
+    ∷ case 4 (rule 6 0 9 0 ∷ rule 6 1 9 0 ∷ []) (says (keeps 0 0 0) (link 0 8 0 ∷ link 9 9 1 ∷ link 10 15 0 ∷ []))
+    -- 11
+    ∷ case 4 (rule 3 0 0 2 ∷ rule 3 0 0 2 ∷ rule 2 0 3 0 ∷ []) (says (keeps 0 0 0) (link 0 2 2 ∷ link 3 15 0 ∷ []))
+    -- 12
+    ∷ case 4 (rule 8 0 14 3 ∷ []) (says (keeps 2 1 13) [])
+    ∷ []

@@ -1,0 +1,70 @@
+-- What the paper's definition asks of a chain, link by link, with no search: a list is the chain from p when its first
+-- link starts at p and is the one that the paper takes, and the rest is the chain from the word after it.
+use mathlib.Core.Path.{_≡_}
+use mathlib.Core.Bool.{true, false}
+use mathlib.Core.Logic.{_⊎_}
+use mathlib.Core.List.{List, [], _∷_}
+use Prim.Native.Nat.{ℕ, suc, _≤_, _<_}
+use lib.ListN.{length, getD}
+use Rattle.word.specs.Word.{top}
+use Rattle.rule.specs.declared.Rule.{Rule}
+use Rattle.rule.specs.Meaning.{meets, meets7, rule}
+use Rattle.chain.specs.Links.{BITS, Link}
+
+-- rule number i, which is outside form 7
+abbrev pub nth : List Rule → ℕ → Rule
+nth rs i = getD rs i (rule 0 0 0 0)
+
+pub record Plain (rs : List Rule) (i : ℕ) : Type 0 where
+  pub there : i < length rs
+  pub other : nth rs i .form ≡ 7 → ⊥
+
+-- every word from p to q fails rule i, and q is a word
+pub record Fails (w : ℕ) (rs : List Rule) (i p q : ℕ) : Type 0 where
+  pub plain : Plain rs i
+  pub order : p ≤ q
+  pub word : q ≤ top w
+  pub each : (x : ℕ) → p ≤ x → x ≤ q → meets w (nth rs i) x ≡ false
+
+-- no word from p to q meets all form 7 rules, and q is a word
+pub record Lacks (w : ℕ) (rs : List Rule) (p q : ℕ) : Type 0 where
+  pub order : p ≤ q
+  pub word : q ≤ top w
+  pub each : (x : ℕ) → p ≤ x → x ≤ q → meets7 w rs x ≡ false
+
+-- the link (p, q, i): rule i fails to q, no rule fails further, and no lower number fails as far
+pub record RuleLink (w : ℕ) (rs : List Rule) (p q i : ℕ) : Type 0 where
+  pub fails : Fails w rs i p q
+  pub furthest : (j q′ : ℕ) → Fails w rs j p q′ → q′ ≤ q
+  pub lowest : (j : ℕ) → Fails w rs j p q → i ≤ j
+
+-- the link (p, q, 255): p fails no rule outside form 7, and q is just before the next word that meets all of form 7
+pub record BitsLink (w : ℕ) (rs : List Rule) (p q : ℕ) : Type 0 where
+  pub no-rule : (j : ℕ) → Fails w rs j p p → ⊥
+  pub lacks : Lacks w rs p q
+  pub next : (q ≡ top w) ⊎ (meets7 w rs (suc q) ≡ true)
+
+-- the link that the paper takes at p
+abbrev pub Taken : ℕ → List Rule → ℕ → Link → Type 0
+Taken w rs p l =
+    (l .from ≡ p) × (RuleLink w rs p (l .to) (l .reason) ⊎ ((l .reason ≡ BITS) × BitsLink w rs p (l .to)))
+
+-- the chain from p on
+pub data IsChain (w : ℕ) (rs : List Rule) : ℕ → List Link → Type 0 where
+  last : {p : ℕ} {l : Link} → Taken w rs p l → l .to ≡ top w → IsChain w rs p (l ∷ [])
+  more : {p : ℕ} {l : Link} {ls : List Link} → Taken w rs p l → l .to < top w → IsChain w rs (suc (l .to)) ls → IsChain w rs p (l ∷ ls)
+
+-- What a link shows of its words, whoever wrote it: each fails the rule that it names, or each fails a form 7 rule.
+abbrev pub Shows : ℕ → List Rule → Link → Type 0
+Shows w rs l = Fails w rs (l .reason) (l .from) (l .to) ⊎ ((l .reason ≡ BITS) × Lacks w rs (l .from) (l .to))
+
+-- links that show so and join up from p to the top word
+pub data Covers (w : ℕ) (rs : List Rule) : ℕ → List Link → Type 0 where
+  end : {p : ℕ} {l : Link} → l .from ≡ p → Shows w rs l → l .to ≡ top w → Covers w rs p (l ∷ [])
+  on : {p : ℕ} {l : Link} {ls : List Link} → l .from ≡ p → Shows w rs l → Covers w rs (suc (l .to)) ls → Covers w rs p (l ∷ ls)
+
+-- no two links with reason 255 stand next to each other
+pub data Apart : List Link → Type 0 where
+  none : Apart []
+  one : {l : Link} → Apart (l ∷ [])
+  two : {l m : Link} {ls : List Link} → (l .reason ≡ BITS → m .reason ≡ BITS → ⊥) → Apart (m ∷ ls) → Apart (l ∷ m ∷ ls)

@@ -1,0 +1,77 @@
+-- The chain, step by step (01, "The chain").
+use mathlib.Core.Bool.{Bool, true, false, not, _&&_, cond}
+use mathlib.Core.List.{List, [], _∷_}
+use Prim.Native.Nat.{ℕ, zero, suc, _-_, _^_}
+use lib.Dec.{eqb, ltb}
+use Rattle.word.specs.declared.Found.{Found}
+use Rattle.word.specs.declared.Found.the-variants.{At, Nothing}
+use Rattle.word.specs.Word.{top}
+use Rattle.word.specs.Search.{first}
+use Rattle.rule.specs.declared.Rule.{Rule}
+use Rattle.rule.specs.Meaning.{meets, meets7, reach}
+use Rattle.chain.specs.declared.Far.{Far}
+use Rattle.chain.specs.declared.Far.the-variants.{To, Nowhere}
+
+-- the words from one to another, and why they fail: a rule's number, or 255
+pub record Link : Type 0 where
+  pub from : ℕ
+  pub to : ℕ
+  pub reason : ℕ
+
+abbrev pub link : (from to reason : ℕ) → Link
+link from to reason = record { from = from; to = to; reason = reason }
+
+-- the reason of a link whose words fail a form 7 rule
+abbrev pub BITS : ℕ
+BITS = 255
+
+-- "If p fails a rule that isn't of form 7"
+unfoldable pub blocks : ℕ → Rule → ℕ → Bool
+blocks w r p = not (eqb (r .form) 7) && not (meets w r p)
+
+-- "Take the rule of furthest reach, the lowest number on a tie": a later rule has to reach further
+unfoldable pub further : Far → (q i : ℕ) → Far
+further Nowhere q i = To q i
+further (To best rule) q i = cond (ltb best q) (To q i) (To best rule)
+
+-- the furthest reach from p among a best so far and the rules, which are numbered from i
+unfoldable pub furthestOf : ℕ → Far → ℕ → List Rule → ℕ → Far
+furthestOf w best i [] p = best
+furthestOf w best i (r ∷ rs) p =
+    furthestOf w (elim (blocks w r p) [ true ↦ further best (reach w r p) i | false ↦ best ]) (suc i) rs p
+
+-- the rule of furthest reach from p, if p fails any outside form 7
+unfoldable pub furthest : ℕ → List Rule → ℕ → Far
+furthest w rs p = furthestOf w Nowhere 0 rs p
+
+-- "q is one less than the smallest word above p that meets all form 7 rules, or the top word if there is none"
+unfoldable pub before : ℕ → Found → ℕ
+before w (At x) = x - 1
+before w Nothing = top w
+
+unfoldable pub gap : ℕ → List Rule → ℕ → ℕ
+gap w rs p = before w (first (meets7 w rs) (top w - p) (suc p))
+
+-- the link that starts at p
+unfoldable pub linkBy : ℕ → List Rule → ℕ → Far → Link
+linkBy w rs p (To q i) = link p q i
+linkBy w rs p Nowhere = link p (gap w rs p) BITS
+
+unfoldable pub linkAt : ℕ → List Rule → ℕ → Link
+linkAt w rs p = linkBy w rs p (furthest w rs p)
+
+-- "Stop after the link that ends at the top word; else go on with p = q + 1": at most k links from p on
+unfoldable pub linksFrom : ℕ → List Rule → ℕ → ℕ → List Link
+linksFrom w rs zero p = []
+linksFrom w rs (suc k) p =
+    let l = linkAt w rs p in
+    l ∷ elim (eqb (l .to) (top w)) [ true ↦ [] | false ↦ linksFrom w rs k (suc (l .to)) ]
+
+-- "Start at p = 0." A link has at least one word, so there are at most 2^w of them.
+unfoldable pub links : ℕ → List Rule → List Link
+links w rs = linksFrom w rs (2 ^ w) 0
+
+-- links as a lent buffer holds them, three numbers each
+unfoldable pub laid : List Link → List ℕ
+laid [] = []
+laid (l ∷ ls) = l .from ∷ l .to ∷ l .reason ∷ laid ls
