@@ -3,3 +3,4 @@ pub mod Law
 pub mod Laying
 pub mod Runs
 pub mod Sides
+pub mod Turn

@@ -1,7 +1,7 @@
 -- A rule laid on the wheel of words. This is a route and no meaning: that a word is on the holding side of a rule's band
 -- exactly when it meets the rule is proved (proofs/Arcs.antt).
 use mathlib.Core.Path.{_≡_}
-use mathlib.Core.Bool.{Bool, not, _&&_, _||_, cond}
+use mathlib.Core.Bool.{Bool, true, not, _&&_, _||_, cond}
 use mathlib.Core.List.{List, [], _∷_}
 use Prim.Native.Nat.{ℕ, suc, _-_, _≤_}
 use lib.Dec.{leb, eqb}
@@ -55,3 +55,17 @@ pub record Laid (t : ℕ) (b : Band) : Type 0 where
   pub from-word : b .from ≤ t
   pub to-word : b .to ≤ t
   pub no-seam : suc (b .to) ≡ b .from → ⊥
+
+-- the band on the wheel of words turned round, x to the top word less x
+unfoldable pub turnedBand : ℕ → Band → Band
+turnedBand t b = record { from = t - b .to; to = t - b .from; inside = b .inside }
+
+-- every band of the list is so laid
+unfoldable pub AllLaid : ℕ → List Band → Type 0
+AllLaid t [] = Unit {0}
+AllLaid t (b ∷ bs) = Laid t b × AllLaid t bs
+
+-- every band of the list holds the word x
+unfoldable pub allHold : List Band → ℕ → Bool
+allHold [] x = true
+allHold (b ∷ bs) x = holds b x && allHold bs x

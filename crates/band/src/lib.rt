@@ -5,7 +5,7 @@ ghost use mathlib.Core.Bool.{false};
 ghost use Prim.Native.Nat.{_-_, _≤_};
 ghost use Rattle.word.specs.Word.{IsWidth};
 ghost use Rattle.word.specs.Search.{climb, sink};
-ghost use Rattle.band.specs.Band.{Laid, arcOf, bandOf, holds, span, within};
+ghost use Rattle.band.specs.Band.{Laid, arcOf, bandOf, holds, span, turnedBand, within};
 use rule::Rule;
 use word::Width;
 
@@ -75,6 +75,18 @@ impl Band {
         Run {
             from: self.start(top, p),
             to: self.reach(top, p),
+        }
+    }
+
+    // The same band on the wheel of words turned round, where x stands at top - x.
+    pub fn turned(self, top: u64) -> Band
+        requires { ⌜ Laid top self ⌝ }
+        ensures { λ r. ⌜ r ≡ turnedBand top self ⌝ }
+    {
+        Band {
+            from: top - self.to,
+            to: top - self.from,
+            inside: self.inside,
         }
     }
 

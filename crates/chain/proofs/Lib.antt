@@ -1,1 +1,9 @@
+pub mod Apart
+pub mod Bound
+pub mod Cover
+pub mod Fits
+pub mod Furthest
+pub mod Steps
+pub mod Taken
+pub mod Unique
 pub mod Worked

@@ -1,5 +1,8 @@
+pub mod Climb
+pub mod Count
 pub mod Cut
 pub mod Search
+pub mod Searched
 pub mod Signed
 pub mod Slips
 pub mod Sums

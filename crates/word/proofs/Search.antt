@@ -8,7 +8,6 @@ use Prim.Native.Nat.{ℕ, zero, suc, _+_, _≤_, _<_, suc-le-suc}
 use native.Mathlib.Nat.{le-refl}
 use native.Mathlib.Decide.{decLt}
 use native.Mathlib.Omega.{arith}
-use Rattle.word.specs.declared.Found.{Found}
 use Rattle.word.specs.declared.Found.the-variants.{At, Nothing}
 use Rattle.word.specs.Search.{first, last, climb, count, sink}
 
@@ -112,6 +111,16 @@ module _ (f : ℕ → Bool) where
 
 -- two tests that agree on the words searched find the same
 module _ (f g : ℕ → Bool) where
+  pub first-same : (k p : ℕ) → ((y : ℕ) → p ≤ y → y < p + k → f y ≡ g y) → first f k p ≡ first g k p
+  unfolding first
+  first-same zero p h = refl
+  first-same (suc k) p h =
+      go (g p) (h p (omega arith) (omega arith)) refl (first-same k (suc p) (λ y a b. h y (omega arith) (omega arith)))
+    where
+      go : (b : Bool) → f p ≡ g p → g p ≡ b → first f k (suc p) ≡ first g k (suc p) → first f (suc k) p ≡ first g (suc k) p
+      go true e d later = rw (e ∙ d, first) (rw (d, first))
+      go false e d later = rw (e ∙ d, first) (rw (d, first) later)
+
   pub climb-same : (k p : ℕ) → ((y : ℕ) → p < y → y ≤ p + k → f y ≡ g y) → climb f k p ≡ climb g k p
   unfolding climb
   climb-same zero p h = refl
@@ -129,13 +138,3 @@ module _ (f g : ℕ → Bool) where
       go : (b : Bool) → f p ≡ g p → g p ≡ b → sink f p ≡ sink g p → sink f (suc p) ≡ sink g (suc p)
       go true e d later = rw (e ∙ d, sink) (rw (d, sink))
       go false e d later = rw (e ∙ d, sink) (rw (d, sink) later)
-
--- a search finds no word past its end
-pub first-end : (g : ℕ → Bool) (k p x : ℕ) → first g k p ≡ At x → x < p + k
-unfolding first
-first-end g zero p x e = let z : _≡_ {A = ℕ} 0 1 = cc in omega arith
-first-end g (suc k) p x e = go (g p) e (first-end g k (suc p) x)
-  where
-    go : (s : Bool) → elim s as (λ (b : Bool). Found) [ true ↦ At p | false ↦ first g k (suc p) ] ≡ At x → (first g k (suc p) ≡ At x → x < suc p + k) → x < p + suc k
-    go true e i = let q : p ≡ x = cc in omega arith
-    go false e i = omega (arith, i e)

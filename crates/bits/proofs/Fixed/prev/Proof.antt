@@ -5,7 +5,7 @@ use native.Mathlib.Omega.{arith}
 use borrow.Author.Needs.{needs}
 use Rattle.word.specs.Word.{top}
 use Rattle.word.specs.Search.{first, last}
-use Rattle.word.proofs.Search.{first-end}
+use Rattle.word.proofs.Searched.{first-is}
 use Rattle.word.proofs.Turn.{back, turned-back}
 use Rattle.bits.specs.declared.Fixed.{Fixed}
 use Rattle.bits.specs.Fixed.{hasBits, turnedBits, Tidy}
@@ -50,7 +50,7 @@ returns : tie.Need-returns
 returns c = sym (last-turned (c .before .before) ∙ ap (back _) (c .enum-told .given .1))
 
 sub-t8 : tie.Need-sub-t8
-sub-t8 c = omega (arith, first-end _ _ _ _ (sym (c .before .before .before .next .ensures) ∙ c .before .x .given .1))
+sub-t8 c = omega (arith, first-is _ _ _ _ (sym (c .before .before .before .next .ensures) ∙ c .before .x .given .1) .high)
 
 returns-2 : tie.Need-returns-2
 returns-2 c = sym (last-turned (c .before .before .before) ∙ ap (back _) (c .before .x .given .1))

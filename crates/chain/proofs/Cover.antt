@@ -1,0 +1,38 @@
+-- A chain shows that no word fits. Each of its links shows that its words fail a rule or the form 7 rules, the links join
+-- up to the top word, and a word that fails either does not fit. Assumes nothing.
+use mathlib.Core.Path.{_≡_}
+use mathlib.Core.Bool.{false}
+use mathlib.Core.Logic.{inl, inr}
+use mathlib.Core.List.{List}
+use Prim.Native.Nat.{ℕ, _≤_, _<_}
+use native.Mathlib.Decide.{decLt}
+use native.Mathlib.Omega.{arith}
+use Rattle.word.specs.Word.{top}
+use Rattle.rule.specs.declared.Rule.{Rule}
+use Rattle.rule.specs.Meaning.{fits}
+use Rattle.chain.specs.Chain.{Covers, IsChain, Shows, Taken}
+use Rattle.chain.specs.Chain.Covers.{end, on}
+use Rattle.chain.specs.Chain.IsChain.{last, more}
+use Rattle.chain.specs.Links.{Link}
+use Rattle.chain.proofs.Fits.{bits-fail, rule-fails}
+
+module _ (w : ℕ) (rs : List Rule) where
+  shown : {p : ℕ} {l : Link} → Taken w rs p l → Shows w rs l
+  shown (e, inl r) = inl (rw e (r .fails))
+  shown (e, inr b) = inr (b .0, rw e (b .1 .lacks))
+
+  pub chain-covers : {p : ℕ} {ls : List Link} → IsChain w rs p ls → Covers w rs p ls
+  chain-covers (last t e) = end (t .0) (shown t) e
+  chain-covers (more t e c) = on (t .0) (shown t) (chain-covers c)
+
+  shown-no-fit : (l : Link) → Shows w rs l → (x : ℕ) → l .from ≤ x → x ≤ l .to → fits w rs x ≡ false
+  shown-no-fit l (inl f) x a b = rule-fails w x rs (l .reason) (f .plain .there) (f .each x a b)
+  shown-no-fit l (inr f) x a b = bits-fail w x rs (f .1 .each x a b)
+
+  pub covers-no-fit : {p : ℕ} {ls : List Link} → Covers w rs p ls → (x : ℕ) → p ≤ x → x ≤ top w → fits w rs x ≡ false
+  covers-no-fit (end {l = l} e s t) x a b = shown-no-fit l s x (omega arith) (omega arith)
+  covers-no-fit (on {l = l} e s c) x a b = go (decLt (l .to) x) (λ d. covers-no-fit c x d b)
+    where
+      go : Dec (l .to < x) → (l .to < x → fits w rs x ≡ false) → fits w rs x ≡ false
+      go (yes d) later = later d
+      go (no d) later = shown-no-fit l s x (omega arith) (omega arith)
