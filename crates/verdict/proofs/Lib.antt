@@ -1,3 +1,4 @@
 pub mod Passes
+pub mod Right
 pub mod Steps
 pub mod Stores

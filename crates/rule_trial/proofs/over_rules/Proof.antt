@@ -1,0 +1,59 @@
+-- `over_rules` meets its contract. The loop's invariant: the 4096 numbers are not passed. The measure is the
+-- numbers left. Assumes nothing.
+use Prim.Native.Nat.{_-_, _≤_}
+use borrow.Author.Needs.{needs}
+use Rattle.rule_trial.proofs.over_rules.Statement.{statement}
+use Rattle.rule_trial.proofs.over_rules.Tie as tie
+
+abbrev Inv-loop : tie.InvT-loop
+Inv-loop asked width tally₀ i₀ tally i = i ≤ 4096
+
+abbrev μ-loop : tie.MeasureT-loop
+μ-loop asked width tally₀ i₀ tally i = 4096 - i
+
+none-requires : tie.Need-none-requires Inv-loop μ-loop
+none-requires c κs = search needs
+
+loop-holds : tie.Need-loop-holds Inv-loop μ-loop
+loop-holds c = search needs
+
+numbered-requires : tie.Need-numbered-requires Inv-loop μ-loop
+numbered-requires c κs = search needs
+
+lawful-requires : tie.Need-lawful-requires Inv-loop μ-loop
+lawful-requires c κs = search needs
+
+over-words-requires : tie.Need-over-words-requires Inv-loop μ-loop
+over-words-requires c κs = (c .before .before .before .before .before .before .pre, c .before .lawful .ensures (c .if1 .taken))
+
+plus-requires : tie.Need-plus-requires Inv-loop μ-loop
+plus-requires c κs = search needs
+
+add-i : tie.Need-add-i Inv-loop μ-loop
+add-i c = search needs
+
+loop-less : tie.Need-loop-less Inv-loop μ-loop
+loop-less c = search needs
+
+loop-again : tie.Need-loop-again Inv-loop μ-loop
+loop-again c = search needs
+
+returns : tie.Need-returns Inv-loop μ-loop
+returns c = search needs
+
+pub over-rules-spec : {M : Type 1} → statement M
+over-rules-spec =
+    tie.close
+    (tie.spec
+    Inv-loop
+    μ-loop
+    none-requires
+    loop-holds
+    numbered-requires
+    lawful-requires
+    over-words-requires
+    plus-requires
+    add-i
+    loop-less
+    loop-again
+    returns)
