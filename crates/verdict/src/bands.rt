@@ -35,8 +35,8 @@ pub fn turn(bands: [Band; Rule::LIMIT], n: usize, top: u64) -> [Band; Rule::LIMI
     ensures { λ r. ⌜ r ≡ map (turnedBand top) (take n bands) ++ drop n bands ⌝ }
 {
     let mut turned = bands;
-    for i in 0..n {
-        turned[i] = bands[i].turned(top);
+    for j in 0..n {
+        turned[j] = bands[j].turned(top);
     }
     turned
 }

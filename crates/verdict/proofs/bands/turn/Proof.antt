@@ -16,10 +16,10 @@ use Rattle.verdict.proofs.bands.turn.Statement.{statement}
 use Rattle.verdict.proofs.bands.turn.Tie as tie
 
 abbrev Inv-loop : tie.InvT-loop
-Inv-loop n top bands turned₀ i₀ turned i = (i ≤ n) × (turned ≡ map (turnedBand top) (take i bands) ++ drop i bands)
+Inv-loop n top bands turned₀ j₀ turned j = (j ≤ n) × (turned ≡ map (turnedBand top) (take j bands) ++ drop j bands)
 
 abbrev μ-loop : tie.MeasureT-loop
-μ-loop n top bands turned₀ i₀ turned i = n - i
+μ-loop n top bands turned₀ j₀ turned j = n - j
 
 loop-holds : tie.Need-loop-holds Inv-loop μ-loop
 loop-holds c = (omega arith, refl)
@@ -41,8 +41,8 @@ mul-turned-2 c = search needs
 array-set-from-turned : tie.Need-array-set-from-turned Inv-loop μ-loop
 array-set-from-turned c = search needs
 
-add-i : tie.Need-add-i Inv-loop μ-loop
-add-i c = search needs
+add-j : tie.Need-add-j Inv-loop μ-loop
+add-j c = search needs
 
 loop-less : tie.Need-loop-less Inv-loop μ-loop
 loop-less c = omega arith
@@ -52,14 +52,14 @@ loop-again c =
     let l = c .before .before .before in
     let bands = l .before .args .t1 in (
       omega arith,
-      ap₂ (λ (bs : List Band) (b : Band). set bs (l .loop .i) b) (l .loop .inv .1) (c .turned .ensures)
-          ∙ turned-suc _ bands (l .loop .i) blankBand (omega arith)
-          ∙ ap (λ (j : ℕ). map (turnedBand (l .before .args .top)) (take j bands) ++ drop j bands) (sym (add-one (l .loop .i))),
+      ap₂ (λ (bs : List Band) (b : Band). set bs (l .loop .j) b) (l .loop .inv .1) (c .turned .ensures)
+          ∙ turned-suc _ bands (l .loop .j) blankBand (omega arith)
+          ∙ ap (λ (j : ℕ). map (turnedBand (l .before .args .top)) (take j bands) ++ drop j bands) (sym (add-one (l .loop .j))),
     )
 
 returns : tie.Need-returns Inv-loop μ-loop
 returns c =
-    let e : c .before .loop .i ≡ c .before .before .args .n = omega arith in
+    let e : c .before .loop .j ≡ c .before .before .args .n = omega arith in
     c .before .loop .inv .1
     ∙ ap (λ (i : ℕ). map (turnedBand (c .before .before .args .top)) (take i (c .before .before .args .t1)) ++ drop i (c .before .before .args .t1)) e
 
@@ -75,7 +75,7 @@ turn-spec =
     turned-requires
     mul-turned-2
     array-set-from-turned
-    add-i
+    add-j
     loop-less
     loop-again
     returns)
