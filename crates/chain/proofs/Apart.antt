@@ -14,7 +14,8 @@ use Rattle.rule.specs.Meaning.{meets7}
 use Rattle.chain.specs.Chain.{Apart, BitsLink, IsChain, Taken}
 use Rattle.chain.specs.Chain.Apart.{one, two}
 use Rattle.chain.specs.Chain.IsChain.{last, more}
-use Rattle.chain.specs.Links.{BITS, Link}
+use Rattle.chain.specs.declared.Link.{Link}
+use Rattle.chain.specs.Links.{BITS}
 
 module _ (w : ℕ) (rs : List Rule) where
   pub bits-once : {p : ℕ} (q q′ : ℕ) → BitsLink w rs p q → q < top w → BitsLink w rs (suc q) q′ → ⊥

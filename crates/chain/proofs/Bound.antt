@@ -19,7 +19,7 @@ use Rattle.rule.proofs.Runs.{run-ends, runs-later, runs-past}
 use Rattle.band.proofs.Law.{two-runs}
 use Rattle.chain.specs.Chain.{BitsLink, Fails, IsChain, Plain, RuleLink, nth}
 use Rattle.chain.specs.Chain.IsChain.{last, more}
-use Rattle.chain.specs.Links.{Link}
+use Rattle.chain.specs.declared.Link.{Link}
 use Rattle.chain.proofs.Apart.{bits-once}
 
 -- the runs of a rule that end at p or later, none of a form 7 rule

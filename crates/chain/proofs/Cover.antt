@@ -13,7 +13,7 @@ use Rattle.rule.specs.Meaning.{fits}
 use Rattle.chain.specs.Chain.{Covers, IsChain, Shows, Taken}
 use Rattle.chain.specs.Chain.Covers.{end, on}
 use Rattle.chain.specs.Chain.IsChain.{last, more}
-use Rattle.chain.specs.Links.{Link}
+use Rattle.chain.specs.declared.Link.{Link}
 use Rattle.chain.proofs.Fits.{bits-fail, rule-fails}
 
 module _ (w : ℕ) (rs : List Rule) where

@@ -35,7 +35,7 @@ Held w rs p n (To q i) = Best w rs p n q i
 Held w rs p n Nowhere = (j q : ℕ) → j < n → Fails w rs j p q → ⊥
 
 -- one more rule
-abbrev added : ℕ → Rule → (p i : ℕ) → Far → Far
+abbrev pub added : ℕ → Rule → (p i : ℕ) → Far → Far
 added w r p i best = elim (blocks w r p) [ true ↦ further best (reach w r p) i | false ↦ best ]
 
 module _ (w : ℕ) (rs : List Rule) (p : ℕ) (word : p ≤ top w) where

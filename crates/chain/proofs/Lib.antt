@@ -1,9 +1,13 @@
 pub mod Apart
+pub mod Bands
 pub mod Bound
 pub mod Cover
 pub mod Fits
 pub mod Furthest
+pub mod Gaps
+pub mod Lists
 pub mod Steps
 pub mod Taken
 pub mod Unique
+pub mod Walk
 pub mod Worked

@@ -13,7 +13,8 @@ use Rattle.rule.specs.declared.Rule.{Rule}
 use Rattle.rule.specs.Meaning.{fits}
 use Rattle.chain.specs.Chain.{IsChain}
 use Rattle.chain.specs.Chain.IsChain.{last, more}
-use Rattle.chain.specs.Links.{Link, linkAt, links, linksFrom}
+use Rattle.chain.specs.declared.Link.{Link}
+use Rattle.chain.specs.Links.{linkAt, links, linksFrom}
 use Rattle.chain.proofs.Cover.{chain-covers, covers-no-fit}
 use Rattle.chain.proofs.Taken.{taken, taken-order}
 use Rattle.chain.proofs.Unique.{one-chain}

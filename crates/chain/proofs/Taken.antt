@@ -16,7 +16,8 @@ use Rattle.rule.specs.Meaning.{fits, meets, meets7}
 use Rattle.chain.specs.declared.Far.{Far}
 use Rattle.chain.specs.declared.Far.the-variants.{To, Nowhere}
 use Rattle.chain.specs.Chain.{BitsLink, Fails, Plain, RuleLink, Taken, nth}
-use Rattle.chain.specs.Links.{Link, before, furthest, gap, linkAt, linkBy}
+use Rattle.chain.specs.declared.Link.{Link}
+use Rattle.chain.specs.Links.{before, furthest, gap, linkAt, linkBy}
 use Rattle.chain.proofs.Fits.{bits-only}
 use Rattle.chain.proofs.Furthest.{Best, Held, furthest-held}
 

@@ -14,7 +14,8 @@ use Rattle.rule.specs.declared.Rule.{Rule}
 use Rattle.rule.specs.Meaning.{meets7}
 use Rattle.chain.specs.Chain.{BitsLink, Fails, IsChain, RuleLink, Taken}
 use Rattle.chain.specs.Chain.IsChain.{last, more}
-use Rattle.chain.specs.Links.{BITS, Link}
+use Rattle.chain.specs.declared.Link.{Link}
+use Rattle.chain.specs.Links.{BITS}
 
 module _ (w : ℕ) (rs : List Rule) where
   module _ {p : ℕ} where

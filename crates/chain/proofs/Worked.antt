@@ -5,7 +5,8 @@ use Rattle.word.specs.Word.{half, minus, plus, signed, top}
 use Rattle.word.specs.Search.{climb, first, last}
 use Rattle.rule.specs.Meaning.{fits, meets, meets7, reach, rows, written}
 use Rattle.verdict.specs.Kept.{kept, verdictOf}
-use Rattle.chain.specs.Cases.{Case, answer, cases, chainFor}
+use Rattle.chain.specs.Answer.{answer, chainFor}
+use Rattle.chain.specs.Cases.{Case, cases}
 use Rattle.chain.specs.Links.{before, blocks, further, furthest, furthestOf, gap, linkAt, linkBy, links, linksFrom}
 
 pub worked : map (λ (c : Case). answer (c .width) (c .rules)) cases ≡ map (λ (c : Case). c .expected) cases

@@ -1,28 +1,11 @@
 -- The sheets worked by hand that 01 marks P, as one table: width, rules, verdict, smallest, largest and links.
-use mathlib.Core.Bool.{true, false}
 use mathlib.Core.List.{List, [], _∷_}
 use Prim.Native.Nat.{ℕ}
-use lib.Dec.{eqb}
 use Rattle.rule.specs.declared.Rule.{Rule}
 use Rattle.rule.specs.Meaning.{rule}
-use Rattle.verdict.specs.declared.Kept.{Kept}
-use Rattle.verdict.specs.Kept.{keeps, kept}
-use Rattle.chain.specs.Links.{BITS, Link, link, links}
-
--- what the desk says of a sheet: what it keeps, and for "none" the chain
-pub record Answer : Type 0 where
-  pub kept : Kept
-  pub chain : List Link
-
-abbrev pub says : Kept → List Link → Answer
-says k ls = record { kept = k; chain = ls }
-
--- "It is written for "none" only."
-unfoldable pub chainFor : ℕ → List Rule → Kept → List Link
-chainFor w rs k = elim (eqb (k .verdict) 0) [ true ↦ links w rs | false ↦ [] ]
-
-unfoldable pub answer : ℕ → List Rule → Answer
-answer w rs = let k = kept w rs in says k (chainFor w rs k)
+use Rattle.verdict.specs.Kept.{keeps}
+use Rattle.chain.specs.Answer.{Answer, says}
+use Rattle.chain.specs.Links.{BITS, link}
 
 pub record Case : Type 0 where
   pub width : ℕ

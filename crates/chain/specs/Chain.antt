@@ -9,7 +9,8 @@ use lib.ListN.{length, getD}
 use Rattle.word.specs.Word.{top}
 use Rattle.rule.specs.declared.Rule.{Rule}
 use Rattle.rule.specs.Meaning.{meets, meets7, rule}
-use Rattle.chain.specs.Links.{BITS, Link}
+use Rattle.chain.specs.declared.Link.{Link}
+use Rattle.chain.specs.Links.{BITS}
 
 -- rule number i, which is outside form 7
 abbrev pub nth : List Rule → ℕ → Rule

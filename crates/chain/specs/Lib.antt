@@ -1,3 +1,4 @@
+pub mod Answer
 pub mod Cases
 pub mod Chain
 pub mod Links

@@ -11,13 +11,9 @@ use Rattle.rule.specs.declared.Rule.{Rule}
 use Rattle.rule.specs.Meaning.{meets, meets7, reach}
 use Rattle.chain.specs.declared.Far.{Far}
 use Rattle.chain.specs.declared.Far.the-variants.{To, Nowhere}
+use Rattle.chain.specs.declared.Link.{Link}
 
--- the words from one to another, and why they fail: a rule's number, or 255
-pub record Link : Type 0 where
-  pub from : ℕ
-  pub to : ℕ
-  pub reason : ℕ
-
+-- a link by its numbers: the words from one to another, and why they fail, a rule's number or 255
 abbrev pub link : (from to reason : ℕ) → Link
 link from to reason = record { from = from; to = to; reason = reason }
 

@@ -1,7 +1,54 @@
 // The chain of links from zero to the top word that shows why no word fits.
+ghost use mathlib.Core.Path.{_≡_};
+ghost use mathlib.Core.List.{_++_};
+ghost use Prim.Native.Nat.{_+_, _*_, _≤_};
+ghost use lib.ListN.{drop, length, take};
+ghost use Rattle.word.specs.Word.{IsWidth};
+ghost use Rattle.rule.specs.Meaning.{AllLawful, RULES};
+ghost use Rattle.verdict.specs.Kept.{kept};
+ghost use Rattle.chain.specs.Links.{laid, links};
+use bits::Fixed;
+use rule::Rule;
+use word::Width;
+
+mod reach;
+mod step;
 
 // The furthest that a rule outside form 7 reaches from a word that fails it, and that rule's number.
 pub enum Far {
     To { reach: u64, rule: u64 },
     Nowhere,
+}
+
+// The words from one to another, and why they fail: a rule's number, or 255.
+pub struct Link {
+    pub from: u64,
+    pub to: u64,
+    pub reason: u64,
+}
+
+// Writes the chain of the first n rules, which no word fits, three numbers a link, and says how many links it has.
+pub fn write(rules: [Rule; Rule::LIMIT], n: usize, width: Width, out: &mut [u64]) -> usize
+    requires { ⌜ IsWidth (width .bits) ⌝ }
+    requires { ⌜ (n ≤ RULES) × AllLawful (width .bits) (take n rules) ⌝ }
+    requires { ⌜ kept (width .bits) (take n rules) .verdict ≡ 0 ⌝ }
+    requires { ⌜ 3 * (4 * n + 1) ≤ length (now out) ⌝ }
+    ensures { λ r. ⌜ r ≡ length (links (width .bits) (take n rules)) ⌝ }
+    ensures { λ r. ⌜ now (out .exit) ≡ laid (links (width .bits) (take n rules)) ++ drop (3 * r) (now (out .entry)) ⌝ }
+{
+    let bands = verdict::bands::lay(rules, n, width);
+    let fixed = Fixed::of(rules, n);
+    let top = width.top();
+    let mut count = 0;
+    let mut p = 0;
+    loop {
+        let link = step::link_at(bands, n, fixed, width, p);
+        step::put(&mut *out, 3 * count, link);
+        count += 1;
+        if link.to == top {
+            break;
+        }
+        p = link.to + 1;
+    }
+    count
 }

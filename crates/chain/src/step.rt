@@ -1,0 +1,70 @@
+// One link: where it ends, why, and how it is written.
+ghost use mathlib.Core.Path.{_≡_};
+ghost use mathlib.Core.List.{List, map, _++_, _∷_};
+ghost use Prim.Native.Nat.{_+_, _≤_};
+ghost use lib.ListN.{drop, length, take};
+ghost use Rattle.word.specs.Word.{IsWidth, top};
+ghost use Rattle.rule.specs.declared.Rule.{Rule as RuleOf};
+ghost use Rattle.rule.specs.Meaning.{AllLawful, RULES};
+ghost use Rattle.band.specs.Band.{bandOf};
+ghost use Rattle.bits.specs.Fixed.{Tidy, fixedBits};
+ghost use Rattle.chain.specs.Links.{gap, linkAt};
+use crate::Far;
+use crate::Link;
+use crate::reach;
+use band::Band;
+use bits::Fixed;
+use rule::Rule;
+use word::Found;
+use word::Width;
+
+// The reason of a link whose words fail a form 7 rule.
+const BITS: u64 = 255;
+
+// The link that starts at p.
+pub fn link_at(bands: [Band; Rule::LIMIT], n: usize, fixed: Fixed, width: Width, p: u64) -> Link
+    requires { ⌜ IsWidth (width .bits) ⌝ }
+    requires { ⌜ (n ≤ RULES) × (p ≤ top (width .bits)) ⌝ }
+    requires { ⌜ ((rs : List RuleOf) × AllLawful (width .bits) rs × (take n bands ≡ map (bandOf (width .bits)) rs) × (fixed ≡ fixedBits rs)) ⌝ }
+    ensures { λ r. ⌜ ((rs : List RuleOf) → AllLawful (width .bits) rs → take n bands ≡ map (bandOf (width .bits)) rs → fixed ≡ fixedBits rs → r ≡ linkAt (width .bits) rs p) ⌝ }
+{
+    match reach::furthest(bands, n, width, p) {
+        Far::To { reach, rule } => Link {
+            from: p,
+            to: reach,
+            reason: rule,
+        },
+        Far::Nowhere => Link {
+            from: p,
+            to: gap(fixed, width, p),
+            reason: BITS,
+        },
+    }
+}
+
+// The last word before the next one above p that has the bits, or the top word where there is none.
+fn gap(fixed: Fixed, width: Width, p: u64) -> u64
+    requires { ⌜ IsWidth (width .bits) ⌝ }
+    requires { ⌜ p ≤ top (width .bits) ⌝ }
+    requires { ⌜ Tidy fixed ⌝ }
+    ensures { λ r. ⌜ ((rs : List RuleOf) → AllLawful (width .bits) rs → fixed ≡ fixedBits rs → r ≡ gap (width .bits) rs p) ⌝ }
+{
+    let top = width.top();
+    if p == top {
+        return top;
+    }
+    let Found::At(x) = fixed.next(width, p + 1) else {
+        return top;
+    };
+    x - 1
+}
+
+// Writes a link's three numbers.
+pub fn put(out: &mut [u64], at: usize, link: Link)
+    requires { ⌜ at + 3 ≤ length (now out) ⌝ }
+    ensures { λ _. ⌜ now (out .exit) ≡ take at (now (out .entry)) ++ link .from ∷ link .to ∷ link .reason ∷ drop (at + 3) (now (out .entry)) ⌝ }
+{
+    out[at] = link.from;
+    out[at + 1] = link.to;
+    out[at + 2] = link.reason;
+}
