@@ -1,0 +1,51 @@
+-- Rules that would be accepted are what the verdict asks of rules. Assumes nothing.
+use mathlib.Core.Path.{_≡_, refl, sym, _∙_}
+use mathlib.Core.Bool.{Bool, true, false, true≢false, not, _&&_, _||_}
+use mathlib.Core.List.{List, [], _∷_}
+use Prim.Native.Nat.{ℕ, _≤_}
+use native.Mathlib.Omega.{arith}
+use borrow.Author.Tests.{eq-eqb, eqb-false, ltb-false, not-true}
+use lib.Dec.{eqb, leb, ltb}
+use Rattle.word.specs.Word.{top}
+use Rattle.word.proofs.Tests.{both-pass}
+use Rattle.rule.specs.declared.Rule.{Rule}
+use Rattle.rule.specs.Meaning.{AllLawful, Lawful}
+use Rattle.sheet.specs.Calls.{badConstant, badForm, badSense}
+use Rattle.sheet.specs.Shape.{acceptable, allAcceptable}
+
+both-fail : (a b : Bool) → (a || b) ≡ false → (a ≡ false) × (b ≡ false)
+both-fail true b e = absurd (true≢false e)
+both-fail false b e = (refl, e)
+
+first-fails : (a b : Bool) → b ≡ true → (a && b) ≡ false → a ≡ false
+first-fails true b h e = absurd (true≢false (sym h ∙ e))
+first-fails false b h e = refl
+
+plain-sense : (r : Rule) → badSense r ≡ false → r .form ≡ 7 → r .sense ≡ 0
+unfolding badSense
+plain-sense r e f =
+    let s = both-fail (ltb 1 (r .sense)) (eqb (r .sense) 1 && eqb (r .form) 7) e in
+    let low = ltb-false 1 (r .sense) (s .0) in
+    let other = eqb-false (r .sense) 1 (first-fails _ _ (eq-eqb (r .form) 7 f) (s .1)) in
+    omega arith
+
+words : (w : ℕ) (r : Rule) → badConstant w r ≡ false → (r .c1 ≤ top w) × (r .c2 ≤ top w)
+unfolding badConstant
+words w r e =
+    let s = both-fail (ltb (top w) (r .c1) || ltb (top w) (r .c2)) (not (eqb (r .c2) 0) && (leb 4 (r .form) && leb (r .form) 6)) e in
+    let p = both-fail (ltb (top w) (r .c1)) (ltb (top w) (r .c2)) (s .0) in
+    (ltb-false _ _ (p .0), ltb-false _ _ (p .1))
+
+lawful : (w : ℕ) (r : Rule) → acceptable w r ≡ true → Lawful w r
+unfolding acceptable
+lawful w r e =
+    let s = both-pass (not (badForm r)) (not (badSense r) && not (badConstant w r)) e in
+    let p = both-pass (not (badSense r)) (not (badConstant w r)) (s .1) in
+    let q = words w r (not-true _ (p .1)) in
+    record { c1-word = q .0; c2-word = q .1; plain = plain-sense r (not-true _ (p .0)) }
+
+pub all-lawful : (w : ℕ) (rs : List Rule) → allAcceptable w rs ≡ true → AllLawful w rs
+unfolding allAcceptable AllLawful
+all-lawful w [] e = tt
+all-lawful w (r ∷ rs) e =
+    let p = both-pass (acceptable w r) (allAcceptable w rs) e in (lawful w r (p .0), all-lawful w rs (p .1))

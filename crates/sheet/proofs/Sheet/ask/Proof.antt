@@ -1,0 +1,85 @@
+-- `Sheet::ask` meets its contract: what is kept is what the rules give, so a chain is written just where no word fits.
+-- Assumes nothing.
+use mathlib.Core.Path.{sym, ap, _∙_, subst}
+use Prim.Native.Nat.{_≤_}
+use native.Mathlib.Omega.{arith}
+use borrow.Author.Needs.{needs}
+use Rattle.rule.specs.Meaning.{RULES}
+use Rattle.verdict.specs.declared.Kept.{Kept}
+use Rattle.sheet.specs.Stands.{Standing}
+use Rattle.sheet.specs.Statements.{Asked}
+use Rattle.sheet.proofs.Asking.{chain-asking, kept-asking, kept-on, refused-asking, short-asking}
+use Rattle.sheet.proofs.Lawful.{reached-lawful}
+use Rattle.sheet.proofs.Stands.{has-page, known, rules-lawful, width-of}
+use Rattle.sheet.proofs.Sheet.ask.Statement.{statement}
+use Rattle.sheet.proofs.Sheet.ask.Tie as tie
+
+on : (a : tie.Else1) → Standing (a .before .before .before .args .self)
+on a = has-page (a .before .standing .ensures) (a .if1 .left)
+
+few : (a : tie.Else1) → a .before .before .before .args .self .count ≤ RULES
+few a = let p = on a in let g = known p in omega (arith, reached-lawful (p .reached) .rules-fit)
+
+standing-requires : tie.Need-standing-requires
+standing-requires c κs = search needs
+
+refusal-requires : tie.Need-refusal-requires
+refusal-requires c κs = search needs
+
+returns : tie.Need-returns
+returns c = subst (Asked _ _ _) (sym (c .refusal .ensures)) (refused-asking (c .before .before .standing .ensures) (c .before .if1 .taken) _)
+
+mul-if2 : tie.Need-mul-if2
+mul-if2 c = omega (arith, few c)
+
+add-if2 : tie.Need-add-if2
+add-if2 c = omega (arith, few c)
+
+mul-if2-2 : tie.Need-mul-if2-2
+mul-if2-2 c = omega (arith, few c)
+
+refusal-requires-2 : tie.Need-refusal-requires-2
+refusal-requires-2 c κs = search needs
+
+returns-2 : tie.Need-returns-2
+returns-2 c = subst (Asked _ _ _) (sym (c .refusal2 .ensures)) (short-asking (on (c .before .before)) _ (c .before .if2 .taken))
+
+returns-3 : tie.Need-returns-3
+returns-3 c = kept-asking (on (c .before .before .before .before)) _ (c .before .before .before .if2 .left) (c .if3 .taken)
+
+write-requires : tie.Need-write-requires
+write-requires c κs =
+    let a = c .before .before .before .before .before .before in
+    let p = on a in (
+      width-of p,
+      (
+        (few a, rules-lawful p),
+        (sym (ap (λ (k : Kept). k .verdict) (kept-on p)) ∙ c .before .before .if3 .left, c .before .before .before .before .before .if2 .left),
+      ),
+    )
+
+same-length : tie.Need-same-length
+same-length c = search needs
+
+returns-4 : tie.Need-returns-4
+returns-4 c =
+    let e = c .before .before .before .before .before in
+    let p = on (e .before .before .before .before) in
+    chain-asking p _ (e .before .before .before .if2 .left) (e .if3 .left) (c .before .before .write .ensures .0) (c .before .before .write .ensures .1)
+
+pub ask-spec : {M : Type 1} → statement M
+ask-spec =
+    tie.close
+    (tie.spec
+    standing-requires
+    refusal-requires
+    returns
+    mul-if2
+    add-if2
+    mul-if2-2
+    refusal-requires-2
+    returns-2
+    returns-3
+    write-requires
+    same-length
+    returns-4)

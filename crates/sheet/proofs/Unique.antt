@@ -1,0 +1,60 @@
+-- No second outcome satisfies a call's statement: a record is a sheet or it is not, and in each case the statement says
+-- what the outcome is. Read so, it says too that a refused call leaves the sheet, and a refused asking the buffer. Assumes
+-- nothing.
+use mathlib.Core.Path.{_≡_, sym, ap, _∙_}
+use mathlib.Core.List.{List}
+use Prim.Native.Nat.{ℕ}
+use native.Mathlib.Decide.{ℕ-discrete}
+use borrow.Author.Tests.{eq-eqb, ne-eqb}
+use lib.ListN.{length}
+use Rattle.chain.specs.Links.{laid}
+use Rattle.sheet.specs.declared.Answer.{Answer}
+use Rattle.sheet.specs.declared.Reply.{Reply}
+use Rattle.sheet.specs.declared.Sheet.{Sheet}
+use Rattle.sheet.specs.Calls.{Call, ask, open-at, refusal}
+use Rattle.sheet.specs.Page.{Page, fresh, no-page}
+use Rattle.sheet.specs.Statements.{Answers, Asked, IsSheet, chainOn, opened, overlaid, reply}
+use Rattle.sheet.proofs.Refusals.{after-refused}
+
+-- ---- one outcome
+
+pub answers-unique : {s : Sheet} {c : Call} {r r′ : Answer} → Dec (IsSheet s) → Answers s c r → Answers s c r′ → r ≡ r′
+answers-unique (yes h) a a′ = a .on-page (h .on) (h .reached) (h .gives) ∙ sym (a′ .on-page (h .on) (h .reached) (h .gives))
+answers-unique (no n) a a′ = a .no-sheet n ∙ sym (a′ .no-sheet n)
+
+pub asked-unique : {s : Sheet} {b b₁ b₂ : List ℕ} {r₁ r₂ : Reply} → Dec (IsSheet s) → Asked s b b₁ r₁ → Asked s b b₂ r₂
+    → (r₁ ≡ r₂) × (b₁ ≡ b₂)
+asked-unique (yes h) a a′ =
+    let p = a .on-page (h .on) (h .reached) (h .gives) in
+    let q = a′ .on-page (h .on) (h .reached) (h .gives) in
+    (p .0 ∙ sym (q .0), p .1 ∙ sym (q .1))
+asked-unique (no n) a a′ = let p = a .no-sheet n in let q = a′ .no-sheet n in (p .0 ∙ sym (q .0), p .1 ∙ sym (q .1))
+
+-- ---- what a refused call leaves
+
+pub opened-leaves : (s : Sheet) (w : ℕ) → (opened s w .number ≡ 0 → ⊥) → opened s w .sheet ≡ s
+unfolding opened
+opened-leaves s w n = rw (ne-eqb (refusal no-page (open-at w)) 0 n)
+
+pub answers-leaves : {s : Sheet} {c : Call} {r : Answer} → Dec (IsSheet s) → Answers s c r → (r .number ≡ 0 → ⊥) → r .sheet ≡ s
+answers-leaves {c} (yes h) a n =
+    let e = a .on-page (h .on) (h .reached) (h .gives) in
+    ap (λ (t : Answer). t .sheet) e
+    ∙ ap fresh (after-refused (h .on) c (λ q. n (ap (λ (t : Answer). t .number) e ∙ q)))
+    ∙ sym (h .gives)
+answers-leaves (no n) a k = ap (λ (t : Answer). t .sheet) (a .no-sheet n)
+
+-- no link is written where asking is refused
+reply-leaves : (pg : Page) (b : List ℕ) → (reply pg (length b) .number ≡ 0 → ⊥) → overlaid (chainOn pg (length b)) b ≡ b
+unfolding reply chainOn laid
+reply-leaves pg b n = go (ℕ-discrete (refusal pg (ask (length b))) 0)
+  where
+    go : Dec (refusal pg (ask (length b)) ≡ 0) → overlaid (chainOn pg (length b)) b ≡ b
+    go (yes e) = absurd (n (rw (eq-eqb (refusal pg (ask (length b))) 0 e)))
+    go (no k) = rw (ne-eqb (refusal pg (ask (length b))) 0 k)
+
+pub asked-leaves : {s : Sheet} {b b′ : List ℕ} {r : Reply} → Dec (IsSheet s) → Asked s b b′ r → (r .number ≡ 0 → ⊥) → b′ ≡ b
+asked-leaves {b} (yes h) a n =
+    let e = a .on-page (h .on) (h .reached) (h .gives) in
+    e .1 ∙ reply-leaves (h .on) b (λ q. n (ap (λ (t : Reply). t .number) (e .0) ∙ q))
+asked-leaves (no n) a k = a .no-sheet n .1

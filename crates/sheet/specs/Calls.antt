@@ -1,0 +1,96 @@
+-- The calls, when each is refused, and what the clerk then writes (01, "When the desk says no").
+use mathlib.Core.Bool.{Bool, true, false, not, _&&_, _||_}
+use mathlib.Core.List.{List, [], _∷_}
+use Prim.Native.Nat.{ℕ, _+_, _*_}
+use lib.Dec.{eqb, leb, ltb}
+use lib.ListN.{length}
+use Rattle.word.specs.Word.{top}
+use Rattle.rule.specs.declared.Rule.{Rule}
+use Rattle.rule.specs.Meaning.{RULES}
+use Rattle.sheet.specs.Page.{MARKS, Page, WIDEST, a-mark, a-rule, entriesOf, marksOn, no-page, page, rulesOn, struck, widthOf}
+
+-- a call with what it is handed: of the buffer, only its length counts
+pub data Call : Type 0 where
+  open-at : (width : ℕ) → Call
+  add : Rule → Call
+  mark : Call
+  back : Call
+  ask : (room : ℕ) → Call
+
+-- a number, and whether it applies
+pub record Ground : Type 0 where
+  pub number : ℕ
+  pub applies : Bool
+
+abbrev pub ground : ℕ → Bool → Ground
+ground n b = record { number = n; applies = b }
+
+-- "where several apply, the lowest number is given"; 0 where none does
+unfoldable pub lowest : List Ground → ℕ
+lowest [] = 0
+lowest (g ∷ gs) = elim (g .applies) [ true ↦ g .number | false ↦ lowest gs ]
+
+unfoldable pub isBlank : Page → Bool
+isBlank no-page = true
+isBlank (page w es) = false
+
+-- "form outside 1 to 8"
+unfoldable pub badForm : Rule → Bool
+badForm r = not (leb 1 (r .form) && leb (r .form) 8)
+
+-- "sense above 1, or sense 1 with form 7"
+unfoldable pub badSense : Rule → Bool
+badSense r = ltb 1 (r .sense) || eqb (r .sense) 1 && eqb (r .form) 7
+
+-- "a constant above the top word, or c2 not zero in forms 4, 5, 6"
+unfoldable pub badConstant : ℕ → Rule → Bool
+badConstant w r =
+    ltb (top w) (r .c1)
+    || ltb (top w) (r .c2)
+    || not (eqb (r .c2) 0) && (leb 4 (r .form) && leb (r .form) 6)
+
+-- what a chain buffer has to hold for n rules
+abbrev pub chainRoom : ℕ → ℕ
+chainRoom n = 3 * (4 * n + 1)
+
+-- the rules and the marks in force
+unfoldable pub rulesOf : Page → List Rule
+rulesOf pg = rulesOn (entriesOf pg)
+
+unfoldable pub marksOf : Page → List ℕ
+marksOf pg = marksOn (entriesOf pg)
+
+-- the table, a row for each number, of a call on the sheet that a page gives
+unfoldable pub grounds : Page → Call → List Ground
+grounds pg (open-at w) = ground 2 (not (leb 1 w && leb w WIDEST)) ∷ []
+grounds pg (add r) =
+    ground 1 (isBlank pg)
+    ∷ ground 3 (badForm r)
+    ∷ ground 4 (badSense r)
+    ∷ ground 5 (badConstant (widthOf pg) r)
+    ∷ ground 6 (leb RULES (length (rulesOf pg)))
+    ∷ []
+grounds pg mark = ground 1 (isBlank pg) ∷ ground 7 (leb MARKS (length (marksOf pg))) ∷ []
+grounds pg back = ground 1 (isBlank pg) ∷ ground 8 (eqb (length (marksOf pg)) 0) ∷ []
+grounds pg (ask m) = ground 1 (isBlank pg) ∷ ground 9 (ltb m (chainRoom (length (rulesOf pg)))) ∷ []
+
+-- the number that is given, 0 where the call is accepted
+unfoldable pub refusal : Page → Call → ℕ
+refusal pg c = lowest (grounds pg c)
+
+-- what the clerk does at an accepted call: a new page, one entry more, the strikes of a step back, or nothing
+unfoldable pub written : Page → Call → Page
+written pg (open-at w) = page w []
+written pg (add r) = page (widthOf pg) (a-rule r ∷ entriesOf pg)
+written pg mark = page (widthOf pg) (a-mark ∷ entriesOf pg)
+written pg back = page (widthOf pg) (struck (entriesOf pg))
+written pg (ask m) = pg
+
+-- the page after a call, accepted or refused
+unfoldable pub after : Page → Call → Page
+after pg c = elim (eqb (refusal pg c) 0) [ true ↦ written pg c | false ↦ pg ]
+
+-- the page after calls, the first one first
+unfoldable pub clerk : Page → List Call → Page
+clerk pg [] = pg
+clerk pg (c ∷ cs) = clerk (after pg c) cs

@@ -1,0 +1,5 @@
+pub mod Calls
+pub mod Page
+pub mod Shape
+pub mod Stands
+pub mod Statements

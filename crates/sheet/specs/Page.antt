@@ -1,0 +1,83 @@
+-- The clerk's page, and the record that a page gives (01, "What a sheet is" and "When the desk says no").
+use mathlib.Core.List.{List, [], _∷_, _++_}
+use Prim.Native.Nat.{ℕ, _-_}
+use lib.ListN.{length, replicate}
+use Rattle.rule.specs.declared.Rule.{Rule}
+use Rattle.rule.specs.Meaning.{RULES, rule}
+use Rattle.verdict.specs.Kept.{keeps, kept}
+use Rattle.sheet.specs.declared.Sheet.{Sheet}
+
+-- "a width w from 1 to 32, up to 64 rules in force, up to 16 marks"
+abbrev pub WIDEST : ℕ
+WIDEST = 32
+
+abbrev pub MARKS : ℕ
+MARKS = 16
+
+-- an entry on the page: a rule, or a mark
+pub data Entry : Type 0 where
+  a-rule : Rule → Entry
+  a-mark : Entry
+
+-- the page: none before the first accepted opening, then the width and the entries that stand, the newest first
+pub data Page : Type 0 where
+  no-page : Page
+  page : (width : ℕ) → List Entry → Page
+
+unfoldable pub widthOf : Page → ℕ
+widthOf no-page = 0
+widthOf (page w es) = w
+
+unfoldable pub entriesOf : Page → List Entry
+entriesOf no-page = []
+entriesOf (page w es) = es
+
+-- the rules that stand, "numbered from 0 in the order added"
+unfoldable pub rulesOn : List Entry → List Rule
+rulesOn [] = []
+rulesOn (a-rule r ∷ es) = rulesOn es ++ r ∷ []
+rulesOn (a-mark ∷ es) = rulesOn es
+
+-- the marks that stand, in order: for each, how many rules stand above it
+unfoldable pub marksOn : List Entry → List ℕ
+marksOn [] = []
+marksOn (a-rule r ∷ es) = marksOn es
+marksOn (a-mark ∷ es) = marksOn es ++ length (rulesOn es) ∷ []
+
+-- "Going back strikes the newest mark and the rules added after it."
+unfoldable pub struck : List Entry → List Entry
+struck [] = []
+struck (a-rule r ∷ es) = struck es
+struck (a-mark ∷ es) = es
+
+-- "Places not in use hold zeros."
+abbrev pub padded : {A : Type 0} → ℕ → A → List A → List A
+padded n z xs = xs ++ replicate (n - length xs) z
+
+abbrev pub noRule : Rule
+noRule = rule 0 0 0 0
+
+-- "The blank sheet has width 0 and zeros everywhere."
+abbrev pub blank : Sheet
+blank =
+    record {
+      width = 0;
+      rules = replicate RULES noRule;
+      count = 0;
+      marks = replicate MARKS 0;
+      marked = 0;
+      kept = keeps 0 0 0;
+    }
+
+-- the record that a page gives: what stands on it, zeros in the other places, and what is kept of its rules
+unfoldable pub fresh : Page → Sheet
+fresh no-page = blank
+fresh (page w es) =
+    record {
+      width = w;
+      rules = padded RULES noRule (rulesOn es);
+      count = length (rulesOn es);
+      marks = padded MARKS 0 (marksOn es);
+      marked = length (marksOn es);
+      kept = kept w (rulesOn es);
+    }

@@ -1,0 +1,73 @@
+-- How a record is told to be a sheet. A route and no meaning: that the test passes exactly for sheets is proved
+-- (proofs/Tested.antt). What it looks at: the width, that each rule in force would be accepted, that the marks rise up to
+-- the rules in force, that the other places hold zeros, and what is kept.
+use mathlib.Core.Path.{_≡_}
+use mathlib.Core.Bool.{Bool, true, not, _&&_, cond}
+use mathlib.Core.List.{List, [], _∷_}
+use Prim.Native.Nat.{ℕ}
+use lib.Dec.{eqb, leb}
+use lib.ListN.{drop, length, take}
+use Rattle.rule.specs.declared.Rule.{Rule}
+use Rattle.rule.specs.Meaning.{RULES}
+use Rattle.verdict.specs.declared.Kept.{Kept}
+use Rattle.verdict.specs.Kept.{keeps, kept}
+use Rattle.sheet.specs.declared.Sheet.{Sheet}
+use Rattle.sheet.specs.Calls.{badConstant, badForm, badSense}
+use Rattle.sheet.specs.Page.{MARKS, WIDEST}
+
+-- as many places as a record has
+pub record Whole (rs : List Rule) (ms : List ℕ) : Type 0 where
+  pub rules-length : length rs ≡ RULES
+  pub marks-length : length ms ≡ MARKS
+
+-- the rule would not be refused with 3, 4 or 5
+unfoldable pub acceptable : ℕ → Rule → Bool
+acceptable w r = not (badForm r) && (not (badSense r) && not (badConstant w r))
+
+unfoldable pub allAcceptable : ℕ → List Rule → Bool
+allAcceptable w [] = true
+allAcceptable w (r ∷ rs) = acceptable w r && allAcceptable w rs
+
+-- a place that no rule has taken
+unfoldable pub isNoRule : Rule → Bool
+isNoRule r = eqb (r .form) 0 && (eqb (r .sense) 0 && (eqb (r .c1) 0 && eqb (r .c2) 0))
+
+unfoldable pub allNoRule : List Rule → Bool
+allNoRule [] = true
+allNoRule (r ∷ rs) = isNoRule r && allNoRule rs
+
+-- n acceptable rules, and no rule after them
+unfoldable pub rulesShaped : (w n : ℕ) → List Rule → Bool
+rulesShaped w n rs = allAcceptable w (take n rs) && allNoRule (drop n rs)
+
+-- the numbers rise, from low on and up to high
+unfoldable pub rising : (low : ℕ) → List ℕ → (high : ℕ) → Bool
+rising low [] high = leb low high
+rising low (m ∷ ms) high = leb low m && rising m ms high
+
+unfoldable pub allZero : List ℕ → Bool
+allZero [] = true
+allZero (m ∷ ms) = eqb m 0 && allZero ms
+
+-- m marks that rise up to n rules, and zeros after them
+unfoldable pub marksShaped : (n m : ℕ) → List ℕ → Bool
+marksShaped n m ms = rising 0 (take m ms) n && allZero (drop m ms)
+
+unfoldable pub sameKept : Kept → Kept → Bool
+sameKept k l =
+    eqb (k .verdict) (l .verdict) && (eqb (k .smallest) (l .smallest) && eqb (k .largest) (l .largest))
+
+-- a record with at most so many rules and marks, well shaped
+unfoldable pub wellShaped : Sheet → Bool
+wellShaped s =
+    leb (s .count) RULES
+    && (leb (s .marked) MARKS
+    && (rulesShaped (s .width) (s .count) (s .rules) && marksShaped (s .count) (s .marked) (s .marks)))
+
+-- the blank sheet, or a width with well shaped rules and marks and what is kept of the rules
+unfoldable pub isSheet : Sheet → Bool
+isSheet s =
+    wellShaped s
+    && cond (eqb (s .width) 0)
+    (eqb (s .count) 0 && (eqb (s .marked) 0 && sameKept (s .kept) (keeps 0 0 0)))
+    (leb (s .width) WIDEST && sameKept (s .kept) (kept (s .width) (take (s .count) (s .rules))))

@@ -1,0 +1,79 @@
+-- What each call promises, and the three demands over any list of calls.
+use mathlib.Core.Path.{_≡_}
+use mathlib.Core.Bool.{cond}
+use mathlib.Core.List.{List, [], _∷_, _++_}
+use Prim.Native.Nat.{ℕ, _*_}
+use lib.Dec.{eqb}
+use lib.ListN.{drop, length}
+use Rattle.rule.specs.declared.Rule.{Rule}
+use Rattle.verdict.specs.declared.Kept.{Kept}
+use Rattle.verdict.specs.Kept.{keeps}
+use Rattle.chain.specs.declared.Link.{Link}
+use Rattle.chain.specs.Links.{laid}
+use Rattle.chain.specs.Answer.{answer}
+use Rattle.sheet.specs.declared.Answer.{Answer}
+use Rattle.sheet.specs.declared.Reply.{Reply}
+use Rattle.sheet.specs.declared.Sheet.{Sheet}
+use Rattle.sheet.specs.Calls.{Call, add, after, ask, back, mark, open-at, refusal, rulesOf, written}
+use Rattle.sheet.specs.Page.{Page, fresh, no-page, page, widthOf}
+
+-- the pages that accepted calls give
+pub data Reached : Page → Type 0 where
+  start : Reached no-page
+  step : {pg : Page} → Reached pg → (c : Call) → refusal pg c ≡ 0 → Reached (written pg c)
+
+-- "A record is a sheet when some page of accepted calls gives it, kept numbers included; the blank one is a sheet."
+pub record IsSheet (s : Sheet) : Type 0 where
+  pub on : Page
+  pub reached : Reached on
+  pub gives : s ≡ fresh on
+
+abbrev pub answers : ℕ → Sheet → Answer
+answers n s = record { number = n; sheet = s }
+
+-- "Opening doesn't read the old record." "A refused opening keeps the old sheet; an accepted one discards it."
+unfoldable pub opened : Sheet → ℕ → Answer
+opened s w =
+    let k : ℕ = refusal no-page (open-at w) in
+    answers k (cond (eqb k 0) (fresh (page w [])) s)
+
+-- What an add, a mark or a step back answers, whatever record it is handed: 17 where that is no sheet, else the number of
+-- the table, with the sheet of the page after the call. A refused call leaves the page, and so the sheet.
+pub record Answers (s : Sheet) (c : Call) (r : Answer) : Type 0 where
+  pub no-sheet : (IsSheet s → ⊥) → r ≡ answers 17 s
+  pub on-page : (pg : Page) → Reached pg → s ≡ fresh pg → r ≡ answers (refusal pg c) (fresh (after pg c))
+
+abbrev pub replies : ℕ → Kept → ℕ → Reply
+replies n k l = record { number = n; kept = k; links = l }
+
+-- "A refusal answers its number, with zeros in the answer's other places"
+abbrev pub refuses : ℕ → Reply
+refuses n = replies n (keeps 0 0 0) 0
+
+-- the links that asking writes with m numbers lent: none where it is refused
+unfoldable pub chainOn : Page → ℕ → List Link
+chainOn pg m = cond (eqb (refusal pg (ask m)) 0) (answer (widthOf pg) (rulesOf pg) .chain) []
+
+-- what asking answers with m numbers lent
+unfoldable pub reply : Page → ℕ → Reply
+reply pg m =
+    let k : ℕ = refusal pg (ask m) in
+    cond (eqb k 0) (replies 0 (answer (widthOf pg) (rulesOf pg) .kept) (length (chainOn pg m))) (refuses k)
+
+-- a buffer with links laid at its start, and every number after them as it was
+abbrev pub overlaid : List Link → List ℕ → List ℕ
+overlaid ls b = laid ls ++ drop (3 * length ls) b
+
+-- What asking answers, whatever record it is handed, and what the lent buffer, b before, holds after.
+pub record Asked (s : Sheet) (b b′ : List ℕ) (r : Reply) : Type 0 where
+  pub no-sheet : (IsSheet s → ⊥) → (r ≡ refuses 17) × (b′ ≡ b)
+  pub on-page : (pg : Page) → Reached pg → s ≡ fresh pg → (r ≡ reply pg (length b)) × (b′ ≡ overlaid (chainOn pg (length b)) b)
+
+-- Calls one after another, refused ones among them, each with any outcome that satisfies its statement.
+pub data Run : Sheet → List Call → Sheet → Type 0 where
+  done : {s : Sheet} → Run s [] s
+  then-open : {s t : Sheet} {cs : List Call} (w : ℕ) → Run (opened s w .sheet) cs t → Run s (open-at w ∷ cs) t
+  then-add : {s t : Sheet} {cs : List Call} (u : Rule) (r : Answer) → Answers s (add u) r → Run (r .sheet) cs t → Run s (add u ∷ cs) t
+  then-mark : {s t : Sheet} {cs : List Call} (r : Answer) → Answers s mark r → Run (r .sheet) cs t → Run s (mark ∷ cs) t
+  then-back : {s t : Sheet} {cs : List Call} (r : Answer) → Answers s back r → Run (r .sheet) cs t → Run s (back ∷ cs) t
+  then-ask : {s t : Sheet} {cs : List Call} (b b′ : List ℕ) (r : Reply) → Asked s b b′ r → Run s cs t → Run s (ask (length b) ∷ cs) t
