@@ -47,9 +47,6 @@ module _ (w : ℕ) (rs : List Rule) (no-fit : NoFit w rs) where
   chain-is = chain-from _ 0 (omega arith) (omega (arith, top-suc w))
 
   module _ (p : ℕ) (word : p ≤ top w) where
-    pub links-fuel : (k k′ : ℕ) → top w < p + k → top w < p + k′ → linksFrom w rs k p ≡ linksFrom w rs k′ p
-    links-fuel k k′ l m = one-chain w rs (chain-from k p word l) (chain-from k′ p word m)
-
     pub links-end : (k : ℕ) → top w < p + k → linkAt w rs p .to ≡ top w → linksFrom w rs k p ≡ linkAt w rs p ∷ []
     links-end k l e = one-chain w rs (chain-from k p word l) (last (taken w rs p word (no-fit p word)) e)
 

@@ -1,107 +1,85 @@
 // The paper's sheets worked by hand. A set of words of width 4 is a number, whose bit x says whether x is in the set.
 ghost use Prim.Native.Nat.{_≤_};
-ghost use Rattle.rule.specs.Meaning.{Lawful};
-use crate::lawful;
-use crate::tally::Tally;
 use rule::Rule;
+use trial::rules;
+use trial::tally::Tally;
 use word::Width;
 
-// Case 1 has no rule, and case 13 is of refusals.
+// Cases 2 to 12, twelve digits a sheet: its two rules, or its one rule twice, and the set of words that fit. Case 3 stands
+// as written and negated. (Case 1 has no rule, and case 13 is of refusals.)
+const SHEETS: [u64; 12] = [
+    0x3053_3053_7800,
+    0x1001_1001_7fff,
+    0x1101_1101_8000,
+    0x1000_1000_ffff,
+    0x300f_300f_ffff,
+    0x4030_50d0_e00f,
+    0x3053_7033_0800,
+    0x3053_70c4_0000,
+    0x7012_7012_0000,
+    0x6090_6190_0000,
+    0x3002_2030_0000,
+    0x80e3_80e3_3ffe,
+];
+
 pub fn cases() -> Tally {
-    one_rule().plus(two_rules()).plus(answers())
-}
-
-// Cases 2 to 5, 9 and 12.
-fn one_rule() -> Tally {
-    let wraps = rule(1, 0, 1);
-    sheet(rule(3, 5, 3), 0x7800)
-        .plus(sheet(wraps, 0x7fff))
-        .plus(sheet(negated(wraps), 0x8000))
-        .plus(sheet(rule(1, 0, 0), 0xffff))
-        .plus(sheet(rule(3, 0, 15), 0xffff))
-        .plus(sheet(rule(7, 1, 2), 0))
-        .plus(sheet(rule(8, 14, 3), 0x3ffe))
-}
-
-// Cases 6 to 8, 10 and 11.
-fn two_rules() -> Tally {
-    let case2 = rule(3, 5, 3);
-    let nine = rule(6, 9, 0);
-    sheet_of_two(rule(4, 3, 0), rule(5, 13, 0), 0xe00f)
-        .plus(sheet_of_two(case2, rule(7, 3, 3), 0x0800))
-        .plus(sheet_of_two(case2, rule(7, 12, 4), 0))
-        .plus(sheet_of_two(nine, negated(nine), 0))
-        .plus(sheet_of_two(rule(3, 0, 2), rule(2, 3, 0), 0))
-}
-
-fn rule(form: u64, c1: u64, c2: u64) -> Rule {
-    Rule {
-        form,
-        sense: 0,
-        c1,
-        c2,
-    }
-}
-
-fn negated(rule: Rule) -> Rule {
-    Rule {
-        form: rule.form,
-        sense: 1,
-        c1: rule.c1,
-        c2: rule.c2,
-    }
-}
-
-fn sheet(rule: Rule, set: u64) -> Tally {
-    sheet_of_two(rule, rule, set)
-}
-
-// Whether just the words of the set meet both rules, word by word. A rule that no sheet takes differs.
-fn sheet_of_two(a: Rule, b: Rule, set: u64) -> Tally {
-    let width = Width { bits: 4 };
-    if lawful(a, width) {
-        if lawful(b, width) {
-            return over_words(a, b, set);
-        }
-    }
-    Tally::one(false)
-}
-
-fn over_words(a: Rule, b: Rule, set: u64) -> Tally
-    requires { ⌜ Lawful 4 a × Lawful 4 b ⌝ }
-{
-    let mut tally = Tally::none();
-    for x in 0..16 {
-        let inside = set >> x & 1 == 1;
-        tally = tally.plus(Tally::one(fits(a, b, x) == inside));
+    let mut tally = answers();
+    for i in 0..192 {
+        tally = tally.plus(Tally::one(same(i / 16, i as u64 % 16)));
     }
     tally
 }
 
-fn fits(a: Rule, b: Rule, x: u64) -> bool
-    requires { ⌜ Lawful 4 a × Lawful 4 b ⌝ }
+// Whether x meets both rules of a sheet just where it is in the sheet's set.
+fn same(sheet: usize, x: u64) -> bool
+    requires { ⌜ (sheet ≤ 11) × (x ≤ 15) ⌝ }
+{
+    let digits = SHEETS[sheet];
+    let inside = digits >> x & 1 == 1;
+    if meets(rules::written(digits >> 32), x) {
+        return meets(rules::written(digits >> 16), x) == inside;
+    }
+    !inside
+}
+
+// Whether x meets the rule. A digit is a word of width 4 and no bit rule here is negated, so every rule is lawful.
+fn meets(rule: Rule, x: u64) -> bool
     requires { ⌜ x ≤ 15 ⌝ }
 {
     let width = Width { bits: 4 };
-    if a.meets(width, x) {
-        return b.meets(width, x);
+    if rules::lawful(rule, width) {
+        return rule.meets(width, x);
     }
     false
 }
 
-// Word 13 reads as -3 at width 4. At width 32 case 3 negated has the top word, and neither of the words beside it. At
-// width 64 the sum of the top word and 1 is 0.
+// Word 13 reads as -3 at width 4, and at width 64 the sum of the top word and 1 is 0.
 fn answers() -> Tally {
-    let wraps = Rule {
+    let reads = Width { bits: 4 }.signed(13) == -3;
+    let wraps = Width { bits: 64 }.add(u64::MAX, 1) == 0;
+    wide_answers()
+        .plus(Tally::one(reads))
+        .plus(Tally::one(wraps))
+}
+
+// At width 32 case 3 negated has the top word, and neither of the words beside it.
+fn wide_answers() -> Tally {
+    let before = wraps(0xffff_fffe);
+    let top = wraps(0xffff_ffff);
+    let after = wraps(0);
+    Tally::one(!before)
+        .plus(Tally::one(top))
+        .plus(Tally::one(!after))
+}
+
+fn wraps(x: u64) -> bool
+    requires { ⌜ x ≤ 4294967295 ⌝ }
+{
+    let rule = Rule {
         form: 1,
         sense: 1,
         c1: 0,
         c2: 1,
     };
-    let wide = Width { bits: 32 };
-    Tally::one(Width { bits: 4 }.signed(13) == -3)
-        .plus(Tally::one(wraps.meets(wide, 0xffff_ffff)))
-        .plus(Tally::one(!wraps.meets(wide, 0xffff_fffe)))
-        .plus(Tally::one(!wraps.meets(wide, 0)))
-        .plus(Tally::one(Width { bits: 64 }.add(u64::MAX, 1) == 0))
+    rule.meets(Width { bits: 32 }, x)
 }

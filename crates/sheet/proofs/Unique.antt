@@ -15,34 +15,40 @@ use Rattle.sheet.specs.Calls.{Call, ask, open-at, refusal}
 use Rattle.sheet.specs.Page.{Page, fresh, no-page}
 use Rattle.sheet.specs.Statements.{Answers, Asked, IsSheet, chainOn, opened, overlaid, reply}
 use Rattle.sheet.proofs.Refusals.{after-refused}
+use Rattle.sheet.proofs.Tested.{sheet-dec}
 
--- ---- one outcome
+pub answers-unique : {s : Sheet} {c : Call} {r r′ : Answer} → Answers s c r → Answers s c r′ → r ≡ r′
+answers-unique {s} {c} {r} {r′} a a′ = go (sheet-dec s)
+  where
+    go : Dec (IsSheet s) → r ≡ r′
+    go (yes h) = a .on-page (h .on) (h .reached) (h .gives) ∙ sym (a′ .on-page (h .on) (h .reached) (h .gives))
+    go (no n) = a .no-sheet n ∙ sym (a′ .no-sheet n)
 
-pub answers-unique : {s : Sheet} {c : Call} {r r′ : Answer} → Dec (IsSheet s) → Answers s c r → Answers s c r′ → r ≡ r′
-answers-unique (yes h) a a′ = a .on-page (h .on) (h .reached) (h .gives) ∙ sym (a′ .on-page (h .on) (h .reached) (h .gives))
-answers-unique (no n) a a′ = a .no-sheet n ∙ sym (a′ .no-sheet n)
-
-pub asked-unique : {s : Sheet} {b b₁ b₂ : List ℕ} {r₁ r₂ : Reply} → Dec (IsSheet s) → Asked s b b₁ r₁ → Asked s b b₂ r₂
+pub asked-unique : {s : Sheet} {b b₁ b₂ : List ℕ} {r₁ r₂ : Reply} → Asked s b b₁ r₁ → Asked s b b₂ r₂
     → (r₁ ≡ r₂) × (b₁ ≡ b₂)
-asked-unique (yes h) a a′ =
-    let p = a .on-page (h .on) (h .reached) (h .gives) in
-    let q = a′ .on-page (h .on) (h .reached) (h .gives) in
-    (p .0 ∙ sym (q .0), p .1 ∙ sym (q .1))
-asked-unique (no n) a a′ = let p = a .no-sheet n in let q = a′ .no-sheet n in (p .0 ∙ sym (q .0), p .1 ∙ sym (q .1))
-
--- ---- what a refused call leaves
+asked-unique {s} {b} {b₁} {b₂} {r₁} {r₂} a a′ = go (sheet-dec s)
+  where
+    go : Dec (IsSheet s) → (r₁ ≡ r₂) × (b₁ ≡ b₂)
+    go (yes h) =
+        let p = a .on-page (h .on) (h .reached) (h .gives) in
+        let q = a′ .on-page (h .on) (h .reached) (h .gives) in
+        (p .0 ∙ sym (q .0), p .1 ∙ sym (q .1))
+    go (no n) = let p = a .no-sheet n in let q = a′ .no-sheet n in (p .0 ∙ sym (q .0), p .1 ∙ sym (q .1))
 
 pub opened-leaves : (s : Sheet) (w : ℕ) → (opened s w .number ≡ 0 → ⊥) → opened s w .sheet ≡ s
 unfolding opened
 opened-leaves s w n = rw (ne-eqb (refusal no-page (open-at w)) 0 n)
 
-pub answers-leaves : {s : Sheet} {c : Call} {r : Answer} → Dec (IsSheet s) → Answers s c r → (r .number ≡ 0 → ⊥) → r .sheet ≡ s
-answers-leaves {c} (yes h) a n =
-    let e = a .on-page (h .on) (h .reached) (h .gives) in
-    ap (λ (t : Answer). t .sheet) e
-    ∙ ap fresh (after-refused (h .on) c (λ q. n (ap (λ (t : Answer). t .number) e ∙ q)))
-    ∙ sym (h .gives)
-answers-leaves (no n) a k = ap (λ (t : Answer). t .sheet) (a .no-sheet n)
+pub answers-leaves : {s : Sheet} {c : Call} {r : Answer} → Answers s c r → (r .number ≡ 0 → ⊥) → r .sheet ≡ s
+answers-leaves {s} {c} {r} a k = go (sheet-dec s)
+  where
+    go : Dec (IsSheet s) → r .sheet ≡ s
+    go (yes h) =
+        let e = a .on-page (h .on) (h .reached) (h .gives) in
+        ap (λ (t : Answer). t .sheet) e
+        ∙ ap fresh (after-refused (h .on) c (λ q. k (ap (λ (t : Answer). t .number) e ∙ q)))
+        ∙ sym (h .gives)
+    go (no n) = ap (λ (t : Answer). t .sheet) (a .no-sheet n)
 
 -- no link is written where asking is refused
 reply-leaves : (pg : Page) (b : List ℕ) → (reply pg (length b) .number ≡ 0 → ⊥) → overlaid (chainOn pg (length b)) b ≡ b
@@ -53,8 +59,11 @@ reply-leaves pg b n = go (ℕ-discrete (refusal pg (ask (length b))) 0)
     go (yes e) = absurd (n (rw (eq-eqb (refusal pg (ask (length b))) 0 e)))
     go (no k) = rw (ne-eqb (refusal pg (ask (length b))) 0 k)
 
-pub asked-leaves : {s : Sheet} {b b′ : List ℕ} {r : Reply} → Dec (IsSheet s) → Asked s b b′ r → (r .number ≡ 0 → ⊥) → b′ ≡ b
-asked-leaves {b} (yes h) a n =
-    let e = a .on-page (h .on) (h .reached) (h .gives) in
-    e .1 ∙ reply-leaves (h .on) b (λ q. n (ap (λ (t : Reply). t .number) (e .0) ∙ q))
-asked-leaves (no n) a k = a .no-sheet n .1
+pub asked-leaves : {s : Sheet} {b b′ : List ℕ} {r : Reply} → Asked s b b′ r → (r .number ≡ 0 → ⊥) → b′ ≡ b
+asked-leaves {s} {b} {b′} {r} a k = go (sheet-dec s)
+  where
+    go : Dec (IsSheet s) → b′ ≡ b
+    go (yes h) =
+        let e = a .on-page (h .on) (h .reached) (h .gives) in
+        e .1 ∙ reply-leaves (h .on) b (λ q. k (ap (λ (t : Reply). t .number) (e .0) ∙ q))
+    go (no n) = a .no-sheet n .1

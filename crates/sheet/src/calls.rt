@@ -75,8 +75,8 @@ impl Sheet {
         sheet.rules[count] = rule;
         sheet.count = count + 1;
         let rules = sheet.rules;
-        let kept = verdict::solve(rules, count + 1, Width { bits: self.width });
-        sheet.kept = kept;
+        let found = verdict::solve(rules, count + 1, Width { bits: self.width });
+        sheet.kept = found;
         Answer { number: 0, sheet }
     }
 
@@ -115,12 +115,12 @@ impl Sheet {
         let count = sheet.marks[at];
         let old = self.rules;
         let rules = front(old, count);
-        let kept = verdict::solve(rules, count, Width { bits: self.width });
+        let left = verdict::solve(rules, count, Width { bits: self.width });
         sheet.rules = rules;
         sheet.count = count;
         sheet.marks[at] = 0;
         sheet.marked = at;
-        sheet.kept = kept;
+        sheet.kept = left;
         Answer { number: 0, sheet }
     }
 

@@ -2,6 +2,7 @@
 use mathlib.Core.Path.{sym, _∙_}
 use native.Mathlib.Omega.{arith}
 use borrow.Author.Needs.{needs}
+use Rattle.rule.specs.Meaning.{AllLawful}
 use Rattle.band.proofs.Law.{laid}
 use Rattle.rule_trial.proofs.same_run.Statement.{statement}
 use Rattle.rule_trial.proofs.same_run.Tie as tie
@@ -23,6 +24,15 @@ run-requires c κs =
     let o = c .before .before .before in
     let p = o .before .pre in
     (rw (c .top .ensures, o .of .ensures) (laid _ (p .0 .low) _ (p .1 .0)), omega arith, sym (c .before .before .holds .ensures) ∙ c .before .if1 .left)
+
+size-requires : tie.Need-size-requires
+size-requires c κs = search needs
+
+fill-requires : tie.Need-fill-requires
+unfolding AllLawful
+fill-requires c κs =
+    let p = c .before .before .before .before .before .before .before .pre in
+    (p .0, (omega arith, (p .1 .0, tt)))
 
 down-requires : tie.Need-down-requires
 down-requires c κs = search needs
@@ -48,6 +58,8 @@ same-run-spec =
     returns
     top-requires
     run-requires
+    size-requires
+    fill-requires
     down-requires
     up-requires
     is-next-requires
