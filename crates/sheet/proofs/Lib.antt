@@ -3,6 +3,7 @@ pub mod Asking
 pub mod Choices
 pub mod Demand
 pub mod Every
+pub mod Freed
 pub mod Fresh
 pub mod Lawful
 pub mod OnePage

@@ -1,0 +1,58 @@
+-- `parts` meets its contract. The loop's invariant: the 64 rules are not passed. The measure is those left. Assumes nothing.
+use Prim.Native.Nat.{_-_, _≤_}
+use borrow.Author.Needs.{needs}
+use Rattle.speed.proofs.parts.Statement.{statement}
+use Rattle.speed.proofs.parts.Tie as tie
+
+abbrev Inv-loop : tie.InvT-loop
+Inv-loop sheet₀ c1₀ i₀ sheet c1 i = i ≤ 64
+
+abbrev μ-loop : tie.MeasureT-loop
+μ-loop sheet₀ c1₀ i₀ sheet c1 i = 64 - i
+
+opened-requires : tie.Need-opened-requires Inv-loop μ-loop
+opened-requires c κs = search needs
+
+loop-holds : tie.Need-loop-holds Inv-loop μ-loop
+loop-holds c = search needs
+
+wrapping-add-u64-requires : tie.Need-wrapping-add-u64-requires Inv-loop μ-loop
+wrapping-add-u64-requires c κs = search needs
+
+sub-rule : tie.Need-sub-rule Inv-loop μ-loop
+sub-rule c = search needs
+
+rule-requires : tie.Need-rule-requires Inv-loop μ-loop
+rule-requires c κs = search needs
+
+added-requires : tie.Need-added-requires Inv-loop μ-loop
+added-requires c κs = search needs
+
+add-i : tie.Need-add-i Inv-loop μ-loop
+add-i c = search needs
+
+loop-less : tie.Need-loop-less Inv-loop μ-loop
+loop-less c = search needs
+
+loop-again : tie.Need-loop-again Inv-loop μ-loop
+loop-again c = search needs
+
+returns : tie.Need-returns Inv-loop μ-loop
+returns c = search needs
+
+pub parts-spec : {M : Type 1} → statement M
+parts-spec =
+    tie.close
+    (tie.spec
+    Inv-loop
+    μ-loop
+    opened-requires
+    loop-holds
+    wrapping-add-u64-requires
+    sub-rule
+    rule-requires
+    added-requires
+    add-i
+    loop-less
+    loop-again
+    returns)
