@@ -1,6 +1,9 @@
 // Which number is given where two refusals apply.
+use page_trial::answers::UNTOUCHED;
 use page_trial::answers::ask_refused;
+use page_trial::answers::kept;
 use page_trial::answers::refused;
+use page_trial::answers::replied;
 use page_trial::sheets::added;
 use page_trial::sheets::all_marks;
 use page_trial::sheets::full;
@@ -55,10 +58,25 @@ fn no_room(full: Sheet, all_marks: Sheet) -> Tally {
     adds(full, rule(3, 0, 5, 3), 17).plus(Tally::one(refused(all_marks.mark(), 17, all_marks)))
 }
 
-// 1 before 3, 4 and 5. No width has a second constant in form 4.
+// 1 before 3, 4, 5, 8 and 9. No width has a second constant in form 4.
 fn blank(blank: Sheet) -> Tally {
     adds(blank, rule(9, 0, 0, 0), 1).plus(adds(blank, rule(7, 1, 0, 0), 1))
         .plus(adds(blank, rule(4, 0, 0, 1), 1))
+        .plus(Tally::one(refused(blank.back(), 1, blank)))
+        .plus(Tally::one(short(blank)))
+}
+
+// Whether asking with two numbers lent is refused with 1. The chain of no rules wants three.
+fn short(blank: Sheet) -> bool {
+    let mut out = [UNTOUCHED; 2];
+    let reply = blank.ask(&mut out);
+    if !replied(reply, 1, kept(0, 0, 0), 0) {
+        return false;
+    }
+    if out[0] != UNTOUCHED {
+        return false;
+    }
+    out[1] == UNTOUCHED
 }
 
 // 3 before 4 and 5.

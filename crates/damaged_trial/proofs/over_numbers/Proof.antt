@@ -2,8 +2,8 @@
 -- Assumes nothing.
 use Prim.Native.Nat.{_-_, _≤_}
 use borrow.Author.Needs.{needs}
-use Rattle.sheet_trial.proofs.damaged.over_numbers.Statement.{statement}
-use Rattle.sheet_trial.proofs.damaged.over_numbers.Tie as tie
+use Rattle.damaged_trial.proofs.over_numbers.Statement.{statement}
+use Rattle.damaged_trial.proofs.over_numbers.Tie as tie
 
 abbrev Inv-loop : tie.InvT-loop
 Inv-loop sheet tally₀ at₀ tally at = at ≤ 278
