@@ -8,13 +8,12 @@
 // are accepted is up to the draws.
 mod case13;
 mod exchange;
-mod order;
 
 use page_trial::long;
 
 fn main() {
     case13::all().print(b"case13");
-    order::all().print(b"order");
+    order_trial::all().print(b"order");
     damaged_trial::all().print(b"damaged");
     exchange::all().print(b"exchange");
     long::all().print();
