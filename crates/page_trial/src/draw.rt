@@ -1,4 +1,5 @@
 // Calls drawn from a fixed seed, so that every run makes the same ones.
+use made_sheets::drawn::next;
 use rule::Rule;
 
 // A call on a sheet. Asking changes no sheet, and is not drawn.
@@ -7,13 +8,6 @@ pub enum Call {
     Add(Rule),
     Mark,
     Back,
-}
-
-// The next seed. The shifts 13, 7 and 17 go through all numbers but 0 before one comes again.
-pub fn next(seed: u64) -> u64 {
-    let a = seed ^ seed << 13;
-    let b = a ^ a >> 7;
-    b ^ b << 17
 }
 
 // The seed of the call after: a call draws on four numbers at most.

@@ -4,6 +4,7 @@ use crate::answers::same_sheet;
 use crate::draw;
 use crate::draw::Call;
 use crate::page::Page;
+use made_sheets::drawn::next;
 use sheet::Answer;
 use sheet::Sheet;
 use trial::tally::Tally;
@@ -79,7 +80,7 @@ impl Calls {
 pub fn all() -> Calls {
     let mut calls = Calls::none();
     for i in 0..SEQUENCES {
-        calls = calls.plus(sequence(draw::next(i + 1)));
+        calls = calls.plus(sequence(next(i + 1)));
     }
     calls
 }
