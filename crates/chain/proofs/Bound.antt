@@ -20,6 +20,7 @@ use Rattle.band.proofs.Law.{two-runs}
 use Rattle.chain.specs.Chain.{BitsLink, Fails, IsChain, Plain, RuleLink, nth}
 use Rattle.chain.specs.Chain.IsChain.{last, more}
 use Rattle.chain.specs.declared.Link.{Link}
+use Rattle.chain.specs.Links.{mostLinks}
 use Rattle.chain.proofs.Apart.{bits-once}
 
 -- the runs of a rule that end at p or later, none of a form 7 rule
@@ -99,5 +100,5 @@ module _ (w : ℕ) (rs : List Rule) where
       let rest = few-links c .1 (λ q d. bits-once w rs (l .to) q (b .1) h d) in
       (omega (arith, total-later w p (l .to) (b .1 .lacks .order) (b .1 .lacks .word) rs), λ n. absurd (n _ (b .1)))
 
-pub chain-bound : (w : ℕ) → 1 ≤ w → (rs : List Rule) → AllLawful w rs → (ls : List Link) → IsChain w rs 0 ls → length ls ≤ 4 * length rs + 1
+pub chain-bound : (w : ℕ) → 1 ≤ w → (rs : List Rule) → AllLawful w rs → (ls : List Link) → IsChain w rs 0 ls → length ls ≤ mostLinks (length rs)
 chain-bound w width rs l ls c = omega (arith, few-links w rs c .0, total-two w width rs l)

@@ -49,7 +49,7 @@ unfolding laid
 laid-more [] ms = refl
 laid-more (l ∷ ls) ms = ap (λ (ns : List ℕ). l .from ∷ l .to ∷ l .reason ∷ ns) (laid-more ls ms)
 
-laid-length : (ls : List Link) → length (laid ls) ≡ 3 * length ls
+pub laid-length : (ls : List Link) → length (laid ls) ≡ 3 * length ls
 unfolding laid
 laid-length [] = refl
 laid-length (l ∷ ls) = omega (arith, laid-length ls)

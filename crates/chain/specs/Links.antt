@@ -1,7 +1,7 @@
 -- The chain, step by step (01, "The chain").
 use mathlib.Core.Bool.{Bool, true, false, not, _&&_, cond}
 use mathlib.Core.List.{List, [], _∷_}
-use Prim.Native.Nat.{ℕ, zero, suc, _-_, _^_}
+use Prim.Native.Nat.{ℕ, zero, suc, _+_, _-_, _*_, _^_}
 use lib.Dec.{eqb, ltb}
 use Rattle.word.specs.declared.Found.{Found}
 use Rattle.word.specs.declared.Found.the-variants.{At, Nothing}
@@ -66,6 +66,14 @@ linksFrom w rs (suc k) p =
 -- "Start at p = 0." A link has at least one word, so there are at most 2^w of them.
 unfoldable pub links : ℕ → List Rule → List Link
 links w rs = linksFrom w rs (2 ^ w) 0
+
+-- "n rules give at most 4n + 1 links"
+abbrev pub mostLinks : ℕ → ℕ
+mostLinks n = 4 * n + 1
+
+-- what a chain buffer has to hold for n rules, "three a link"
+abbrev pub chainRoom : ℕ → ℕ
+chainRoom n = 3 * mostLinks n
 
 -- links as a lent buffer holds them, three numbers each
 unfoldable pub laid : List Link → List ℕ

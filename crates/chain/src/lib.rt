@@ -1,12 +1,12 @@
 // The chain of links from zero to the top word that shows why no word fits.
 ghost use mathlib.Core.Path.{_≡_};
 ghost use mathlib.Core.List.{_++_};
-ghost use Prim.Native.Nat.{_+_, _*_, _≤_};
+ghost use Prim.Native.Nat.{_*_, _≤_};
 ghost use lib.ListN.{drop, length, take};
 ghost use Rattle.word.specs.Word.{IsWidth};
 ghost use Rattle.rule.specs.Meaning.{AllLawful, RULES};
 ghost use Rattle.verdict.specs.Kept.{kept};
-ghost use Rattle.chain.specs.Links.{laid, links};
+ghost use Rattle.chain.specs.Links.{chainRoom, laid, links};
 use bits::Fixed;
 use rule::Rule;
 use word::Width;
@@ -32,7 +32,7 @@ pub fn write(rules: [Rule; Rule::LIMIT], n: usize, width: Width, out: &mut [u64]
     requires { ⌜ IsWidth (width .bits) ⌝ }
     requires { ⌜ (n ≤ RULES) × AllLawful (width .bits) (take n rules) ⌝ }
     requires { ⌜ kept (width .bits) (take n rules) .verdict ≡ 0 ⌝ }
-    requires { ⌜ 3 * (4 * n + 1) ≤ length (now out) ⌝ }
+    requires { ⌜ chainRoom n ≤ length (now out) ⌝ }
     ensures { λ r. ⌜ r ≡ length (links (width .bits) (take n rules)) ⌝ }
     ensures { λ r. ⌜ now (out .exit) ≡ laid (links (width .bits) (take n rules)) ++ drop (3 * r) (now (out .entry)) ⌝ }
 {

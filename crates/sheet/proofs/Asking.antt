@@ -11,10 +11,10 @@ use Rattle.verdict.specs.declared.Kept.{Kept}
 use Rattle.verdict.specs.Kept.{kept}
 use Rattle.chain.specs.declared.Link.{Link}
 use Rattle.chain.specs.Answer.{answer, chainFor}
-use Rattle.chain.specs.Links.{laid, links}
+use Rattle.chain.specs.Links.{chainRoom, laid, links}
 use Rattle.sheet.specs.declared.Reply.{Reply}
 use Rattle.sheet.specs.declared.Sheet.{Sheet}
-use Rattle.sheet.specs.Calls.{ask, chainRoom, refusal, rulesOf}
+use Rattle.sheet.specs.Calls.{ask, refusal, rulesOf}
 use Rattle.sheet.specs.Page.{Page, entriesOf, fresh, no-page, rulesOn, widthOf}
 use Rattle.sheet.specs.Stands.{Standing, Stands, blank-sheet, no-sheet, on-page}
 use Rattle.sheet.specs.Statements.{Asked, Reached, chainOn, overlaid, refuses, replies, reply, start}

@@ -1,12 +1,13 @@
 -- The calls, when each is refused, and what the clerk then writes (01, "When the desk says no").
 use mathlib.Core.Bool.{Bool, true, false, not, _&&_, _||_}
 use mathlib.Core.List.{List, [], _∷_}
-use Prim.Native.Nat.{ℕ, _+_, _*_}
+use Prim.Native.Nat.{ℕ}
 use lib.Dec.{eqb, leb, ltb}
 use lib.ListN.{length}
 use Rattle.word.specs.Word.{top}
 use Rattle.rule.specs.declared.Rule.{Rule}
 use Rattle.rule.specs.Meaning.{RULES}
+use Rattle.chain.specs.Links.{chainRoom}
 use Rattle.sheet.specs.Page.{MARKS, Page, WIDEST, a-mark, a-rule, entriesOf, marksOn, no-page, page, rulesOn, struck, widthOf}
 
 -- a call with what it is handed: of the buffer, only its length counts
@@ -48,10 +49,6 @@ badConstant w r =
     ltb (top w) (r .c1)
     || ltb (top w) (r .c2)
     || not (eqb (r .c2) 0) && (leb 4 (r .form) && leb (r .form) 6)
-
--- what a chain buffer has to hold for n rules
-abbrev pub chainRoom : ℕ → ℕ
-chainRoom n = 3 * (4 * n + 1)
 
 -- the rules and the marks in force
 unfoldable pub rulesOf : Page → List Rule
