@@ -30,7 +30,7 @@ after-reached {pg} h c = go (ℕ-discrete (refusal pg c) 0)
     go (no n) = rw (after-refused pg c n) h
 
 module _ {s : Sheet} (pg : Page) (e : s ≡ fresh pg) where
-  opened-sheet : (w : ℕ) → opened s w .sheet ≡ fresh (after pg (open-at w))
+  pub opened-sheet : (w : ℕ) → opened s w .sheet ≡ fresh (after pg (open-at w))
   unfolding opened after refusal grounds written
   opened-sheet w = go (ℕ-discrete (refusal pg (open-at w)) 0)
     where
