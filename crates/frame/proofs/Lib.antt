@@ -1,0 +1,5 @@
+pub mod Lines
+pub mod OnPage
+pub mod Rows
+pub mod Saying
+pub mod Unique

@@ -1,0 +1,87 @@
+-- From what a call promises to what its line's answer promises. Assumes nothing.
+use mathlib.Core.Path.{_≡_, refl, sym, ap, _∙_}
+use mathlib.Core.List.{List, _++_}
+use Prim.Native.Nat.{ℕ, _+_, _*_, _≤_}
+use native.Mathlib.Decide.{ℕ-discrete}
+use native.Mathlib.Omega.{arith}
+use borrow.Author.Tests.{eq-eqb, ne-eqb}
+use lib.ListN.{drop, length, length-append, length-drop}
+use Rattle.rule.specs.Meaning.{RULES}
+use Rattle.chain.specs.declared.Link.{Link}
+use Rattle.chain.specs.Links.{chainRoom, laid, mostLinks}
+use Rattle.chain.proofs.Walk.{laid-length}
+use Rattle.sheet.specs.declared.Answer.{Answer}
+use Rattle.sheet.specs.declared.Reply.{Reply}
+use Rattle.sheet.specs.declared.Sheet.{Sheet}
+use Rattle.sheet.specs.Calls.{ask, refusal}
+use Rattle.sheet.specs.Page.{Page}
+use Rattle.sheet.specs.Statements.{Asked, IsSheet, chainOn, opened, overlaid, reply}
+use Rattle.sheet.proofs.Tested.{sheet-dec}
+use Rattle.frame.specs.declared.Answered.{Answered}
+use Rattle.frame.specs.declared.Frame.{Frame}
+use Rattle.frame.specs.declared.Frame.the-variants.{Open}
+use Rattle.frame.specs.Answers.{ROOM, askLines, keptLine, linkLines, numberLine}
+use Rattle.frame.specs.Frames.{frameOf}
+use Rattle.frame.proofs.Lines.{length-kept, length-links, length-number}
+use Rattle.frame.specs.Statements.{AskLaid, Laid, LineAnswered, Said, asks, opens}
+
+pub line-answered : {s : Sheet} (line : List ℕ) {b b′ : List ℕ} {at : ℕ} (r : Answered) {f : Frame} {t : Sheet} {bytes : List ℕ}
+    → f ≡ frameOf line → Said s f t bytes → r .sheet ≡ t → Laid b at bytes b′ (r .end) → length bytes ≤ ROOM
+    → LineAnswered s line b at b′ r
+line-answered line r {bytes} e h q l k = record { bytes = bytes; said = rw (sym e, q) h; laid = l; fits = k }
+
+pub said-open : {s : Sheet} (w : ℕ) {r : Answer} → r ≡ opened s w → Said s (Open w) (r .sheet) (numberLine (r .number))
+said-open w e = rw e (opens w)
+
+pub number-fits : (n : ℕ) → length (numberLine n) ≤ ROOM
+number-fits n = omega (arith, length-number n)
+
+-- ---- asking
+
+-- as many links are told as the chain has
+told : (pg : Page) (m : ℕ) → reply pg m .links ≡ length (chainOn pg m)
+unfolding reply chainOn
+told pg m = go (ℕ-discrete (refusal pg (ask m)) 0)
+  where
+    go : Dec (refusal pg (ask m) ≡ 0) → reply pg m .links ≡ length (chainOn pg m)
+    go (yes e) = rw (eq-eqb (refusal pg (ask m)) 0 e)
+    go (no n) = rw (ne-eqb (refusal pg (ask m)) 0 n)
+
+-- links that are laid over a buffer fit in it
+laid-fit : (ls : List Link) (b : List ℕ) → length (overlaid ls b) ≡ length b → 3 * length ls ≤ length b
+laid-fit ls b e =
+    omega (arith, laid-length ls, length-drop (3 * length ls) b, sym (length-append (laid ls) (drop (3 * length ls) b)) ∙ e)
+
+pub few-links : {s : Sheet} {b b′ : List ℕ} {r : Reply} → Asked s b b′ r → length b ≡ chainRoom RULES → length b′ ≡ chainRoom RULES
+    → r .links ≤ mostLinks RULES
+few-links {s} {b} {b′} {r} a e e′ = go (sheet-dec s)
+  where
+    go : Dec (IsSheet s) → r .links ≤ mostLinks RULES
+    go (yes h) =
+        let p = a .on-page (h .on) (h .reached) (h .gives) in
+        let ls = chainOn (h .on) (length b) in
+        let n : r .links ≡ length ls = ap (λ (t : Reply). t .links) (p .0) ∙ told (h .on) (length b) in
+        omega (arith, laid-fit ls b (ap length (sym (p .1)) ∙ e′ ∙ sym e))
+    go (no n) = let z : r .links ≡ 0 = ap (λ (t : Reply). t .links) (a .no-sheet n .0) in omega arith
+
+module _ {s : Sheet} {c c′ : List ℕ} {r : Reply} (e : length c ≡ chainRoom RULES) (a : Asked s c c′ r) {b b′ : List ℕ} {at end : ℕ} where
+  pub ask-refused : (r .number ≡ 0 → ⊥) → Laid b at (numberLine (r .number)) b′ end → AskLaid s b at b′ end
+  unfolding askLines
+  ask-refused n l =
+      record {
+        bytes = askLines r c′;
+        said = asks c c′ r e a;
+        laid = rw (ne-eqb (r .number) 0 n) l;
+        fits = rw (ne-eqb (r .number) 0 n) (omega (arith, length-number (r .number)));
+      }
+
+  pub ask-answered : r .number ≡ 0 → r .links ≤ mostLinks RULES → Laid b at (keptLine (r .kept) ++ linkLines (r .links) c′) b′ end
+      → AskLaid s b at b′ end
+  unfolding askLines
+  ask-answered n few l =
+      record {
+        bytes = askLines r c′;
+        said = asks c c′ r e a;
+        laid = rw (eq-eqb (r .number) 0 n) l;
+        fits = rw (eq-eqb (r .number) 0 n, length-append (keptLine (r .kept)) _, length-kept, length-links) (omega arith);
+      }

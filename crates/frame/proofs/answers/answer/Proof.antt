@@ -1,0 +1,147 @@
+-- `answer` meets its contract: each frame's call is made, and what it promises is written. Assumes nothing.
+use mathlib.Core.Path.{refl, sym, _∙_}
+use Rattle.frame.specs.Statements.{adds, goes-back, marks, no-frame}
+use Rattle.frame.proofs.Saying.{line-answered, number-fits, said-open}
+use borrow.Author.Needs.{needs}
+use Rattle.frame.proofs.answers.answer.Statement.{statement}
+use Rattle.frame.proofs.answers.answer.Tie as tie
+
+decode-requires : tie.Need-decode-requires
+decode-requires c κs = search needs
+
+enum-known-frame : tie.Need-enum-known-frame
+enum-known-frame c = search needs
+
+open-requires : tie.Need-open-requires
+open-requires c κs = search needs
+
+said-requires : tie.Need-said-requires
+said-requires c κs = search needs
+
+enum-known-frame-2 : tie.Need-enum-known-frame-2
+enum-known-frame-2 c = search needs
+
+add-requires : tie.Need-add-requires
+add-requires c κs = search needs
+
+said-requires-2 : tie.Need-said-requires-2
+said-requires-2 c κs = search needs
+
+enum-told : tie.Need-enum-told
+enum-told c = search needs
+
+mark-requires : tie.Need-mark-requires
+mark-requires c κs = search needs
+
+said-requires-3 : tie.Need-said-requires-3
+said-requires-3 c κs = search needs
+
+enum-told-2 : tie.Need-enum-told-2
+enum-told-2 c = search needs
+
+back-requires : tie.Need-back-requires
+back-requires c κs = search needs
+
+said-requires-4 : tie.Need-said-requires-4
+said-requires-4 c κs = search needs
+
+enum-told-3 : tie.Need-enum-told-3
+enum-told-3 c = search needs
+
+asked-requires : tie.Need-asked-requires
+asked-requires c κs = search needs
+
+enum-told-4 : tie.Need-enum-told-4
+enum-told-4 c = search needs
+
+put-number-requires : tie.Need-put-number-requires
+put-number-requires c κs = search needs
+
+same-length : tie.Need-same-length
+same-length c = search needs
+
+returns : tie.Need-returns
+returns c =
+    let f = c .before .before .before .before .before .before in
+    let e = sym (f .frame .given .1) ∙ f .before .before .decode .ensures in
+    line-answered _ _ e (said-open _ (c .before .before .before .before .open .ensures)) (c .before .before .said .ensures .0) (c .before .before .said .ensures .1) (number-fits _)
+
+same-length-2 : tie.Need-same-length-2
+same-length-2 c = search needs
+
+returns-2 : tie.Need-returns-2
+returns-2 c =
+    let f = c .before .before .before .before .before .before in
+    let e = sym (f .frame2 .given .1) ∙ f .before .before .decode .ensures in
+    line-answered _ _ e (adds _ _ (c .before .before .before .before .add .ensures)) (c .before .before .said2 .ensures .0) (c .before .before .said2 .ensures .1) (number-fits _)
+
+same-length-3 : tie.Need-same-length-3
+same-length-3 c = search needs
+
+returns-3 : tie.Need-returns-3
+returns-3 c =
+    let f = c .before .before .before .before .before in
+    let e = sym (f .enum-told .given .1) ∙ f .before .before .decode .ensures in
+    line-answered _ _ e (marks _ (c .before .before .before .before .mark .ensures)) (c .before .before .said3 .ensures .0) (c .before .before .said3 .ensures .1) (number-fits _)
+
+same-length-4 : tie.Need-same-length-4
+same-length-4 c = search needs
+
+returns-4 : tie.Need-returns-4
+returns-4 c =
+    let f = c .before .before .before .before .before in
+    let e = sym (f .enum-told2 .given .1) ∙ f .before .before .decode .ensures in
+    line-answered _ _ e (goes-back _ (c .before .before .before .before .back .ensures)) (c .before .before .said4 .ensures .0) (c .before .before .said4 .ensures .1) (number-fits _)
+
+same-length-5 : tie.Need-same-length-5
+same-length-5 c = search needs
+
+returns-5 : tie.Need-returns-5
+returns-5 c =
+    let f = c .before .before .before .before in
+    let e = sym (f .enum-told3 .given .1) ∙ f .before .before .decode .ensures in
+    let a = c .before .before .asked .ensures in
+    line-answered _ _ e (a .said) refl (a .laid) (a .fits)
+
+same-length-6 : tie.Need-same-length-6
+same-length-6 c = search needs
+
+returns-6 : tie.Need-returns-6
+returns-6 c =
+    let f = c .before .before .before .before in
+    let e = sym (f .enum-told4 .given .1) ∙ f .before .before .decode .ensures in
+    line-answered _ _ e no-frame refl (c .before .before .put-number .ensures) (number-fits _)
+
+pub answer-spec : {M : Type 1} → statement M
+answer-spec =
+    tie.close
+    (tie.spec
+    decode-requires
+    enum-known-frame
+    open-requires
+    said-requires
+    enum-known-frame-2
+    add-requires
+    said-requires-2
+    enum-told
+    mark-requires
+    said-requires-3
+    enum-told-2
+    back-requires
+    said-requires-4
+    enum-told-3
+    asked-requires
+    enum-told-4
+    put-number-requires
+    same-length
+    returns
+    same-length-2
+    returns-2
+    same-length-3
+    returns-3
+    same-length-4
+    returns-4
+    same-length-5
+    returns-5
+    same-length-6
+    returns-6)

@@ -1,0 +1,36 @@
+-- The frames (01, "Lines of hexadecimal").
+use mathlib.Core.Bool.{Bool, _&&_, cond}
+use mathlib.Core.List.{List, _++_}
+use Prim.Native.Nat.{ℕ, _<_, _^_}
+use lib.Dec.{eqb}
+use lib.ListN.{length, take}
+use lib.Seq.{slice}
+use Rattle.hex.specs.Hex.{allDigits, hex, number}
+use Rattle.rule.specs.declared.Rule.{Rule}
+use Rattle.rule.specs.Meaning.{rule}
+use Rattle.frame.specs.declared.Frame.{Frame}
+use Rattle.frame.specs.declared.Frame.the-variants.{Add, Ask, Back, Mark, NoFrame, Open}
+
+-- the most digits that a frame has
+abbrev pub LONGEST : ℕ
+LONGEST = 22
+
+-- the rule of an add: after its code "form(2) sense(2) c1(8) c2(8)"
+unfoldable pub ruleOf : List ℕ → Rule
+ruleOf l = rule (number (slice 2 4 l)) (number (slice 4 6 l)) (number (slice 6 14 l)) (number (slice 14 22 l))
+
+-- "`03` mark. `04` back. `05` ask."
+unfoldable pub bare : ℕ → Frame
+bare code = cond (eqb code 3) Mark (cond (eqb code 4) Back (cond (eqb code 5) Ask NoFrame))
+
+-- a line of so many digits, of which the first two write a code
+unfoldable pub byDigits : (n code : ℕ) → List ℕ → Frame
+byDigits n code l =
+    cond (eqb n 2) (bare code)
+    (cond (eqb n 4 && eqb code 1) (Open (number (slice 2 4 l)))
+    (cond (eqb n LONGEST && eqb code 2) (Add (ruleOf l))
+    NoFrame))
+
+-- the frame that a line is: digits alone, and as many as its code asks for
+unfoldable pub frameOf : List ℕ → Frame
+frameOf l = cond (allDigits l) (byDigits (length l) (number (take 2 l)) l) NoFrame

@@ -1,0 +1,32 @@
+// Lines of hexadecimal: which frame a line is, and how a call's answer is written.
+mod answers;
+mod reading;
+
+pub use answers::answer;
+pub use reading::decode;
+use rule::Rule;
+use sheet::Sheet;
+
+// What a line asks for.
+pub enum Frame {
+    Open(u64),
+    Add(Rule),
+    Mark,
+    Back,
+    Ask,
+    NoFrame,
+}
+
+// The sheet after a line, and where its answer ends in the lent buffer.
+pub struct Answered {
+    pub sheet: Sheet,
+    pub end: usize,
+}
+
+impl Frame {
+    // The most digits that a frame has.
+    pub const LONGEST: usize = 22;
+
+    // How long an answer can be: a line on the verdict, and one for each link, of 21 bytes each.
+    pub const ROOM: usize = 21 * (4 * Rule::LIMIT + 2);
+}
