@@ -1,0 +1,6 @@
+pub mod Cut
+pub mod Held
+pub mod Parts
+pub mod Taking
+pub mod Whole
+pub mod Worked

@@ -1,0 +1,31 @@
+-- 01's whole exchange, of the definition itself, by computing; and the rules on where lines end. Assumes nothing.
+use mathlib.Core.Path.{_≡_, refl}
+use mathlib.Core.List.{[], _∷_, map}
+use Prim.Native.String.{String}
+use Rattle.word.specs.Word.{half, minus, plus, signed, top}
+use Rattle.word.specs.Search.{climb, first, last}
+use Rattle.rule.specs.Meaning.{fits, meets, meets7, reach, rows, written}
+use Rattle.verdict.specs.Kept.{kept, verdictOf}
+use Rattle.chain.specs.Answer.{answer, chainFor}
+use Rattle.chain.specs.Links.{before, blocks, further, furthest, furthestOf, gap, linkAt, linkBy, links, linksFrom}
+use Rattle.sheet.specs.Calls.{after, badConstant, badForm, badSense, grounds, isBlank, lowest, marksOf, refusal, rulesOf, written as writes}
+use Rattle.sheet.specs.Page.{entriesOf, marksOn, rulesOn, struck, widthOf}
+use Rattle.hex.specs.Hex.{allDigits, glyph, hex, isDigit, number, numberFrom, value}
+use Rattle.frame.specs.Answers.{chainLines, keptLine, linkLine, numberLine}
+use Rattle.frame.specs.Frames.{bare, byDigits, frameOf, ruleOf}
+use Rattle.frame.specs.Pages.{answerTo, pageAfter}
+use Rattle.exchange.specs.Exchange.{answersTo, exchange, inFront, lines}
+use Rattle.exchange.specs.Paper.{paper-input, paper-output}
+use Rattle.exchange.specs.Text.{bytesOf}
+
+pub paper : exchange (bytesOf paper-input) ≡ bytesOf paper-output
+unfolding
+    exchange answersTo answerTo pageAfter lines inFront bytesOf frameOf byDigits bare ruleOf allDigits isDigit number numberFrom value numberLine keptLine linkLine chainLines hex glyph after refusal lowest grounds isBlank badForm badSense badConstant rulesOf marksOf writes entriesOf widthOf rulesOn marksOn struck answer chainFor kept verdictOf links linksFrom linkAt linkBy gap before furthest furthestOf further blocks reach meets7 fits meets written rows first last climb top half plus minus signed
+paper = refl
+
+-- "Empty input gives empty output; an empty line is answered with 10"; "the last may lack it, and a final byte 10 opens no
+-- further line"
+pub endings : map (λ (t : String). lines (bytesOf t)) ("" ∷ "\n" ∷ "a" ∷ "a\n" ∷ "a\n\n" ∷ [])
+    ≡ [] ∷ ([] ∷ []) ∷ ((97 ∷ []) ∷ []) ∷ ((97 ∷ []) ∷ []) ∷ ((97 ∷ []) ∷ [] ∷ []) ∷ []
+unfolding lines inFront bytesOf
+endings = refl

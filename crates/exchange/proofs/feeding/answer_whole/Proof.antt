@@ -1,0 +1,51 @@
+-- `answer_whole` meets its contract: where nothing is held, the line is the whole line. Assumes nothing.
+use mathlib.Core.Path.{sym}
+use native.Mathlib.Omega.{arith}
+use Rattle.exchange.specs.Begun.{begins}
+use Rattle.exchange.proofs.Held.{first-frame}
+use borrow.Author.Needs.{needs}
+use Rattle.exchange.proofs.feeding.answer_whole.Statement.{statement}
+use Rattle.exchange.proofs.feeding.answer_whole.Tie as tie
+
+answer-requires : tie.Need-answer-requires
+answer-requires c κs = search needs
+
+same-length : tie.Need-same-length
+same-length c = search needs
+
+returns : tie.Need-returns
+returns c =
+    let a = c .before .before .before .before .before .before .before .args in
+    let r = c .before .before .answer .ensures in
+    record {
+      bytes = r .bytes;
+      said = rw (first-frame (begins (a .bytes) (a .len)) (a .line .now) (omega arith) (c .before .before .before .before .if1 .taken)) (r .said);
+      laid = r .laid;
+      fits = r .fits;
+    }
+
+with-requires : tie.Need-with-requires
+with-requires c κs = search needs
+
+answer-held-requires : tie.Need-answer-held-requires
+answer-held-requires c κs = search needs
+
+same-length-2 : tie.Need-same-length-2
+same-length-2 c = search needs
+
+returns-2 : tie.Need-returns-2
+returns-2 c =
+    let r = c .before .before .answer-held .ensures in
+    record { bytes = r .bytes; said = rw (sym (c .before .before .before .before .before .with .ensures)) (r .said); laid = r .laid; fits = r .fits }
+
+pub answer-whole-spec : {M : Type 1} → statement M
+answer-whole-spec =
+    tie.close
+    (tie.spec
+    answer-requires
+    same-length
+    returns
+    with-requires
+    answer-held-requires
+    same-length-2
+    returns-2)

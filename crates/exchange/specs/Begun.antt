@@ -1,0 +1,35 @@
+-- A line that is not finished, as it is carried from one part of the input to the next.
+use mathlib.Core.Bool.{cond}
+use mathlib.Core.List.{List, [], _∷_}
+use Prim.Native.Nat.{ℕ, suc}
+use lib.Dec.{ltb}
+use lib.ListN.{replicate, set, take}
+use Rattle.sheet.specs.declared.Sheet.{Sheet}
+use Rattle.frame.specs.Frames.{LONGEST}
+use Rattle.exchange.specs.declared.Begun.{Begun}
+use Rattle.exchange.specs.declared.Desk.{Desk}
+
+-- one byte more than a frame can have shows that a line is none
+abbrev pub HELD : ℕ
+HELD = suc LONGEST
+
+abbrev pub begins : List ℕ → ℕ → Begun
+begins bs n = record { bytes = bs; len = n }
+
+abbrev pub none : Begun
+none = begins (replicate HELD 0) 0
+
+-- one byte more; where enough are held, it is let go
+unfoldable pub put : Begun → ℕ → Begun
+put g b = cond (ltb (g .len) HELD) (begins (set (g .bytes) (g .len) b) (suc (g .len))) g
+
+unfoldable pub joined : Begun → List ℕ → Begun
+joined g [] = g
+joined g (b ∷ bs) = joined (put g b) bs
+
+-- the bytes that are held
+unfoldable pub begunLine : Begun → List ℕ
+begunLine g = take (g .len) (g .bytes)
+
+abbrev pub desk : Sheet → Begun → Desk
+desk s g = record { sheet = s; begun = g }

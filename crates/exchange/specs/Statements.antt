@@ -1,0 +1,64 @@
+-- What the exchange promises of a part of the input.
+use mathlib.Core.Path.{_≡_}
+use mathlib.Core.List.{List, [], _∷_, _++_}
+use Prim.Native.Nat.{ℕ, _+_, _-_, _≤_, _<_}
+use lib.ListN.{drop, length}
+use Rattle.hex.specs.Hex.{Written}
+use Rattle.sheet.specs.declared.Sheet.{Sheet}
+use Rattle.frame.specs.declared.Answered.{Answered}
+use Rattle.frame.specs.Answers.{NEWLINE, ROOM}
+use Rattle.frame.specs.Frames.{frameOf}
+use Rattle.frame.specs.Statements.{Laid, Said}
+use Rattle.exchange.specs.declared.Begun.{Begun}
+use Rattle.exchange.specs.declared.Desk.{Desk}
+use Rattle.exchange.specs.declared.Fed.{Fed}
+use Rattle.exchange.specs.Begun.{begunLine, desk, joined, none, put}
+use Rattle.exchange.specs.Lines.{withEnd}
+
+-- what the line that a desk holds gets
+abbrev pub LineSaid : Desk → Sheet → List ℕ → Type 0
+LineSaid d t bytes = Said (d .sheet) (frameOf (begunLine (d .begun))) t bytes
+
+-- Bytes go in, one after the other: a byte 10 ends the line, which gets its answer; any other byte goes to the line.
+pub data Takes : Desk → List ℕ → Desk → List ℕ → Type 0 where
+  nothing : {d : Desk} → Takes d [] d []
+  ends-line : {d e : Desk} {t : Sheet} {b : ℕ} {bs o p : List ℕ} → b ≡ NEWLINE → LineSaid d t o → Takes (desk t none) bs e p
+      → Takes d (b ∷ bs) e (o ++ p)
+  goes-on : {d e : Desk} {b : ℕ} {bs o : List ℕ} → (b ≡ NEWLINE → ⊥) → Takes (desk (d .sheet) (put (d .begun) b)) bs e o → Takes d (b ∷ bs) e o
+
+-- A part goes in, line by line, while there is room for an answer.
+pub data Feeds : (room : ℕ) → Desk → List ℕ → Desk → (used : ℕ) → List ℕ → Type 0 where
+  all-used : {m : ℕ} {d : Desk} → Feeds m d [] d 0 []
+  no-room : {m : ℕ} {d : Desk} {bs : List ℕ} → m < ROOM → Feeds m d bs d 0 []
+  a-line : {m n : ℕ} {d e f : Desk} {bs o p : List ℕ} → ROOM ≤ m → 0 < length bs → Takes d (withEnd bs) e o
+      → Feeds (m - length o) e (drop (length (withEnd bs)) bs) f n p → Feeds m d bs f (length (withEnd bs) + n) (o ++ p)
+
+pub record FedSo (d : Desk) (part b b′ : List ℕ) (r : Fed) : Type 0 where
+  pub bytes : List ℕ
+  pub feeds : Feeds (length b) d part (r .desk) (r .used) bytes
+  pub laid : Laid b 0 bytes b′ (r .written)
+
+-- "the last may lack it, and a final byte 10 opens no further line": at the end a line is answered where it has a byte
+pub data Ends (d : Desk) : List ℕ → Type 0 where
+  no-line : d .begun .len ≡ 0 → Ends d []
+  last-line : {t : Sheet} {bytes : List ℕ} → (d .begun .len ≡ 0 → ⊥) → LineSaid d t bytes → Ends d bytes
+
+pub record Finished (d : Desk) (b b′ : List ℕ) (n : ℕ) : Type 0 where
+  pub bytes : List ℕ
+  pub ends : Ends d bytes
+  pub laid : Laid b 0 bytes b′ n
+
+-- one turn: a part's next line goes in
+pub record Turned (d : Desk) (part : List ℕ) (from : ℕ) (b : List ℕ) (at : ℕ) (b′ : List ℕ) (e : Desk) (next end : ℕ) : Type 0 where
+  pub bytes : List ℕ
+  pub takes : Takes d (withEnd (drop from part)) e bytes
+  pub laid : Laid b at bytes b′ end
+  pub fits : length bytes ≤ ROOM
+  pub goes : next ≡ from + length (withEnd (drop from part))
+
+-- a line that was begun, and ends here
+pub record WholeAnswered (s : Sheet) (g : Begun) (line b : List ℕ) (at : ℕ) (b′ : List ℕ) (r : Answered) : Type 0 where
+  pub bytes : List ℕ
+  pub said : LineSaid (desk s (joined g line)) (r .sheet) bytes
+  pub laid : Laid b at bytes b′ (r .end)
+  pub fits : length bytes ≤ ROOM

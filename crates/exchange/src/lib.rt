@@ -1,0 +1,33 @@
+// The exchange of lines and answers, a part of the input at a time.
+
+mod feeding;
+mod holding;
+mod lines;
+
+use frame::Frame;
+pub use lines::line_at;
+use sheet::Sheet;
+
+// A line that is not finished: as many of its first bytes as tell which frame it is. Where it has more bytes than a frame,
+// one more than those is kept.
+pub struct Begun {
+    pub bytes: [u8; Begun::HELD],
+    pub len: usize,
+}
+
+// What is carried from one part of the input to the next.
+pub struct Desk {
+    pub sheet: Sheet,
+    pub begun: Begun,
+}
+
+// The desk after a part, how much of the part was used, and how many bytes were written.
+pub struct Fed {
+    pub desk: Desk,
+    pub used: usize,
+    pub written: usize,
+}
+
+impl Begun {
+    pub const HELD: usize = Frame::LONGEST + 1;
+}
