@@ -16,7 +16,7 @@ use Rattle.exchange.specs.declared.Fed.{Fed}
 use Rattle.exchange.specs.Begun.{desk, joined, none}
 use Rattle.exchange.specs.Lines.{lineOf, withEnd}
 use Rattle.exchange.specs.Statements.{FedSo, Feeds, Turned, WholeAnswered, a-line, all-used, no-room}
-use Rattle.exchange.proofs.Taking.{ended, line-fits, unended}
+use Rattle.exchange.proofs.Taking.{end-fits, end-some, ended, line-fits, unended}
 
 -- ---- one turn
 
@@ -91,3 +91,15 @@ pub fed-full : {d : Desk} {part b b′ : List ℕ} (r : Fed) → Midway d part b
     → length b - r .written < ROOM → FedSo d part b b′ r
 fed-full r m h =
     record { bytes = m .bytes; feeds = feeds-as refl refl (omega arith) (append-nil (m .bytes)) (m .rest (no-room h)); laid = m .laid }
+
+-- ---- how much of a part is used
+
+pub feeds-fit : {m n : ℕ} {d e : Desk} {bs o : List ℕ} → Feeds m d bs e n o → n ≤ length bs
+feeds-fit all-used = omega arith
+feeds-fit (no-room h) = omega arith
+feeds-fit {bs} (a-line r h t k) = omega (arith, feeds-fit k, length-drop (length (withEnd bs)) bs, end-fits bs)
+
+pub feeds-some : {m n : ℕ} {d e : Desk} {bs o : List ℕ} → Feeds m d bs e n o → ROOM ≤ m → 0 < length bs → 0 < n
+feeds-some all-used r h = omega arith
+feeds-some (no-room s) r h = omega arith
+feeds-some {bs} (a-line s i t k) r h = omega (arith, end-some bs h)
