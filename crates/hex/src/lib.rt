@@ -85,10 +85,10 @@ fn value(b: u8) -> u64
     if b <= 57 {
         return b as u64 - 48;
     }
-    if b < 97 {
+    if 102 < b {
         return 0;
     }
-    if b <= 102 {
+    if 97 <= b {
         return b as u64 - 87;
     }
     0

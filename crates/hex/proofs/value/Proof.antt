@@ -21,7 +21,7 @@ returns-3 : tie.Need-returns-3
 unfolding value
 returns-3 c =
     let b = c .before .before .before .args .b in
-    (rw (le-leb 48 b (omega arith), lt-leb b 57 (omega arith), lt-leb 97 b (omega arith)), omega arith)
+    (rw (le-leb 48 b (omega arith), lt-leb b 57 (omega arith), le-leb 97 b (omega arith), lt-leb b 102 (omega arith)), omega arith)
 
 sub-result-2 : tie.Need-sub-result-2
 sub-result-2 c = search needs
@@ -36,7 +36,7 @@ returns-5 : tie.Need-returns-5
 unfolding value
 returns-5 c =
     let b = c .before .before .before .before .args .b in
-    (rw (le-leb 48 b (omega arith), lt-leb b 57 (omega arith), le-leb 97 b (omega arith), lt-leb b 102 (omega arith)), omega arith)
+    (rw (le-leb 48 b (omega arith), lt-leb b 57 (omega arith), lt-leb 97 b (omega arith)), omega arith)
 
 pub value-spec : {M : Type 1} → statement M
 value-spec =
