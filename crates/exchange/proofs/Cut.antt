@@ -1,10 +1,10 @@
 -- However the input is cut into parts, the desk says the same. Bytes that go in one part after the other go in together; what a
 -- feeding says is what the bytes that it used get. Assumes nothing.
 use mathlib.Core.Path.{_≡_, refl, sym, ap, ap₂, _∙_, subst}
-use mathlib.Core.List.{List, [], _∷_, _++_, append-assoc}
-use Prim.Native.Nat.{ℕ, _+_, _-_, _≤_, _<_}
+use mathlib.Core.List.{List, _++_, append-assoc}
+use Prim.Native.Nat.{ℕ, _+_, _-_}
 use native.Mathlib.Omega.{arith}
-use lib.ListN.{drop, length, length-drop, take}
+use lib.ListN.{drop, length, take}
 use lib.Seq.{take-add}
 use Rattle.sheet.specs.declared.Sheet.{Sheet}
 use Rattle.frame.proofs.Unique.{laid-unique, said-unique}

@@ -1,11 +1,10 @@
 -- A part goes in by turns, a line each; what a feeding has come to can be gone on from. Assumes nothing.
 use mathlib.Core.Path.{_≡_, refl, sym, ap, _∙_}
-use mathlib.Core.List.{List, [], _∷_, _++_, append-assoc, append-nil}
-use Prim.Native.Nat.{ℕ, suc, _+_, _-_, _≤_, _<_}
+use mathlib.Core.List.{List, [], _++_, append-assoc, append-nil}
+use Prim.Native.Nat.{ℕ, _+_, _-_, _≤_, _<_}
 use native.Mathlib.Omega.{arith}
 use lib.ListN.{drop, drop-of-length-le, length, length-drop}
 use lib.Seq.{drop-drop}
-use Rattle.sheet.specs.declared.Sheet.{Sheet}
 use Rattle.frame.specs.declared.Answered.{Answered}
 use Rattle.frame.specs.Answers.{ROOM}
 use Rattle.frame.specs.Statements.{Laid}

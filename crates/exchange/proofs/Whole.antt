@@ -8,14 +8,13 @@ use borrow.Author.Tests.{eq-eqb, ne-eqb}
 use lib.ListN.{drop, length, length-take, take}
 use lib.Seq.{sets-eq, take-append-seam}
 use Rattle.sheet.specs.declared.Sheet.{Sheet}
-use Rattle.sheet.specs.Page.{Page, blank, fresh, no-page}
+use Rattle.sheet.specs.Page.{Page, blank, fresh}
 use Rattle.sheet.specs.Statements.{Reached, start}
 use Rattle.frame.specs.Answers.{NEWLINE}
 use Rattle.frame.specs.Frames.{LONGEST, frameOf}
 use Rattle.frame.specs.Pages.{answerTo, pageAfter}
 use Rattle.frame.specs.Statements.{Laid}
 use Rattle.frame.proofs.OnPage.{page-answers, page-reached}
-use Rattle.exchange.specs.declared.Begun.{Begun}
 use Rattle.exchange.specs.declared.Desk.{Desk}
 use Rattle.exchange.specs.declared.Fed.{Fed}
 use Rattle.exchange.specs.Begun.{HELD, begunLine, desk, none, put}

@@ -2,8 +2,8 @@
 use mathlib.Core.Path.{_≡_, refl}
 use mathlib.Core.List.{[], _∷_, map}
 use Prim.Native.String.{String}
-use Rattle.word.specs.Word.{half, minus, plus, signed, top}
 use Rattle.word.specs.Search.{climb, first, last}
+use Rattle.word.specs.Word.{half, minus, plus, signed, top}
 use Rattle.rule.specs.Meaning.{fits, meets, meets7, reach, rows, written}
 use Rattle.verdict.specs.Kept.{kept, verdictOf}
 use Rattle.chain.specs.Answer.{answer, chainFor}

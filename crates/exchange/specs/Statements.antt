@@ -3,7 +3,6 @@ use mathlib.Core.Path.{_≡_}
 use mathlib.Core.List.{List, [], _∷_, _++_}
 use Prim.Native.Nat.{ℕ, _+_, _-_, _≤_, _<_}
 use lib.ListN.{drop, length}
-use Rattle.hex.specs.Hex.{Written}
 use Rattle.sheet.specs.declared.Sheet.{Sheet}
 use Rattle.frame.specs.declared.Answered.{Answered}
 use Rattle.frame.specs.Answers.{NEWLINE, ROOM}

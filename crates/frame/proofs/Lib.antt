@@ -1,5 +1,6 @@
 pub mod Lines
 pub mod OnPage
+pub mod ReadBack
 pub mod Rows
 pub mod Saying
 pub mod Unique

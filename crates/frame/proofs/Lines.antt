@@ -1,7 +1,7 @@
 -- An answer's line is written by its numbers, one after the other, and a byte 10. Assumes nothing.
 use mathlib.Core.Path.{_≡_, refl, sym, ap, _∙_}
-use mathlib.Core.List.{List, [], _∷_, _++_, append-assoc, append-nil}
 use mathlib.Core.Bool.{Bool, true, false, cond}
+use mathlib.Core.List.{List, [], _∷_, _++_, append-assoc, append-nil}
 use Prim.Native.Nat.{ℕ, zero, suc, _+_, _*_, _≤_}
 use native.Mathlib.Nat.{add-zero}
 use native.Mathlib.Omega.{arith}
@@ -9,9 +9,9 @@ use borrow.Author.Tests.{ne-eqb}
 use lib.Dec.{eqb}
 use lib.ListN.{drop, getD, length, length-append, set}
 use lib.Seq.{getD-drop, length-sets}
+use Rattle.verdict.specs.declared.Kept.{Kept}
 use Rattle.hex.specs.Hex.{Written, hex}
 use Rattle.hex.proofs.Digits.{and-then, length-hex}
-use Rattle.verdict.specs.declared.Kept.{Kept}
 use Rattle.frame.specs.Answers.{LINE, NEWLINE, keptLine, linkLine, linkLines, numberLine}
 use Rattle.frame.specs.Statements.{Laid}
 

@@ -1,5 +1,5 @@
 -- On the sheet that a page gives, a frame gets the page's answer, and the sheet of the page after it. Assumes nothing.
-use mathlib.Core.Path.{_≡_, refl, sym, ap, ap₂, _∙_}
+use mathlib.Core.Path.{_≡_, refl, ap, ap₂, _∙_}
 use mathlib.Core.List.{List, [], _∷_, _++_}
 use Prim.Native.Nat.{ℕ}
 use native.Mathlib.Decide.{ℕ-discrete}
@@ -7,13 +7,12 @@ use borrow.Author.Tests.{eq-eqb, ne-eqb}
 use lib.ListN.{length}
 use Rattle.rule.specs.Meaning.{RULES}
 use Rattle.chain.specs.declared.Link.{Link}
-use Rattle.chain.specs.Answer.{answer}
 use Rattle.chain.specs.Links.{chainRoom, laid}
 use Rattle.sheet.specs.declared.Answer.{Answer}
 use Rattle.sheet.specs.declared.Reply.{Reply}
 use Rattle.sheet.specs.declared.Sheet.{Sheet}
-use Rattle.sheet.specs.Calls.{Call, after, ask, grounds, open-at, refusal, rulesOf}
-use Rattle.sheet.specs.Page.{Page, fresh, widthOf}
+use Rattle.sheet.specs.Calls.{Call, after, grounds, refusal}
+use Rattle.sheet.specs.Page.{Page, fresh}
 use Rattle.sheet.specs.Statements.{Answers, Asked, Reached, chainOn, opened, overlaid, reply}
 use Rattle.sheet.proofs.Demand.{after-reached, opened-sheet}
 use Rattle.frame.specs.declared.Frame.{Frame}

@@ -1,5 +1,5 @@
 -- From what a call promises to what its line's answer promises. Assumes nothing.
-use mathlib.Core.Path.{_≡_, refl, sym, ap, _∙_}
+use mathlib.Core.Path.{_≡_, sym, ap, _∙_}
 use mathlib.Core.List.{List, _++_}
 use Prim.Native.Nat.{ℕ, _+_, _*_, _≤_}
 use native.Mathlib.Decide.{ℕ-discrete}
@@ -22,8 +22,8 @@ use Rattle.frame.specs.declared.Frame.{Frame}
 use Rattle.frame.specs.declared.Frame.the-variants.{Open}
 use Rattle.frame.specs.Answers.{ROOM, askLines, keptLine, linkLines, numberLine}
 use Rattle.frame.specs.Frames.{frameOf}
-use Rattle.frame.proofs.Lines.{length-kept, length-links, length-number}
 use Rattle.frame.specs.Statements.{AskLaid, Laid, LineAnswered, Said, asks, opens}
+use Rattle.frame.proofs.Lines.{length-kept, length-links, length-number}
 
 pub line-answered : {s : Sheet} (line : List ℕ) {b b′ : List ℕ} {at : ℕ} (r : Answered) {f : Frame} {t : Sheet} {bytes : List ℕ}
     → f ≡ frameOf line → Said s f t bytes → r .sheet ≡ t → Laid b at bytes b′ (r .end) → length bytes ≤ ROOM

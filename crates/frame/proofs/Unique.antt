@@ -10,7 +10,7 @@ use Rattle.chain.specs.Links.{chainRoom}
 use Rattle.sheet.specs.declared.Answer.{Answer}
 use Rattle.sheet.specs.declared.Reply.{Reply}
 use Rattle.sheet.specs.declared.Sheet.{Sheet}
-use Rattle.sheet.specs.Statements.{Asked, IsSheet, refuses}
+use Rattle.sheet.specs.Statements.{Asked, IsSheet}
 use Rattle.sheet.proofs.Tested.{sheet-dec}
 use Rattle.sheet.proofs.Unique.{answers-unique}
 use Rattle.frame.specs.declared.Answered.{Answered}

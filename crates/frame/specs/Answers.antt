@@ -4,12 +4,12 @@ use mathlib.Core.List.{List, [], _∷_, _++_}
 use Prim.Native.Nat.{ℕ, zero, suc, _+_, _*_}
 use lib.Dec.{eqb}
 use lib.ListN.{drop, getD}
-use Rattle.hex.specs.Hex.{hex}
 use Rattle.rule.specs.Meaning.{RULES}
 use Rattle.verdict.specs.declared.Kept.{Kept}
 use Rattle.chain.specs.declared.Link.{Link}
 use Rattle.chain.specs.Links.{mostLinks}
 use Rattle.sheet.specs.declared.Reply.{Reply}
+use Rattle.hex.specs.Hex.{hex}
 
 abbrev pub NEWLINE : ℕ
 NEWLINE = 10

@@ -3,15 +3,15 @@ use mathlib.Core.Path.{_≡_}
 use mathlib.Core.List.{List}
 use Prim.Native.Nat.{ℕ, _+_, _≤_}
 use lib.ListN.{length}
-use Rattle.hex.specs.Hex.{Written}
 use Rattle.rule.specs.declared.Rule.{Rule}
 use Rattle.rule.specs.Meaning.{RULES}
+use Rattle.chain.specs.Links.{chainRoom}
 use Rattle.sheet.specs.declared.Answer.{Answer}
 use Rattle.sheet.specs.declared.Reply.{Reply}
 use Rattle.sheet.specs.declared.Sheet.{Sheet}
-use Rattle.chain.specs.Links.{chainRoom}
 use Rattle.sheet.specs.Calls.{add, back, mark}
 use Rattle.sheet.specs.Statements.{Answers, Asked, opened}
+use Rattle.hex.specs.Hex.{Written}
 use Rattle.frame.specs.declared.Answered.{Answered}
 use Rattle.frame.specs.declared.Frame.{Frame}
 use Rattle.frame.specs.declared.Frame.the-variants.{Add, Ask, Back, Mark, NoFrame, Open}

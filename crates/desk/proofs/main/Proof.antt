@@ -1,9 +1,9 @@
 -- `main` is safe and ends: both buffers keep their length, and the turns count down. Assumes nothing.
-use mathlib.Core.Path.{_≡_, sym, _∙_}
+use mathlib.Core.Path.{_≡_, sym}
 use native.Mathlib.Omega.{arith}
+use borrow.Author.Needs.{needs}
 use lib.ListN.{length}
 use lib.Seq.{length-take-le}
-use borrow.Author.Needs.{needs}
 use Rattle.desk.proofs.main.Statement.{statement}
 use Rattle.desk.proofs.main.Tie as tie
 

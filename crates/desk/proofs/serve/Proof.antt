@@ -1,16 +1,15 @@
-use mathlib.Core.Path.{sym, _∙_}
-use lib.Seq.{length-take-le}
-use mathlib.Core.Path.{refl}
--- `serve` is safe and ends: a feeding writes no more than the buffer holds, and uses at least a byte of what is left. Assumes
--- nothing.
-use mathlib.Core.Path.{_≡_}
+use mathlib.Core.Path.{sym, _∙_, refl, _≡_}
 use Prim.Native.Nat.{_-_, _≤_}
 use native.Mathlib.Omega.{arith}
-use lib.ListN.{length}
-use Rattle.exchange.proofs.Parts.{feeds-fit, feeds-some}
 use borrow.Author.Needs.{needs}
+use lib.ListN.{length}
+use lib.Seq.{length-take-le}
+use Rattle.exchange.proofs.Parts.{feeds-fit, feeds-some}
 use Rattle.desk.proofs.serve.Statement.{statement}
 use Rattle.desk.proofs.serve.Tie as tie
+
+-- `serve` is safe and ends: a feeding writes no more than the buffer holds, and uses at least a byte of what is left. Assumes
+-- nothing.
 
 abbrev Inv-loop : tie.InvT-loop
 Inv-loop part out₀ desk₀ at₀ out desk at = (at ≤ length part) × (length out ≡ length out₀)

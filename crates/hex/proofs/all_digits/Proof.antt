@@ -1,15 +1,15 @@
 -- `all_digits` meets its contract. The loop's invariant: the test of all bytes is that of the bytes left. Assumes nothing.
 use mathlib.Core.Path.{_≡_, refl, sym, ap, _∙_}
-use mathlib.Core.Bool.{Bool, true, false, _&&_}
+use mathlib.Core.Bool.{Bool, _&&_}
 use mathlib.Core.List.{List}
 use Prim.Native.Nat.{ℕ, suc, _-_, _≤_, _<_}
 use native.Mathlib.Numerals.{add-one}
 use native.Mathlib.Omega.{arith}
+use borrow.Author.Needs.{needs}
 use borrow.Author.Tests.{not-true, not-false}
 use lib.ListN.{drop, drop-of-length-le, getD, length}
 use lib.Seq.{drop-cons}
 use Rattle.hex.specs.Hex.{allDigits, isDigit}
-use borrow.Author.Needs.{needs}
 use Rattle.hex.proofs.all_digits.Statement.{statement}
 use Rattle.hex.proofs.all_digits.Tie as tie
 

@@ -1,8 +1,8 @@
 -- `glyph` meets its contract: the test picks the row. Assumes nothing.
 use native.Mathlib.Omega.{arith}
+use borrow.Author.Needs.{needs}
 use borrow.Author.Tests.{le-ltb, lt-ltb}
 use Rattle.hex.specs.Hex.{glyph}
-use borrow.Author.Needs.{needs}
 use Rattle.hex.proofs.glyph.Statement.{statement}
 use Rattle.hex.proofs.glyph.Tie as tie
 

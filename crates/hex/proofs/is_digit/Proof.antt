@@ -2,7 +2,6 @@
 use native.Mathlib.Omega.{arith}
 use borrow.Author.Tests.{le-leb, lt-leb}
 use Rattle.hex.specs.Hex.{isDigit}
-use borrow.Author.Needs.{needs}
 use Rattle.hex.proofs.is_digit.Statement.{statement}
 use Rattle.hex.proofs.is_digit.Tie as tie
 

@@ -1,13 +1,13 @@
 -- `number` meets its contract. The loop's invariant: the digits left, after what is read, write the number of all; and k
 -- digits write less than 2^(4k). Assumes nothing.
 use mathlib.Core.Path.{_≡_, refl, sym, ap, ap₂, _∙_}
-use Prim.Native.Nat.{ℕ, suc, _+_, _-_, _*_, _^_, _≤_, _<_}
+use Prim.Native.Nat.{ℕ, _+_, _-_, _*_, _^_, _≤_, _<_}
 use native.Mathlib.Numerals.{add-one}
 use native.Mathlib.Omega.{arith}
+use borrow.Author.Needs.{needs}
 use lib.Seq.{slice, slice-cons, slice-empty}
 use Rattle.hex.specs.Hex.{number, numberFrom}
 use Rattle.hex.proofs.Digits.{below-word, digit-more}
-use borrow.Author.Needs.{needs}
 use Rattle.hex.proofs.number.Statement.{statement}
 use Rattle.hex.proofs.number.Tie as tie
 

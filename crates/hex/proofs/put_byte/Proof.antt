@@ -1,16 +1,16 @@
 use mathlib.Core.Path.{ap, ap₂, _∙_}
-use mathlib.Core.List.{List, [], _∷_}
-use Prim.Native.Nat.{ℕ, suc, _+_}
+use mathlib.Core.List.{[], _∷_}
+use Prim.Native.Nat.{ℕ}
 use native.Mathlib.Numerals.{add-one}
-use lib.Seq.{sets}
-use lib.ListN.{set}
--- `put_byte` meets its contract: two stores are the two digits in their places. Assumes nothing.
 use native.Mathlib.Omega.{arith}
-use lib.ListN.{length-set}
-use Rattle.hex.specs.Hex.{hex}
 use borrow.Author.Needs.{needs}
+use lib.ListN.{set, length-set}
+use lib.Seq.{sets}
+use Rattle.hex.specs.Hex.{hex}
 use Rattle.hex.proofs.put_byte.Statement.{statement}
 use Rattle.hex.proofs.put_byte.Tie as tie
+
+-- `put_byte` meets its contract: two stores are the two digits in their places. Assumes nothing.
 
 glyph-requires : tie.Need-glyph-requires
 glyph-requires c κs = search needs

@@ -1,11 +1,10 @@
 -- `put_word` meets its contract: four bytes one after the other are the word. Assumes nothing.
-use mathlib.Core.List.{List, _++_}
+use mathlib.Core.List.{List}
 use Prim.Native.Nat.{ℕ, _+_, _/_}
-use native.Mathlib.Omega.{arith}
+use borrow.Author.Needs.{needs}
 use lib.ListN.{length-append}
 use Rattle.hex.specs.Hex.{Written, hex}
 use Rattle.hex.proofs.Digits.{and-then, eight, length-hex}
-use borrow.Author.Needs.{needs}
 use Rattle.hex.proofs.put_word.Statement.{statement}
 use Rattle.hex.proofs.put_word.Tie as tie
 

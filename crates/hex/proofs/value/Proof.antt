@@ -1,8 +1,8 @@
 -- `value` meets its contract: the tests pick the row. Assumes nothing.
 use native.Mathlib.Omega.{arith}
+use borrow.Author.Needs.{needs}
 use borrow.Author.Tests.{le-leb, lt-leb}
 use Rattle.hex.specs.Hex.{value}
-use borrow.Author.Needs.{needs}
 use Rattle.hex.proofs.value.Statement.{statement}
 use Rattle.hex.proofs.value.Tie as tie
 

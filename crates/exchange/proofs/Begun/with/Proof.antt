@@ -1,13 +1,13 @@
 -- `Begun::with` meets its contract. The loop's invariant: what is held with the bytes left joined is the result. Assumes nothing.
 use mathlib.Core.Path.{_≡_, refl, sym, ap, ap₂, _∙_}
-use Prim.Native.Nat.{ℕ, suc, _+_, _-_, _≤_}
+use Prim.Native.Nat.{ℕ, suc, _-_, _≤_}
 use native.Mathlib.Numerals.{add-one}
 use native.Mathlib.Omega.{arith}
+use borrow.Author.Needs.{needs}
 use lib.ListN.{drop, drop-of-length-le, getD, length, set}
 use Rattle.exchange.specs.declared.Begun.{Begun}
 use Rattle.exchange.specs.Begun.{begins, joined}
 use Rattle.exchange.proofs.Held.{joined-full, joined-next, put-more}
-use borrow.Author.Needs.{needs}
 use Rattle.exchange.proofs.Begun.with.Statement.{statement}
 use Rattle.exchange.proofs.Begun.with.Tie as tie
 

@@ -1,15 +1,14 @@
-use lib.ListN.{drop, length-drop}
-use Rattle.exchange.proofs.Taking.{end-fits, end-some}
--- `Desk::feed` meets its contract. The loop's invariant: what goes on from here goes on from the start. The measure is the bytes
--- left, of which each turn uses one at least. Assumes nothing.
-use mathlib.Core.Path.{_≡_, refl, sym, _∙_}
+use mathlib.Core.Path.{_≡_, refl, _∙_}
 use Prim.Native.Nat.{_-_, _≤_}
 use native.Mathlib.Omega.{arith}
-use lib.ListN.{length}
+use lib.ListN.{drop, length-drop, length}
 use Rattle.exchange.proofs.Parts.{Midway, fed-all, fed-full, midway-on, midway-start}
-use borrow.Author.Needs.{needs}
+use Rattle.exchange.proofs.Taking.{end-fits, end-some}
 use Rattle.exchange.proofs.Desk.feed.Statement.{statement}
 use Rattle.exchange.proofs.Desk.feed.Tie as tie
+
+-- `Desk::feed` meets its contract. The loop's invariant: what goes on from here goes on from the start. The measure is the bytes
+-- left, of which each turn uses one at least. Assumes nothing.
 
 abbrev Inv-loop : tie.InvT-loop
 Inv-loop part out₀ desk₀ used₀ written₀ out desk used written =

@@ -1,9 +1,9 @@
 -- `Desk::finish` meets its contract: a line with a byte is answered. Assumes nothing.
-use native.Mathlib.Omega.{arith}
 use mathlib.Core.List.{[]}
+use native.Mathlib.Omega.{arith}
+use borrow.Author.Needs.{needs}
 use Rattle.frame.proofs.Lines.{laid-none}
 use Rattle.exchange.specs.Statements.{last-line, no-line}
-use borrow.Author.Needs.{needs}
 use Rattle.exchange.proofs.Desk.finish.Statement.{statement}
 use Rattle.exchange.proofs.Desk.finish.Tie as tie
 

@@ -1,7 +1,7 @@
 -- `Desk::turn` meets its contract: the line goes in, with its byte 10 or without it. Assumes nothing.
 use native.Mathlib.Omega.{arith}
-use Rattle.exchange.proofs.Parts.{turned-ended, turned-unended}
 use borrow.Author.Needs.{needs}
+use Rattle.exchange.proofs.Parts.{turned-ended, turned-unended}
 use Rattle.exchange.proofs.Desk.turn.Statement.{statement}
 use Rattle.exchange.proofs.Desk.turn.Tie as tie
 

@@ -1,9 +1,9 @@
 -- `answer_held` meets its contract: the bytes that are held are all, or the first of them. Assumes nothing.
 use mathlib.Core.Path.{sym}
 use native.Mathlib.Omega.{arith}
+use borrow.Author.Needs.{needs}
 use lib.Seq.{length-take-le, take-all}
 use Rattle.exchange.specs.Begun.{begunLine}
-use borrow.Author.Needs.{needs}
 use Rattle.exchange.proofs.feeding.answer_held.Statement.{statement}
 use Rattle.exchange.proofs.feeding.answer_held.Tie as tie
 

@@ -1,9 +1,9 @@
 -- `answer_whole` meets its contract: where nothing is held, the line is the whole line. Assumes nothing.
 use mathlib.Core.Path.{sym}
 use native.Mathlib.Omega.{arith}
+use borrow.Author.Needs.{needs}
 use Rattle.exchange.specs.Begun.{begins}
 use Rattle.exchange.proofs.Held.{first-frame}
-use borrow.Author.Needs.{needs}
 use Rattle.exchange.proofs.feeding.answer_whole.Statement.{statement}
 use Rattle.exchange.proofs.feeding.answer_whole.Tie as tie
 

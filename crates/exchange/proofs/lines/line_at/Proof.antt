@@ -1,12 +1,11 @@
 -- `line_at` meets its contract: the bytes up to the line's end are the line. Assumes nothing.
 use mathlib.Core.Path.{_≡_, ap, _∙_}
-use mathlib.Core.List.{List}
 use Prim.Native.Nat.{ℕ, _-_}
 use native.Mathlib.Omega.{arith}
+use borrow.Author.Needs.{needs}
 use lib.ListN.{drop, length, take}
 use Rattle.exchange.specs.Lines.{lineOf}
 use Rattle.exchange.proofs.Taking.{line-prefix}
-use borrow.Author.Needs.{needs}
 use Rattle.exchange.proofs.lines.line_at.Statement.{statement}
 use Rattle.exchange.proofs.lines.line_at.Tie as tie
 

@@ -1,14 +1,14 @@
 -- `line_end` meets its contract. The loop's invariant: no byte 10 was passed, so the line's length is that of the bytes passed
 -- and of the line that is left. Assumes nothing.
-use mathlib.Core.Path.{_≡_, refl, sym, ap, _∙_}
+use mathlib.Core.Path.{_≡_, refl, ap}
 use mathlib.Core.List.{List}
 use Prim.Native.Nat.{ℕ, _+_, _-_, _≤_}
 use native.Mathlib.Numerals.{add-one}
 use native.Mathlib.Omega.{arith}
+use borrow.Author.Needs.{needs}
 use lib.ListN.{drop, drop-of-length-le, length}
 use Rattle.exchange.specs.Lines.{lineOf}
 use Rattle.exchange.proofs.Taking.{line-goes, line-stops}
-use borrow.Author.Needs.{needs}
 use Rattle.exchange.proofs.lines.line_end.Statement.{statement}
 use Rattle.exchange.proofs.lines.line_end.Tie as tie
 

@@ -1,8 +1,8 @@
 -- `answer` meets its contract: each frame's call is made, and what it promises is written. Assumes nothing.
 use mathlib.Core.Path.{refl, sym, _∙_}
+use borrow.Author.Needs.{needs}
 use Rattle.frame.specs.Statements.{adds, goes-back, marks, no-frame}
 use Rattle.frame.proofs.Saying.{line-answered, number-fits, said-open}
-use borrow.Author.Needs.{needs}
 use Rattle.frame.proofs.answers.answer.Statement.{statement}
 use Rattle.frame.proofs.answers.answer.Tie as tie
 

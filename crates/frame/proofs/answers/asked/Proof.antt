@@ -1,10 +1,9 @@
 -- `asked` meets its contract: the chain fits the numbers lent, so its links are few enough for the room. Assumes nothing.
-use mathlib.Core.Path.{refl, ap, _∙_}
-use Prim.Native.Nat.{ℕ, _+_}
+use mathlib.Core.Path.{refl}
 use native.Mathlib.Omega.{arith}
+use borrow.Author.Needs.{needs}
 use Rattle.frame.proofs.Lines.{laid-on, length-kept}
 use Rattle.frame.proofs.Saying.{ask-answered, ask-refused, few-links}
-use borrow.Author.Needs.{needs}
 use Rattle.frame.proofs.answers.asked.Statement.{statement}
 use Rattle.frame.proofs.answers.asked.Tie as tie
 

@@ -1,9 +1,9 @@
 -- `put_kept` meets its contract: its numbers are written one after the other. Assumes nothing.
 use mathlib.Core.Path.{_∙_}
 use native.Mathlib.Omega.{arith}
+use borrow.Author.Needs.{needs}
 use lib.ListN.{length-set}
 use Rattle.frame.proofs.Lines.{verdict-line}
-use borrow.Author.Needs.{needs}
 use Rattle.frame.proofs.answers.put_kept.Statement.{statement}
 use Rattle.frame.proofs.answers.put_kept.Tie as tie
 

@@ -1,9 +1,9 @@
 -- `put_link` meets its contract: its numbers are written one after the other. Assumes nothing.
 use mathlib.Core.Path.{_∙_}
 use native.Mathlib.Omega.{arith}
+use borrow.Author.Needs.{needs}
 use lib.ListN.{length-set}
 use Rattle.frame.proofs.Lines.{link-line}
-use borrow.Author.Needs.{needs}
 use Rattle.frame.proofs.answers.put_link.Statement.{statement}
 use Rattle.frame.proofs.answers.put_link.Tie as tie
 

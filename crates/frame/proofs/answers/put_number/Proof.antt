@@ -1,11 +1,9 @@
 -- `put_number` meets its contract: its numbers are written one after the other. Assumes nothing.
-use mathlib.Core.Path.{sym, subst, _∙_}
+use mathlib.Core.Path.{_∙_}
 use native.Mathlib.Omega.{arith}
-use lib.ListN.{length-set}
-use Rattle.frame.specs.Answers.{numberLine}
-use Rattle.frame.specs.Statements.{Laid}
-use Rattle.frame.proofs.Lines.{accepted, refused}
 use borrow.Author.Needs.{needs}
+use lib.ListN.{length-set}
+use Rattle.frame.proofs.Lines.{accepted, refused}
 use Rattle.frame.proofs.answers.put_number.Statement.{statement}
 use Rattle.frame.proofs.answers.put_number.Tie as tie
 

@@ -1,7 +1,6 @@
 -- `bare` meets its contract: the tests pick the row. Assumes nothing.
 use borrow.Author.Tests.{ne-eqb}
 use Rattle.frame.specs.Frames.{bare}
-use borrow.Author.Needs.{needs}
 use Rattle.frame.proofs.reading.bare.Statement.{statement}
 use Rattle.frame.proofs.reading.bare.Tie as tie
 

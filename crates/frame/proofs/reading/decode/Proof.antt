@@ -1,13 +1,13 @@
 -- `decode` meets its contract: the tests pick the row. Assumes nothing.
 use mathlib.Core.Path.{_≡_, sym, ap, _∙_}
 use mathlib.Core.Bool.{true}
-use Rattle.hex.specs.Hex.{allDigits}
 use native.Mathlib.Omega.{arith}
+use borrow.Author.Needs.{needs}
 use borrow.Author.Tests.{not-false, not-true}
+use Rattle.hex.specs.Hex.{allDigits}
 use Rattle.frame.specs.declared.Frame.the-variants.{Add, Open}
 use Rattle.frame.specs.Frames.{bare}
 use Rattle.frame.proofs.Rows.{add-row, bare-row, no-add, no-digits, no-open, open-row, other-length}
-use borrow.Author.Needs.{needs}
 use Rattle.frame.proofs.reading.decode.Statement.{statement}
 use Rattle.frame.proofs.reading.decode.Tie as tie
 
