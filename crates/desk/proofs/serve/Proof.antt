@@ -1,3 +1,5 @@
+-- `serve` is safe and ends: a feeding writes no more than the buffer holds, and uses at least a byte of what is left. Assumes
+-- nothing.
 use mathlib.Core.Path.{sym, _∙_, refl, _≡_}
 use Prim.Native.Nat.{_-_, _≤_}
 use native.Mathlib.Omega.{arith}
@@ -7,9 +9,6 @@ use lib.Seq.{length-take-le}
 use Rattle.exchange.proofs.Parts.{feeds-fit, feeds-some}
 use Rattle.desk.proofs.serve.Statement.{statement}
 use Rattle.desk.proofs.serve.Tie as tie
-
--- `serve` is safe and ends: a feeding writes no more than the buffer holds, and uses at least a byte of what is left. Assumes
--- nothing.
 
 abbrev Inv-loop : tie.InvT-loop
 Inv-loop part out₀ desk₀ at₀ out desk at = (at ≤ length part) × (length out ≡ length out₀)

@@ -1,3 +1,4 @@
+-- `put_byte` meets its contract: two stores are the two digits in their places. Assumes nothing.
 use mathlib.Core.Path.{ap, ap₂, _∙_}
 use mathlib.Core.List.{[], _∷_}
 use Prim.Native.Nat.{ℕ}
@@ -9,8 +10,6 @@ use lib.Seq.{sets}
 use Rattle.hex.specs.Hex.{hex}
 use Rattle.hex.proofs.put_byte.Statement.{statement}
 use Rattle.hex.proofs.put_byte.Tie as tie
-
--- `put_byte` meets its contract: two stores are the two digits in their places. Assumes nothing.
 
 glyph-requires : tie.Need-glyph-requires
 glyph-requires c κs = search needs

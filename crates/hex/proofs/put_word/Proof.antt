@@ -39,7 +39,11 @@ four x e₁ e₂ e₃ e₄ =
     rw (eight x) (and-then (and-then (and-then e₁ e₂ (simp length-hex)) e₃ (simp (length-append, length-hex))) e₄ (simp (length-append, length-hex)))
 
 returns : tie.Need-returns
-returns c = four _ (c .before .before .before .before .before .before .before .before .before .before .before .before .before .before .put-byte .ensures) (c .before .before .before .before .before .before .before .before .before .before .put-byte2 .ensures) (c .before .before .before .before .before .before .put-byte3 .ensures) (c .before .before .put-byte4 .ensures)
+returns c =
+    let fourth = c .before .before in
+    let third = fourth .before .before .before .before in
+    let second = third .before .before .before .before in
+    four _ (second .before .before .before .before .put-byte .ensures) (second .put-byte2 .ensures) (third .put-byte3 .ensures) (fourth .put-byte4 .ensures)
 
 pub put-word-spec : {M : Type 1} → statement M
 put-word-spec =

@@ -1,3 +1,5 @@
+-- `Desk::feed` meets its contract. The loop's invariant: what goes on from here goes on from the start. The measure is the bytes
+-- left, of which each turn uses one at least. Assumes nothing.
 use mathlib.Core.Path.{_≡_, refl, _∙_}
 use Prim.Native.Nat.{_-_, _≤_}
 use native.Mathlib.Omega.{arith}
@@ -6,9 +8,6 @@ use Rattle.exchange.proofs.Parts.{Midway, fed-all, fed-full, midway-on,
 use Rattle.exchange.proofs.Taking.{end-fits, end-some}
 use Rattle.exchange.proofs.Desk.feed.Statement.{statement}
 use Rattle.exchange.proofs.Desk.feed.Tie as tie
-
--- `Desk::feed` meets its contract. The loop's invariant: what goes on from here goes on from the start. The measure is the bytes
--- left, of which each turn uses one at least. Assumes nothing.
 
 abbrev Inv-loop : tie.InvT-loop
 Inv-loop part out₀ desk₀ used₀ written₀ out desk used written =

@@ -39,8 +39,11 @@ same-length-2 c = search needs
 
 returns-2 : tie.Need-returns-2
 returns-2 c =
-    let q = c .before .before .before .before .before .before .before .before .before .before .before .before .before in
-    ask-answered refl (q .ask .ensures) (c .before .before .before .before .before .before .before .before .before .before .if1 .left) (few-links (q .ask .ensures) refl (q .ask .kept .1 .0)) (laid-on (c .before .before .before .before .before .before .before .put-kept .ensures) (c .before .before .put-links .ensures))
+    let kept = c .before .before .before .before .before .before .before in
+    let accepted = kept .before .before .before in
+    let asked = accepted .before .before .before .ask in
+    let few = few-links (asked .ensures) refl (asked .kept .1 .0) in
+    ask-answered refl (asked .ensures) (accepted .if1 .left) few (laid-on (kept .put-kept .ensures) (c .before .before .put-links .ensures))
 
 pub asked-spec : {M : Type 1} → statement M
 asked-spec =

@@ -1,3 +1,4 @@
+-- `put_links` meets its contract. The loop's invariant: the links passed are written. Assumes nothing.
 use mathlib.Core.Path.{_≡_, refl, sym, ap, _∙_}
 use Prim.Native.Nat.{ℕ, _+_, _-_, _*_, _≤_}
 use native.Mathlib.Numerals.{add-one}
@@ -9,8 +10,6 @@ use Rattle.frame.specs.Statements.{Laid}
 use Rattle.frame.proofs.Lines.{laid-none, laid-on, length-link, links-next}
 use Rattle.frame.proofs.answers.put_links.Statement.{statement}
 use Rattle.frame.proofs.answers.put_links.Tie as tie
-
--- `put_links` meets its contract. The loop's invariant: the links passed are written. Assumes nothing.
 
 abbrev Inv-loop : tie.InvT-loop
 Inv-loop out₀ at chain n end₀ i₀ out end i = (i ≤ n) × (end ≡ at + LINE * i) × (length out ≡ length out₀) × Laid out₀ at (linkLines i chain) out end

@@ -47,7 +47,9 @@ same-length-2 : tie.Need-same-length-2
 same-length-2 c = simp length-set (c .before .before .put-byte3 .kept .0 ∙ c .before .before .before .before .before .before .put-byte2 .kept .0)
 
 returns-2 : tie.Need-returns-2
-returns-2 c = refused _ (omega arith) (c .before .before .before .before .before .before .before .before .if1 .left) (c .before .before .before .before .before .before .put-byte2 .ensures) (c .before .before .put-byte3 .ensures)
+returns-2 c =
+    let first = c .before .before .before .before .before .before in
+    refused _ (omega arith) (first .before .before .if1 .left) (first .put-byte2 .ensures) (c .before .before .put-byte3 .ensures)
 
 pub put-number-spec : {M : Type 1} → statement M
 put-number-spec =
