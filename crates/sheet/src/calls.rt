@@ -200,7 +200,7 @@ impl Sheet {
 }
 
 // A refusal of asking: its number, and zeros in the other places.
-fn refusal(number: u64) -> Reply
+pub fn refusal(number: u64) -> Reply
     ensures { λ r. ⌜ r ≡ refuses number ⌝ }
 {
     Reply {

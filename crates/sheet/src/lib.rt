@@ -3,6 +3,7 @@
 mod calls;
 mod shape;
 
+pub use calls::refusal;
 use rule::Rule;
 use verdict::Kept;
 

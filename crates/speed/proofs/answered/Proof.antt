@@ -1,14 +1,14 @@
--- `asked` meets its contract. The loop's invariant: the 10,000 askings are not passed. The measure is those left. Assumes nothing.
+-- `answered` is safe and ends: the measure is the answers left. Assumes nothing.
 use Prim.Native.Nat.{_-_, _≤_}
 use borrow.Author.Needs.{needs}
-use Rattle.speed.proofs.asked.Statement.{statement}
-use Rattle.speed.proofs.asked.Tie as tie
+use Rattle.speed.proofs.answered.Statement.{statement}
+use Rattle.speed.proofs.answered.Tie as tie
 
 abbrev Inv-loop : tie.InvT-loop
-Inv-loop sheet right₀ i₀ right i = i ≤ 10000
+Inv-loop way times sheet rules right₀ i₀ right i = i ≤ times
 
 abbrev μ-loop : tie.MeasureT-loop
-μ-loop sheet right₀ i₀ right i = 10000 - i
+μ-loop way times sheet rules right₀ i₀ right i = times - i
 
 loop-holds : tie.Need-loop-holds Inv-loop μ-loop
 loop-holds c = search needs
@@ -31,8 +31,8 @@ loop-again c = search needs
 returns : tie.Need-returns Inv-loop μ-loop
 returns c = search needs
 
-pub asked-spec : {M : Type 1} → statement M
-asked-spec =
+pub answered-spec : {M : Type 1} → statement M
+answered-spec =
     tie.close
     (tie.spec
     Inv-loop

@@ -1,17 +1,17 @@
--- `parts` meets its contract. The loop's invariant: the 64 rules are not passed. The measure is those left. Assumes nothing.
+-- `parts` meets its contract. The loop's invariant: the places are not passed. The measure is the places left. Assumes nothing.
 use Prim.Native.Nat.{_-_, _≤_}
 use borrow.Author.Needs.{needs}
-use Rattle.speed.proofs.parts.Statement.{statement}
-use Rattle.speed.proofs.parts.Tie as tie
+use Rattle.batch_lists.proofs.parts.Statement.{statement}
+use Rattle.batch_lists.proofs.parts.Tie as tie
 
 abbrev Inv-loop : tie.InvT-loop
-Inv-loop sheet₀ c1₀ i₀ sheet c1 i = i ≤ 64
+Inv-loop rules₀ c1₀ i₀ rules c1 i = i ≤ 65
 
 abbrev μ-loop : tie.MeasureT-loop
-μ-loop sheet₀ c1₀ i₀ sheet c1 i = 64 - i
+μ-loop rules₀ c1₀ i₀ rules c1 i = 65 - i
 
-opened-requires : tie.Need-opened-requires Inv-loop μ-loop
-opened-requires c κs = search needs
+alike-requires : tie.Need-alike-requires Inv-loop μ-loop
+alike-requires c κs = search needs
 
 loop-holds : tie.Need-loop-holds Inv-loop μ-loop
 loop-holds c = search needs
@@ -25,8 +25,11 @@ sub-rule c = search needs
 rule-requires : tie.Need-rule-requires Inv-loop μ-loop
 rule-requires c κs = search needs
 
-added-requires : tie.Need-added-requires Inv-loop μ-loop
-added-requires c κs = search needs
+mul-rules : tie.Need-mul-rules Inv-loop μ-loop
+mul-rules c = search needs
+
+array-set-from-rules : tie.Need-array-set-from-rules Inv-loop μ-loop
+array-set-from-rules c = search needs
 
 add-i : tie.Need-add-i Inv-loop μ-loop
 add-i c = search needs
@@ -46,12 +49,13 @@ parts-spec =
     (tie.spec
     Inv-loop
     μ-loop
-    opened-requires
+    alike-requires
     loop-holds
     wrapping-add-u64-requires
     sub-rule
     rule-requires
-    added-requires
+    mul-rules
+    array-set-from-rules
     add-i
     loop-less
     loop-again

@@ -1,0 +1,5 @@
+pub mod Added
+pub mod OneByOne
+pub mod Onward
+pub mod UnderWay
+pub mod Unique

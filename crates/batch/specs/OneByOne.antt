@@ -1,0 +1,29 @@
+-- The calls one by one, each with any outcome that satisfies its statement, up to the first refusal. That the batch call
+-- promises just what these come to is proved (proofs/OneByOne.antt).
+use mathlib.Core.Path.{_≡_}
+use mathlib.Core.List.{List, [], _∷_}
+use Prim.Native.Nat.{ℕ, _+_}
+use lib.ListN.{length}
+use Rattle.rule.specs.declared.Rule.{Rule}
+use Rattle.sheet.specs.declared.Answer.{Answer}
+use Rattle.sheet.specs.declared.Reply.{Reply}
+use Rattle.sheet.specs.declared.Sheet.{Sheet}
+use Rattle.sheet.specs.Calls.{add}
+use Rattle.sheet.specs.Page.{blank}
+use Rattle.sheet.specs.Statements.{Answers, Asked, opened, refuses}
+use Rattle.batch.specs.declared.Batch.{Batch}
+use Rattle.batch.specs.Batch.{batches}
+
+-- "adding each rule in order and asking", where i rules were added to the sheet before
+pub data Adding (b : List ℕ) : Sheet → (i : ℕ) → List Rule → List ℕ → Batch → Type 0 where
+  asks : {s : Sheet} {i : ℕ} {b′ : List ℕ} {a : Reply} → Asked s b b′ a → Adding b s i [] b′ (batches a i)
+  refused-rule : {s : Sheet} {i : ℕ} {u : Rule} {us : List Rule} (a : Answer) → Answers s (add u) a → (a .number ≡ 0 → ⊥)
+      → Adding b s i (u ∷ us) b (batches (refuses (a .number)) i)
+  adds : {s : Sheet} {i : ℕ} {u : Rule} {us : List Rule} {b′ : List ℕ} {r : Batch} (a : Answer) → Answers s (add u) a
+      → a .number ≡ 0 → Adding b (a .sheet) (i + 1) us b′ r → Adding b s i (u ∷ us) b′ r
+
+-- "opening a sheet", and then that
+pub data OneByOne (w : ℕ) (us : List Rule) (b : List ℕ) : List ℕ → Batch → Type 0 where
+  refused-width : (opened blank w .number ≡ 0 → ⊥) → OneByOne w us b b (batches (refuses (opened blank w .number)) (length us))
+  opens : {b′ : List ℕ} {r : Batch} → opened blank w .number ≡ 0 → Adding b (opened blank w .sheet) 0 us b′ r
+      → OneByOne w us b b′ r

@@ -1,0 +1,79 @@
+// Lists of rules for the programs that try the batch call, the call on such a list, and the calls one by one. Whoever calls the
+// batch lends a slice of rules, and takes a proof by hand: here one function does.
+ghost use Prim.Native.Nat.{_≤_};
+ghost use lib.ListN.{take};
+ghost use Rattle.batch.specs.Batch.{Batched};
+use batch::Batch;
+use page_trial::sheets::rule;
+use rule::Rule;
+use sheet::Sheet;
+
+// One rule more than a sheet takes.
+pub const MOST: usize = Rule::LIMIT + 1;
+
+// A part of the wheel of words of 32 bits, of which there are 64.
+const PART: u64 = 0x400_0000;
+
+// The batch call on the first rules of a list.
+pub fn ran(width: u64, rules: [Rule; MOST], count: usize, out: &mut [u64]) -> Batch
+    requires { ⌜ count ≤ 65 ⌝ }
+    ensures { λ r. ⌜ Batched width (take count rules) (now (out .entry)) (now (out .exit)) r ⌝ }
+{
+    batch::run(width, &rules[..count], out)
+}
+
+// The calls one by one, up to the first refusal.
+pub fn calls(width: u64, rules: [Rule; MOST], count: usize, out: &mut [u64]) -> Batch {
+    let opened = Sheet::blank().open(width);
+    if opened.number != 0 {
+        return stopped(opened.number, count);
+    }
+    let mut sheet = opened.sheet;
+    for i in 0..MOST {
+        if i < count {
+            let answer = sheet.add(rules[i]);
+            if answer.number != 0 {
+                return stopped(answer.number, i);
+            }
+            sheet = answer.sheet;
+        }
+    }
+    let reply = sheet.ask(&mut *out);
+    Batch {
+        reply,
+        place: count,
+    }
+}
+
+fn stopped(number: u64, place: usize) -> Batch {
+    Batch {
+        reply: sheet::refusal(number),
+        place,
+    }
+}
+
+// One rule, again and again. At width 4 the words from 11 to 14 fit.
+pub fn alike() -> [Rule; MOST] {
+    [rule(3, 0, 5, 3); MOST]
+}
+
+// Rules of which each fails on one of 64 equal parts of the wheel, so that no word fits the first 64 at width 32. The
+// chain has a link for each part.
+pub fn parts() -> [Rule; MOST] {
+    let mut rules = alike();
+    let mut c1: u64 = 0;
+    for i in 0..MOST {
+        c1 = std::num::wrapping_add_u64(c1, PART) & 0xffff_ffff;
+        rules[i] = rule(3, 1, c1, PART - 1);
+    }
+    rules
+}
+
+// The list with another rule at a place.
+pub fn with(rules: [Rule; MOST], place: usize, rule: Rule) -> [Rule; MOST] {
+    let mut changed = rules;
+    if place < MOST {
+        changed[place] = rule;
+    }
+    changed
+}

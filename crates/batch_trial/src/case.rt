@@ -1,0 +1,87 @@
+// One case: the batch call and the calls one by one, on the same list with as many numbers lent.
+use batch::Batch;
+use batch_lists::MOST;
+use batch_lists::calls;
+use batch_lists::ran;
+use page_trial::answers::UNTOUCHED;
+use rule::Rule;
+use trial::tally::Tally;
+
+// What asking wants of as many rules as a sheet takes.
+const LENT: usize = 3 * (4 * Rule::LIMIT + 1);
+
+// With enough lent for any list: what is answered, and at which rule.
+pub fn lent_enough(
+    width: u64,
+    rules: [Rule; MOST],
+    count: usize,
+    number: u64,
+    place: usize,
+) -> Tally {
+    compared(width, rules, count, LENT, number, place)
+}
+
+// With just enough lent for as many rules, which are all accepted, and with one number less.
+pub fn both_lent(width: u64, rules: [Rule; MOST], count: usize) -> Tally {
+    if Rule::LIMIT < count {
+        return Tally::none();
+    }
+    let wanted = 3 * (4 * count + 1);
+    compared(width, rules, count, wanted, 0, count).plus(compared(
+        width,
+        rules,
+        count,
+        wanted - 1,
+        9,
+        count,
+    ))
+}
+
+fn compared(
+    width: u64,
+    rules: [Rule; MOST],
+    count: usize,
+    lent: usize,
+    number: u64,
+    place: usize,
+) -> Tally {
+    if MOST < count {
+        return Tally::none();
+    }
+    if LENT < lent {
+        return Tally::none();
+    }
+    let mut out = [UNTOUCHED; LENT];
+    let batch = ran(width, rules, count, &mut out[..lent]);
+    let mut direct = [UNTOUCHED; LENT];
+    let one_by_one = calls(width, rules, count, &mut direct[..lent]);
+    said(batch, number, place).plus(same_answer(batch, one_by_one))
+        .plus(same_numbers(&out, &direct))
+}
+
+// The number and the place that the paper gives.
+fn said(batch: Batch, number: u64, place: usize) -> Tally {
+    let reply = batch.reply;
+    Tally::one(reply.number == number).plus(Tally::one(batch.place == place))
+}
+
+fn same_answer(batch: Batch, direct: Batch) -> Tally {
+    let a = batch.reply;
+    let b = direct.reply;
+    let kept = a.kept;
+    let other = b.kept;
+    Tally::one(a.number == b.number)
+        .plus(Tally::one(kept.verdict == other.verdict))
+        .plus(Tally::one(kept.smallest == other.smallest))
+        .plus(Tally::one(kept.largest == other.largest))
+        .plus(Tally::one(a.links == b.links))
+        .plus(Tally::one(batch.place == direct.place))
+}
+
+fn same_numbers(out: &[u64; LENT], direct: &[u64; LENT]) -> Tally {
+    let mut tally = Tally::none();
+    for i in 0..LENT {
+        tally = tally.plus(Tally::one(out[i] == direct[i]));
+    }
+    tally
+}
