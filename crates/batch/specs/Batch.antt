@@ -6,12 +6,17 @@ use Prim.Native.Nat.{ℕ, _+_}
 use lib.Dec.{eqb}
 use lib.ListN.{length}
 use Rattle.rule.specs.declared.Rule.{Rule}
+use Rattle.rule.specs.Meaning.{RULES}
 use Rattle.chain.specs.declared.Link.{Link}
 use Rattle.sheet.specs.declared.Reply.{Reply}
 use Rattle.sheet.specs.Calls.{add, after, open-at, refusal}
 use Rattle.sheet.specs.Page.{Page, no-page}
 use Rattle.sheet.specs.Statements.{chainOn, overlaid, refuses, reply}
 use Rattle.batch.specs.declared.Batch.{Batch}
+
+-- one rule more than a sheet takes
+abbrev pub MOST : ℕ
+MOST = RULES + 1
 
 abbrev pub batches : Reply → ℕ → Batch
 batches a i = record { reply = a; place = i }

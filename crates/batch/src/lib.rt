@@ -1,5 +1,7 @@
 // The batch call: a width, a lent list of rules and a chain buffer, answered as the calls one by one would be.
-ghost use Rattle.batch.specs.Batch.{Batched};
+ghost use Prim.Native.Nat.{_≤_};
+ghost use lib.ListN.{take};
+ghost use Rattle.batch.specs.Batch.{Batched, MOST};
 
 mod course;
 
@@ -13,6 +15,11 @@ pub struct Batch {
     pub place: usize,
 }
 
+impl Batch {
+    // One rule more than a sheet takes.
+    pub const MOST: usize = Rule::LIMIT + 1;
+}
+
 // Opens a sheet, adds each rule in order and asks, up to the first refusal.
 pub fn run(width: u64, rules: &[Rule], out: &mut [u64]) -> Batch
     ensures { λ r. ⌜ Batched width (now (rules .entry)) (now (out .entry)) (now (out .exit)) r ⌝ }
@@ -24,4 +31,23 @@ pub fn run(width: u64, rules: &[Rule], out: &mut [u64]) -> Batch
         course = course.step(rules[place]);
     }
     course.finish(out)
+}
+
+// The batch call on the first rules of an array. A caller of `run` lends a list of records, and has to be proved by hand; a
+// caller of this has not. A count above the array's length is that length.
+pub fn first(width: u64, rules: [Rule; Batch::MOST], count: usize, out: &mut [u64]) -> Batch
+    ensures { λ r. ⌜ Batched width (take count rules) (now (out .entry)) (now (out .exit)) r ⌝ }
+{
+    if Batch::MOST < count {
+        return handed(width, rules, Batch::MOST, &mut *out);
+    }
+    handed(width, rules, count, &mut *out)
+}
+
+// Lends the first rules of an array.
+fn handed(width: u64, rules: [Rule; Batch::MOST], count: usize, out: &mut [u64]) -> Batch
+    requires { ⌜ count ≤ MOST ⌝ }
+    ensures { λ r. ⌜ Batched width (take count rules) (now (out .entry)) (now (out .exit)) r ⌝ }
+{
+    run(width, &rules[..count], out)
 }

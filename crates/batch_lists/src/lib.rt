@@ -1,35 +1,20 @@
-// Lists of rules for the programs that try the batch call, the call on such a list, and the calls one by one. Whoever calls the
-// batch lends a slice of rules, and takes a proof by hand: here one function does.
-ghost use Prim.Native.Nat.{_≤_};
-ghost use lib.ListN.{take};
-ghost use Rattle.batch.specs.Batch.{Batched};
+// Lists of rules for the programs that try the batch call, and the calls one by one.
 use batch::Batch;
 use page_trial::sheets::rule;
 use rule::Rule;
 use sheet::Sheet;
 
-// One rule more than a sheet takes.
-pub const MOST: usize = Rule::LIMIT + 1;
-
 // A part of the wheel of words of 32 bits, of which there are 64.
 const PART: u64 = 0x400_0000;
 
-// The batch call on the first rules of a list.
-pub fn ran(width: u64, rules: [Rule; MOST], count: usize, out: &mut [u64]) -> Batch
-    requires { ⌜ count ≤ 65 ⌝ }
-    ensures { λ r. ⌜ Batched width (take count rules) (now (out .entry)) (now (out .exit)) r ⌝ }
-{
-    batch::run(width, &rules[..count], out)
-}
-
 // The calls one by one, up to the first refusal.
-pub fn calls(width: u64, rules: [Rule; MOST], count: usize, out: &mut [u64]) -> Batch {
+pub fn calls(width: u64, rules: [Rule; Batch::MOST], count: usize, out: &mut [u64]) -> Batch {
     let opened = Sheet::blank().open(width);
     if opened.number != 0 {
         return stopped(opened.number, count);
     }
     let mut sheet = opened.sheet;
-    for i in 0..MOST {
+    for i in 0..Batch::MOST {
         if i < count {
             let answer = sheet.add(rules[i]);
             if answer.number != 0 {
@@ -53,16 +38,16 @@ fn stopped(number: u64, place: usize) -> Batch {
 }
 
 // One rule, again and again. At width 4 the words from 11 to 14 fit.
-pub fn alike() -> [Rule; MOST] {
-    [rule(3, 0, 5, 3); MOST]
+pub fn alike() -> [Rule; Batch::MOST] {
+    [rule(3, 0, 5, 3); Batch::MOST]
 }
 
 // Rules of which each fails on one of 64 equal parts of the wheel, so that no word fits the first 64 at width 32. The
 // chain has a link for each part.
-pub fn parts() -> [Rule; MOST] {
+pub fn parts() -> [Rule; Batch::MOST] {
     let mut rules = alike();
     let mut c1: u64 = 0;
-    for i in 0..MOST {
+    for i in 0..Batch::MOST {
         c1 = std::num::wrapping_add_u64(c1, PART) & 0xffff_ffff;
         rules[i] = rule(3, 1, c1, PART - 1);
     }
@@ -70,9 +55,9 @@ pub fn parts() -> [Rule; MOST] {
 }
 
 // The list with another rule at a place.
-pub fn with(rules: [Rule; MOST], place: usize, rule: Rule) -> [Rule; MOST] {
+pub fn with(rules: [Rule; Batch::MOST], place: usize, rule: Rule) -> [Rule; Batch::MOST] {
     let mut changed = rules;
-    if place < MOST {
+    if place < Batch::MOST {
         changed[place] = rule;
     }
     changed

@@ -1,8 +1,6 @@
 // One case: the batch call and the calls one by one, on the same list with as many numbers lent.
 use batch::Batch;
-use batch_lists::MOST;
 use batch_lists::calls;
-use batch_lists::ran;
 use page_trial::answers::UNTOUCHED;
 use rule::Rule;
 use trial::tally::Tally;
@@ -13,7 +11,7 @@ const LENT: usize = 3 * (4 * Rule::LIMIT + 1);
 // With enough lent for any list: what is answered, and at which rule.
 pub fn lent_enough(
     width: u64,
-    rules: [Rule; MOST],
+    rules: [Rule; Batch::MOST],
     count: usize,
     number: u64,
     place: usize,
@@ -22,7 +20,7 @@ pub fn lent_enough(
 }
 
 // With just enough lent for as many rules, which are all accepted, and with one number less.
-pub fn both_lent(width: u64, rules: [Rule; MOST], count: usize) -> Tally {
+pub fn both_lent(width: u64, rules: [Rule; Batch::MOST], count: usize) -> Tally {
     if Rule::LIMIT < count {
         return Tally::none();
     }
@@ -39,20 +37,17 @@ pub fn both_lent(width: u64, rules: [Rule; MOST], count: usize) -> Tally {
 
 fn compared(
     width: u64,
-    rules: [Rule; MOST],
+    rules: [Rule; Batch::MOST],
     count: usize,
     lent: usize,
     number: u64,
     place: usize,
 ) -> Tally {
-    if MOST < count {
-        return Tally::none();
-    }
     if LENT < lent {
         return Tally::none();
     }
     let mut out = [UNTOUCHED; LENT];
-    let batch = ran(width, rules, count, &mut out[..lent]);
+    let batch = batch::first(width, rules, count, &mut out[..lent]);
     let mut direct = [UNTOUCHED; LENT];
     let one_by_one = calls(width, rules, count, &mut direct[..lent]);
     said(batch, number, place).plus(same_answer(batch, one_by_one))

@@ -6,7 +6,7 @@
 // less, and a 65th rule on both.
 mod case;
 
-use batch_lists::MOST;
+use batch::Batch;
 use batch_lists::alike;
 use batch_lists::parts;
 use batch_lists::with;
@@ -28,7 +28,7 @@ fn widths() -> Tally {
 fn width(width: u64) -> Tally {
     case::lent_enough(width, alike(), 0, 2, 0)
         .plus(case::lent_enough(width, alike(), 3, 2, 3))
-        .plus(case::lent_enough(width, parts(), MOST, 2, MOST))
+        .plus(case::lent_enough(width, parts(), Batch::MOST, 2, Batch::MOST))
 }
 
 // At width 4, each place of five.
@@ -57,9 +57,9 @@ fn lengths() -> Tally {
     length(4, alike()).plus(length(32, parts()))
 }
 
-fn length(width: u64, rules: [Rule; MOST]) -> Tally {
+fn length(width: u64, rules: [Rule; Batch::MOST]) -> Tally {
     case::both_lent(width, rules, 0)
         .plus(case::both_lent(width, rules, 1))
         .plus(case::both_lent(width, rules, Rule::LIMIT))
-        .plus(case::lent_enough(width, rules, MOST, 6, Rule::LIMIT))
+        .plus(case::lent_enough(width, rules, Batch::MOST, 6, Rule::LIMIT))
 }

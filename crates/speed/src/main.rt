@@ -1,9 +1,8 @@
 // One full sheet of the widest words, so that times can be taken. With no argument it is asked again and again; with the argument
 // `batch` it is made and asked by the batch call, again and again, and with `calls` by the calls one by one.
-use batch_lists::MOST;
+use batch::Batch;
 use batch_lists::calls;
 use batch_lists::parts;
-use batch_lists::ran;
 use page_trial::sheets::added;
 use page_trial::sheets::opened;
 use rule::Rule;
@@ -30,7 +29,7 @@ fn main() {
     io::write_all(1, b" answers of 64 links\n");
 }
 
-fn full(rules: [Rule; MOST]) -> Sheet {
+fn full(rules: [Rule; Batch::MOST]) -> Sheet {
     let mut sheet = opened(Width::LIMIT);
     for i in 0..Rule::LIMIT {
         sheet = added(sheet, rules[i]);
@@ -39,7 +38,7 @@ fn full(rules: [Rule; MOST]) -> Sheet {
 }
 
 // How many of the answers have a link for each part of the wheel.
-fn answered(way: u8, times: u64, sheet: Sheet, rules: [Rule; MOST]) -> u64 {
+fn answered(way: u8, times: u64, sheet: Sheet, rules: [Rule; Batch::MOST]) -> u64 {
     let mut right: u64 = 0;
     for i in 0..times {
         if links(way, sheet, rules) == Rule::LIMIT {
@@ -49,10 +48,10 @@ fn answered(way: u8, times: u64, sheet: Sheet, rules: [Rule; MOST]) -> u64 {
     right
 }
 
-fn links(way: u8, sheet: Sheet, rules: [Rule; MOST]) -> usize {
+fn links(way: u8, sheet: Sheet, rules: [Rule; Batch::MOST]) -> usize {
     let mut out = [0; LENT];
     if way == b'b' {
-        let made = ran(Width::LIMIT, rules, Rule::LIMIT, &mut out);
+        let made = batch::first(Width::LIMIT, rules, Rule::LIMIT, &mut out);
         return made.reply.links;
     }
     if way == b'c' {

@@ -12,20 +12,14 @@ none-requires c κs = search needs
 returns : tie.Need-returns
 returns c = search needs
 
-none-requires-2 : tie.Need-none-requires-2
-none-requires-2 c κs = search needs
-
-returns-2 : tie.Need-returns-2
-returns-2 c = search needs
-
 array-borrow-prefix-out : tie.Need-array-borrow-prefix-out
 array-borrow-prefix-out c = search needs
 
-slice-aggregate-ran : tie.Need-slice-aggregate-ran
-slice-aggregate-ran c = sym (length-take-le _ _ (omega arith))
+slice-aggregate-first : tie.Need-slice-aggregate-first
+slice-aggregate-first c = sym (length-take-le _ _ (omega arith))
 
-ran-requires : tie.Need-ran-requires
-ran-requires c κs = search needs
+first-requires : tie.Need-first-requires
+first-requires c κs = search needs
 
 array-borrow-prefix-direct : tie.Need-array-borrow-prefix-direct
 array-borrow-prefix-direct c = search needs
@@ -51,8 +45,8 @@ same-numbers-requires c κs = search needs
 plus-requires-2 : tie.Need-plus-requires-2
 plus-requires-2 c κs = search needs
 
-returns-3 : tie.Need-returns-3
-returns-3 c = search needs
+returns-2 : tie.Need-returns-2
+returns-2 c = search needs
 
 pub compared-spec : {M : Type 1} → statement M
 compared-spec =
@@ -60,11 +54,9 @@ compared-spec =
     (tie.spec
     none-requires
     returns
-    none-requires-2
-    returns-2
     array-borrow-prefix-out
-    slice-aggregate-ran
-    ran-requires
+    slice-aggregate-first
+    first-requires
     array-borrow-prefix-direct
     slice-aggregate-calls
     calls-requires
@@ -73,4 +65,4 @@ compared-spec =
     plus-requires
     same-numbers-requires
     plus-requires-2
-    returns-3)
+    returns-2)

@@ -1,4 +1,4 @@
--- `ran` meets its contract: a walk of its MIR, by hand. The list lies in a local; its first rules are lent for a lifetime
+-- `handed` meets its contract: a walk of its MIR, by hand. The list lies in a local; its first rules are lent for a lifetime
 -- that is made for the call, and come back when it is over. The buffer goes to the call at its own lifetime. All that is
 -- known of the batch call is that it meets its contract. Assumes nothing.
 use mathlib.Core.Path.{_≡_, refl, sym}
@@ -53,21 +53,21 @@ use denote.Signature.Array.{arrayOf}
 use Rattle.rule.specs.declared.Rule.{Rule}
 use Rattle.rule.proofs.Rule as R
 use Rattle.rule.proofs.Rule.Laws as R′
 use Rattle.batch.specs.declared.Batch.{Batch}
 use Rattle.batch.specs.Batch.{Batched}
 use Rattle.batch.proofs.Batch as B
 use Rattle.batch.proofs.Batch.Laws as B′
 use Rattle.batch.proofs.run as run′
 use Rattle.batch.proofs.run.Symbol as run-def
 use Rattle.batch.proofs.run.Symbol.{name as #run}
 use Rattle.batch.proofs.run.Met as run-thm
-use Rattle.batch_lists.proofs.ran.Key.{name as #ran}
-use Rattle.batch_lists.proofs.ran as ran
-use Rattle.batch_lists.proofs.ran.Statement as stated
-use Rattle.batch_lists.proofs.ran.Code as code
-use Rattle.batch_lists.proofs.ran.Code.Mir as mir
+use Rattle.batch.proofs.handed.Key.{name as #handed}
+use Rattle.batch.proofs.handed as handed
+use Rattle.batch.proofs.handed.Statement as stated
+use Rattle.batch.proofs.handed.Code as code
+use Rattle.batch.proofs.handed.Code.Mir as mir
 
-abbrev stayed : Stays (ran.ended .signature .params) (ran.ended .kept)
+abbrev stayed : Stays (handed.ended .signature .params) (handed.ended .kept)
 stayed = (
   stay-dropped (plain (λ _. u64)) yes,
   (
@@ -182,7 +182,7 @@ module _ {M : Type 1} (𝓤 : URA M) (H : Heap 𝓤) (A : Atoms 𝓤) (W : Given
   vals = (vint w64 w ∷ [], (list-vals us, (vint w64 k ∷ [], (sliceVal (b, o) m ∷ [], tt))))
 
   abbrev Post : Val → SProp 𝓤
-  Post = walkOf 𝓤 H A ran.ended stayed (ran.clauses 𝓤 H A mem run) .post (((κ, tt), (q, tt), tt, a, vals), tt)
+  Post = walkOf 𝓤 H A handed.ended stayed (handed.clauses 𝓤 H A mem run) .post (((κ, tt), (q, tt), tt, a, vals), tt)
 
   abbrev OwnOut : Fml
   OwnOut = MutSlice (named 0) κ u64 .own out (sliceVal (b, o) m ∷ [])
@@ -191,7 +191,7 @@ module _ {M : Type 1} (𝓤 : URA M) (H : Heap 𝓤) (A : Atoms 𝓤) (W : Given
       → ent 𝓤 (⋆ 𝓤 H A (‵ (B.the-row .own r (v ∷ [])) ∷ (‵ (flft κ q) ⊛ ‵ ftrue) ∷ ‵ (finally u64 γ zs) ∷ [])) (Post v)
   exits r v zs e l =
       qed W (‵ (B.the-row .own r (v ∷ [])) ∷ (‵ (flft κ q) ⊛ ‵ ftrue) ∷ ‵ (finally u64 γ zs) ∷ []) ∵
-      suffices ! _ (ends-at 𝓤 H A ran.ended stayed (ran.clauses 𝓤 H A mem run) W (((κ, tt), (q, tt), tt, a, vals), tt) v r
+      suffices ! _ (ends-at 𝓤 H A handed.ended stayed (handed.clauses 𝓤 H A mem run) W (((κ, tt), (q, tt), tt, a, vals), tt) v r
       (tt, (tt, (tt, (zs, tt)))) (tt, (tt, (tt, (l, tt))))) $ says ! e $
       move ! (1 ∷ []) $ frame ! $ move ! (1 ∷ []) $ nothing ! $ move ! (1 ∷ 0 ∷ []) $ fjoin ! $ nothing ! $ fjoin ! $
       nothing ! $ fjoin ! $ nothing ! $ fjoin ! $ frame ! $ done !
@@ -315,7 +315,7 @@ module _ {M : Type 1} (𝓤 : URA M) (H : Heap 𝓤) (A : Atoms 𝓤) (W : Given
         k-fits = omega (arith, few)
 
   walk : (𝓣 : Tables 𝓤 H) → FmC 𝓤 H (W .laws) (𝓣 .C) → Triple 𝓤 (𝓣 .C #run) (Run 𝓤 H A mem run)
-      → ent 𝓤 (onEntry 𝓤 H A ran.signature (κ, tt) (q, tt) a vals)
+      → ent 𝓤 (onEntry 𝓤 H A handed.signature (κ, tt) (q, tt) a vals)
       (WpFn 𝓤 H (𝓣 .C) (𝓣 .Λ) code.function (vint w64 w ∷ listVal us ∷ vint w64 k ∷ sliceVal (b, o) m ∷ []) Post)
   walk 𝓣 fm known =
       qed W ((‵ (flft κ q) ⊛ ‵ ftrue) ∷ ‵ (owns (u64 ∷ ListOf ∷ usize ∷ MutSlice (named 0) κ u64 ∷ []) a vals) ∷ []) ∵
@@ -330,8 +330,8 @@ module _ {M : Type 1} (𝓤 : URA M) (H : Heap 𝓤) (A : Atoms 𝓤) (W : Given
 
 module _ {M : Type 1} (𝓤 : URA M) (H : Heap 𝓤) (A : Atoms 𝓤) (W : Given 𝓤 H A) (mem : Memory → SProp 𝓤)
     (run : Routine → Fun 𝓤) (𝓣 : Tables 𝓤 H) (known : Triple 𝓤 (𝓣 .C #run) (Run 𝓤 H A mem run)) where
-  ran-walks : Walks 𝓤 H A ran.ended stayed (WpFn 𝓤 H (𝓣 .C) (𝓣 .Λ) code.function) (ran.clauses 𝓤 H A mem run)
-  ran-walks = walked 𝓤 H A ran.ended stayed (ran.clauses 𝓤 H A mem run) (WpFn 𝓤 H (𝓣 .C) (𝓣 .Λ) code.function)
+  handed-walks : Walks 𝓤 H A handed.ended stayed (WpFn 𝓤 H (𝓣 .C) (𝓣 .Λ) code.function) (handed.clauses 𝓤 H A mem run)
+  handed-walks = walked 𝓤 H A handed.ended stayed (handed.clauses 𝓤 H A mem run) (WpFn 𝓤 H (𝓣 .C) (𝓣 .Λ) code.function)
       (λ κs. (uint-vals w64, (list-vals, (uint-vals w64, (slice-vals, tt)))))
       (λ κs. (uint-tells w64, (list-tells, (uint-tells w64, (mut-slice-tells (named 0) (κs .0) u64, tt)))))
       (λ κs qs bounds a g are. needs 𝓤 (a .1 .1 .0 ≤ 65) _ (λ few.
@@ -339,9 +339,9 @@ module _ {M : Type 1} (𝓤 : URA M) (H : Heap 𝓤) (A : Atoms 𝓤) (W : Given
       (a .1 .1 .1 .0 .name) (a .1 .1 .1 .0 .now)
       (are .0 .1) (are .1 .0) few (are .1 .1 .1 .0 .0 .1) 𝓣 (fmOf 𝓤 H (W .laws) 𝓣) known))
 
-  ran-meets : Meets 𝓤 H A ran.signature (WpFn 𝓤 H (𝓣 .C) (𝓣 .Λ) code.function) (ran.spec 𝓤 H A mem run)
-  ran-meets =
-      walk-meets 𝓤 H A ran.ended stayed W (
+  handed-meets : Meets 𝓤 H A handed.signature (WpFn 𝓤 H (𝓣 .C) (𝓣 .Λ) code.function) (handed.spec 𝓤 H A mem run)
+  handed-meets =
+      walk-meets 𝓤 H A handed.ended stayed W (
         goes-dropped 𝓤 H A W 1 (plain (λ _. u64)) yes (λ κs x f. refl),
         (
           goes-dropped 𝓤 H A W 1 (arrayOf (plain (λ _. R.the-row)) 65) yes (λ κs x f. refl),
@@ -351,12 +351,12 @@ module _ {M : Type 1} (𝓤 : URA M) (H : Heap 𝓤) (A : Atoms 𝓤) (W : Given
           ),
         ),
       )
-      (ran.clauses 𝓤 H A mem run) (WpFn 𝓤 H (𝓣 .C) (𝓣 .Λ) code.function) (WpFn-mono 𝓤 H (W .laws) 𝓣 code.function) ran-walks
+      (handed.clauses 𝓤 H A mem run) (WpFn 𝓤 H (𝓣 .C) (𝓣 .Λ) code.function) (WpFn-mono 𝓤 H (W .laws) 𝓣 code.function) handed-walks
 
-pub ran-spec : {M : Type 1} → stated.statement M
+pub handed-spec : {M : Type 1} → stated.statement M
 unfolding code.routine tablesOf
-ran-spec 𝓤 H 𝓜 𝓖 𝓡 =
-    entered 𝓤 H (tripleOf 𝓤 H (𝓖 .A) ran.signature (ran.spec 𝓤 H (𝓖 .A) (𝓜 .mem) (𝓡 .run)))
-    (tables 𝓤 H 𝓜 𝓡 code.env .C) (tables 𝓤 H 𝓜 𝓡 code.env .Λ) #ran code.function (code.unfolded 𝓤 H 𝓜 𝓡)
-    (ran-meets 𝓤 H (𝓖 .A) (givenOf 𝓤 H 𝓜 𝓖) (𝓜 .mem) (𝓡 .run) (tablesOf 𝓤 H 𝓜 (tables 𝓤 H 𝓜 𝓡 code.env))
+handed-spec 𝓤 H 𝓜 𝓖 𝓡 =
+    entered 𝓤 H (tripleOf 𝓤 H (𝓖 .A) handed.signature (handed.spec 𝓤 H (𝓖 .A) (𝓜 .mem) (𝓡 .run)))
+    (tables 𝓤 H 𝓜 𝓡 code.env .C) (tables 𝓤 H 𝓜 𝓡 code.env .Λ) #handed code.function (code.unfolded 𝓤 H 𝓜 𝓡)
+    (handed-meets 𝓤 H (𝓖 .A) (givenOf 𝓤 H 𝓜 𝓖) (𝓜 .mem) (𝓡 .run) (tablesOf 𝓤 H 𝓜 (tables 𝓤 H 𝓜 𝓡 code.env))
     (cited 𝓤 H (Run 𝓤 H (𝓖 .A) (𝓜 .mem) (𝓡 .run)) 𝓜 𝓡 code.env #run run-def.routine code.calls-batch·run (run-thm.met 𝓤 H 𝓜 𝓖 𝓡)))
