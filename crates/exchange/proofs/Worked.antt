@@ -5,10 +5,11 @@ use Prim.Native.String.{String}
 use Rattle.word.specs.Search.{climb, first, last}
 use Rattle.word.specs.Word.{half, minus, plus, signed, top}
 use Rattle.rule.specs.Meaning.{fits, meets, meets7, reach, rows, written}
+use Rattle.accept.specs.Accept.{badConstant, badForm, badSense}
 use Rattle.verdict.specs.Kept.{kept, verdictOf}
 use Rattle.chain.specs.Answer.{answer, chainFor}
 use Rattle.chain.specs.Links.{before, blocks, further, furthest, furthestOf, gap, linkAt, linkBy, links, linksFrom}
-use Rattle.sheet.specs.Calls.{after, badConstant, badForm, badSense, grounds, isBlank, lowest, marksOf, refusal, rulesOf, written as writes}
+use Rattle.sheet.specs.Calls.{after, grounds, isBlank, lowest, marksOf, refusal, rulesOf, written as writes}
 use Rattle.sheet.specs.Page.{entriesOf, marksOn, rulesOn, struck, widthOf}
 use Rattle.hex.specs.Hex.{allDigits, glyph, hex, isDigit, number, numberFrom, value}
 use Rattle.frame.specs.Answers.{chainLines, keptLine, linkLine, numberLine}

@@ -12,7 +12,8 @@ use lib.ListN.{length, length-append}
 use Rattle.word.specs.Word.{IsWidth, top}
 use Rattle.rule.specs.declared.Rule.{Rule}
 use Rattle.rule.specs.Meaning.{AllLawful, Lawful, RULES}
-use Rattle.sheet.specs.Calls.{Call, add, ask, back, badConstant, badSense, mark, open-at, refusal, written}
+use Rattle.accept.specs.Accept.{badConstant, badSense}
+use Rattle.sheet.specs.Calls.{Call, add, ask, back, mark, open-at, refusal, written}
 use Rattle.sheet.specs.Page.{Entry, MARKS, Page, WIDEST, a-mark, a-rule, entriesOf, marksOn, no-page, page, rulesOn, struck, widthOf}
 use Rattle.sheet.specs.Statements.{Reached, start, step}
 use Rattle.sheet.proofs.Refusals.{Allowed, add-fits, added-rule, blank-add, blank-back, blank-mark, mark-fits, marked-room, open-fits, opened-width}

@@ -1,8 +1,5 @@
-pub mod Accepted
 pub mod Asking
-pub mod Choices
 pub mod Demand
-pub mod Every
 pub mod Freed
 pub mod Fresh
 pub mod Lawful

@@ -12,8 +12,9 @@ use lib.ListN.{length}
 use Rattle.word.proofs.Tests.{both-pass}
 use Rattle.rule.specs.declared.Rule.{Rule}
 use Rattle.rule.specs.Meaning.{RULES}
+use Rattle.accept.specs.Accept.{badConstant, badForm, badSense}
 use Rattle.chain.specs.Links.{chainRoom}
-use Rattle.sheet.specs.Calls.{Call, Ground, add, after, ask, back, badConstant, badForm, badSense, ground, grounds, isBlank, lowest, mark, marksOf, open-at, refusal, rulesOf, written}
+use Rattle.sheet.specs.Calls.{Call, Ground, add, after, ask, back, ground, grounds, isBlank, lowest, mark, marksOf, open-at, refusal, rulesOf, written}
 use Rattle.sheet.specs.Page.{Entry, MARKS, Page, WIDEST, entriesOf, marksOn, no-page, page, rulesOn, widthOf}
 
 -- where no number is given, the first test has failed, and the rest gives none

@@ -9,9 +9,8 @@ use lib.ListN.{length}
 use Rattle.word.proofs.Tests.{both-pass}
 use Rattle.rule.specs.declared.Rule.{Rule}
 use Rattle.rule.specs.Meaning.{RULES}
-use Rattle.sheet.specs.Calls.{badConstant, badForm, badSense}
+use Rattle.accept.specs.Accept.{badConstant, badForm, badSense, acceptable, allAcceptable}
 use Rattle.sheet.specs.Page.{Entry, MARKS, Page, WIDEST, marksOn, no-page, page, rulesOn}
-use Rattle.sheet.specs.Shape.{acceptable, allAcceptable}
 use Rattle.sheet.specs.Statements.{Reached}
 use Rattle.sheet.proofs.Lawful.{AllAllowed, LawfulPage, lawful-reached, reached-lawful}
 use Rattle.sheet.proofs.Refusals.{Allowed}

@@ -12,10 +12,11 @@ use lib.Seq.{drop-append-seam, length-take-le, take-append-seam}
 use Rattle.word.proofs.Tests.{both-pass}
 use Rattle.rule.specs.declared.Rule.{Rule}
 use Rattle.rule.specs.Meaning.{RULES}
+use Rattle.accept.specs.Accept.{allAcceptable, allNoRule, isNoRule}
 use Rattle.verdict.specs.declared.Kept.{Kept}
 use Rattle.sheet.specs.declared.Sheet.{Sheet}
 use Rattle.sheet.specs.Page.{MARKS, noRule, padded}
-use Rattle.sheet.specs.Shape.{allAcceptable, allNoRule, allZero, isNoRule, marksShaped, rising, rulesShaped, wellShaped}
+use Rattle.sheet.specs.Shape.{allZero, marksShaped, rising, rulesShaped, wellShaped}
 use Rattle.sheet.proofs.ShapedPage.{ShapedLists}
 
 -- the record with these rules and marks, and zeros in the other places

@@ -13,11 +13,12 @@ use lib.ListN.{length, length-append, length-replicate, take}
 use lib.Seq.{take-append-seam}
 use Rattle.word.proofs.Tests.{both-pass}
 use Rattle.rule.specs.Meaning.{RULES}
+use Rattle.accept.specs.Accept.{allAcceptable, allNoRule, isNoRule}
 use Rattle.verdict.specs.declared.Kept.{Kept}
 use Rattle.verdict.specs.Kept.{keeps, kept}
 use Rattle.sheet.specs.declared.Sheet.{Sheet}
 use Rattle.sheet.specs.Page.{MARKS, Page, WIDEST, fresh, marksOn, no-page, noRule, padded, page, rulesOn}
-use Rattle.sheet.specs.Shape.{allAcceptable, allNoRule, allZero, isNoRule, isSheet, marksShaped, rising, rulesShaped, sameKept, wellShaped}
+use Rattle.sheet.specs.Shape.{allZero, isSheet, marksShaped, rising, rulesShaped, sameKept, wellShaped}
 use Rattle.sheet.specs.Statements.{IsSheet}
 use Rattle.sheet.specs.Statements.Reached.{start}
 use Rattle.sheet.proofs.ShapedMarks.{shaped-entered, shaped-marks-rise}

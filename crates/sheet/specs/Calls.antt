@@ -1,12 +1,12 @@
 -- The calls, when each is refused, and what the clerk then writes (01, "When the desk says no").
-use mathlib.Core.Bool.{Bool, true, false, not, _&&_, _||_}
+use mathlib.Core.Bool.{Bool, true, false, not, _&&_}
 use mathlib.Core.List.{List, [], _∷_}
 use Prim.Native.Nat.{ℕ}
 use lib.Dec.{eqb, leb, ltb}
 use lib.ListN.{length}
-use Rattle.word.specs.Word.{top}
 use Rattle.rule.specs.declared.Rule.{Rule}
 use Rattle.rule.specs.Meaning.{RULES}
+use Rattle.accept.specs.Accept.{badConstant, badForm, badSense}
 use Rattle.chain.specs.Links.{chainRoom}
 use Rattle.sheet.specs.Page.{MARKS, Page, WIDEST, a-mark, a-rule, entriesOf, marksOn, no-page, page, rulesOn, struck, widthOf}
 
@@ -34,21 +34,6 @@ lowest (g ∷ gs) = elim (g .applies) [ true ↦ g .number | false ↦ lowest gs
 unfoldable pub isBlank : Page → Bool
 isBlank no-page = true
 isBlank (page w es) = false
-
--- "form outside 1 to 8"
-unfoldable pub badForm : Rule → Bool
-badForm r = not (leb 1 (r .form) && leb (r .form) 8)
-
--- "sense above 1, or sense 1 with form 7"
-unfoldable pub badSense : Rule → Bool
-badSense r = ltb 1 (r .sense) || eqb (r .sense) 1 && eqb (r .form) 7
-
--- "a constant above the top word, or c2 not zero in forms 4, 5, 6"
-unfoldable pub badConstant : ℕ → Rule → Bool
-badConstant w r =
-    ltb (top w) (r .c1)
-    || ltb (top w) (r .c2)
-    || not (eqb (r .c2) 0) && (leb 4 (r .form) && leb (r .form) 6)
 
 -- the rules and the marks in force
 unfoldable pub rulesOf : Page → List Rule

@@ -2,39 +2,23 @@
 -- (proofs/Tested.antt). What it looks at: the width, that each rule in force would be accepted, that the marks rise up to
 -- the rules in force, that the other places hold zeros, and what is kept.
 use mathlib.Core.Path.{_≡_}
-use mathlib.Core.Bool.{Bool, true, not, _&&_, cond}
+use mathlib.Core.Bool.{Bool, true, _&&_, cond}
 use mathlib.Core.List.{List, [], _∷_}
 use Prim.Native.Nat.{ℕ}
 use lib.Dec.{eqb, leb}
 use lib.ListN.{drop, length, take}
 use Rattle.rule.specs.declared.Rule.{Rule}
 use Rattle.rule.specs.Meaning.{RULES}
+use Rattle.accept.specs.Accept.{allAcceptable, allNoRule}
 use Rattle.verdict.specs.declared.Kept.{Kept}
 use Rattle.verdict.specs.Kept.{keeps, kept}
 use Rattle.sheet.specs.declared.Sheet.{Sheet}
-use Rattle.sheet.specs.Calls.{badConstant, badForm, badSense}
 use Rattle.sheet.specs.Page.{MARKS, WIDEST}
 
 -- as many places as a record has
 pub record Whole (rs : List Rule) (ms : List ℕ) : Type 0 where
   pub rules-length : length rs ≡ RULES
   pub marks-length : length ms ≡ MARKS
-
--- the rule would not be refused with 3, 4 or 5
-unfoldable pub acceptable : ℕ → Rule → Bool
-acceptable w r = not (badForm r) && (not (badSense r) && not (badConstant w r))
-
-unfoldable pub allAcceptable : ℕ → List Rule → Bool
-allAcceptable w [] = true
-allAcceptable w (r ∷ rs) = acceptable w r && allAcceptable w rs
-
--- a place that no rule has taken
-unfoldable pub isNoRule : Rule → Bool
-isNoRule r = eqb (r .form) 0 && (eqb (r .sense) 0 && (eqb (r .c1) 0 && eqb (r .c2) 0))
-
-unfoldable pub allNoRule : List Rule → Bool
-allNoRule [] = true
-allNoRule (r ∷ rs) = isNoRule r && allNoRule rs
 
 -- n acceptable rules, and no rule after them
 unfoldable pub rulesShaped : (w n : ℕ) → List Rule → Bool

@@ -12,7 +12,6 @@ ghost use Rattle.sheet.specs.Stands.{RuleSeen, Stands};
 use crate::Answer;
 use crate::Reply;
 use crate::Sheet;
-use crate::shape;
 use rule::Rule;
 use verdict::Kept;
 use word::Width;
@@ -174,13 +173,13 @@ impl Sheet {
         if number != 0 {
             return number;
         }
-        if shape::bad_form(rule) {
+        if accept::bad_form(rule) {
             return 3;
         }
-        if shape::bad_sense(rule) {
+        if accept::bad_sense(rule) {
             return 4;
         }
-        if shape::bad_constant(rule, Width { bits: self.width }) {
+        if accept::bad_constant(rule, Width { bits: self.width }) {
             return 5;
         }
         if Rule::LIMIT <= self.count {

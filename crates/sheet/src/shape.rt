@@ -4,12 +4,11 @@ ghost use mathlib.Core.Bool.{true, _&&_};
 ghost use Prim.Native.Nat.{_≤_};
 ghost use lib.Dec.{eqb};
 ghost use lib.ListN.{drop, length, take};
-ghost use Rattle.word.specs.Word.{IsWidth};
 ghost use Rattle.rule.specs.Meaning.{RULES};
+ghost use Rattle.accept.specs.Accept.{allNoRule};
 ghost use Rattle.verdict.specs.Kept.{keeps};
-ghost use Rattle.sheet.specs.Calls.{badConstant, badForm, badSense};
 ghost use Rattle.sheet.specs.Page.{MARKS};
-ghost use Rattle.sheet.specs.Shape.{Whole, acceptable, allAcceptable, allNoRule, allZero, isNoRule, isSheet, marksShaped, rising, rulesShaped, sameKept};
+ghost use Rattle.sheet.specs.Shape.{Whole, allZero, isSheet, marksShaped, rising, rulesShaped, sameKept};
 use crate::Sheet;
 use rule::Rule;
 use verdict::Kept;
@@ -38,7 +37,7 @@ impl Sheet {
         if Width::LIMIT < width {
             return false;
         }
-        if !all_acceptable(rules, count, Width { bits: width }) {
+        if !accept::all_acceptable(rules, count, Width { bits: width }) {
             return false;
         }
         if !none_after(rules, count, marks, marked) {
@@ -65,7 +64,7 @@ fn blank(
     if marked != 0 {
         return false;
     }
-    if !all_no_rule(rules, 0) {
+    if !accept::all_no_rule(rules, 0) {
         return false;
     }
     if !all_zero(marks, 0) {
@@ -92,40 +91,13 @@ fn none_after(
     ensures { λ r. ⌜ r ≡ (allNoRule (drop count rules) && marksShaped count marked marks) ⌝ }
     ensures { λ r. ⌜ (r ≡ true → Whole rules marks) ⌝ }
 {
-    if !all_no_rule(rules, count) {
+    if !accept::all_no_rule(rules, count) {
         return false;
     }
     if !rising(marks, marked, count) {
         return false;
     }
     all_zero(marks, marked)
-}
-
-// Whether none of the first n rules would be refused.
-fn all_acceptable(rules: [Rule; Rule::LIMIT], n: usize, width: Width) -> bool
-    requires { ⌜ IsWidth (width .bits) ⌝ }
-    requires { ⌜ n ≤ RULES ⌝ }
-    ensures { λ r. ⌜ r ≡ allAcceptable (width .bits) (take n rules) ⌝ }
-{
-    for i in 0..n {
-        if !is_acceptable(rules[i], width) {
-            return false;
-        }
-    }
-    true
-}
-
-// Whether there is no rule from place n on.
-fn all_no_rule(rules: [Rule; Rule::LIMIT], n: usize) -> bool
-    requires { ⌜ n ≤ RULES ⌝ }
-    ensures { λ r. ⌜ (r ≡ allNoRule (drop n rules)) × (length rules ≡ RULES) ⌝ }
-{
-    for i in n..Rule::LIMIT {
-        if !is_no_rule(rules[i]) {
-            return false;
-        }
-    }
-    true
 }
 
 // Whether the first m marks rise, up to n.
@@ -154,88 +126,6 @@ fn all_zero(marks: [usize; Sheet::MARKS], m: usize) -> bool
         }
     }
     true
-}
-
-fn is_acceptable(rule: Rule, width: Width) -> bool
-    requires { ⌜ IsWidth (width .bits) ⌝ }
-    ensures { λ r. ⌜ r ≡ acceptable (width .bits) rule ⌝ }
-{
-    if bad_form(rule) {
-        return false;
-    }
-    if bad_sense(rule) {
-        return false;
-    }
-    !bad_constant(rule, width)
-}
-
-// A form outside 1 to 8.
-pub fn bad_form(rule: Rule) -> bool
-    ensures { λ r. ⌜ r ≡ badForm rule ⌝ }
-{
-    let form = rule.form;
-    if form < 1 {
-        return true;
-    }
-    8 < form
-}
-
-// A sense above 1, or sense 1 with form 7.
-pub fn bad_sense(rule: Rule) -> bool
-    ensures { λ r. ⌜ r ≡ badSense rule ⌝ }
-{
-    let form = rule.form;
-    let sense = rule.sense;
-    if 1 < sense {
-        return true;
-    }
-    if sense == 1 {
-        return form == 7;
-    }
-    false
-}
-
-// A constant above the top word, or c2 not zero in forms 4, 5, 6.
-pub fn bad_constant(rule: Rule, width: Width) -> bool
-    requires { ⌜ IsWidth (width .bits) ⌝ }
-    ensures { λ r. ⌜ r ≡ badConstant (width .bits) rule ⌝ }
-{
-    let form = rule.form;
-    let c1 = rule.c1;
-    let c2 = rule.c2;
-    let top = width.top();
-    if top < c1 {
-        return true;
-    }
-    if top < c2 {
-        return true;
-    }
-    if c2 == 0 {
-        return false;
-    }
-    if form < 4 {
-        return false;
-    }
-    form <= 6
-}
-
-fn is_no_rule(rule: Rule) -> bool
-    ensures { λ r. ⌜ r ≡ isNoRule rule ⌝ }
-{
-    let form = rule.form;
-    let sense = rule.sense;
-    let c1 = rule.c1;
-    let c2 = rule.c2;
-    if form != 0 {
-        return false;
-    }
-    if sense != 0 {
-        return false;
-    }
-    if c1 != 0 {
-        return false;
-    }
-    c2 == 0
 }
 
 fn same_kept(a: Kept, b: Kept) -> bool

@@ -4,9 +4,9 @@ use mathlib.Core.Bool.{and-false}
 use native.Mathlib.Omega.{arith}
 use borrow.Author.Needs.{needs}
 use borrow.Author.Tests.{le-leb, lt-leb, ne-eqb, not-false}
+use Rattle.accept.proofs.Accepted.{all-lawful}
+use Rattle.accept.proofs.Choices.{failed, never, passed}
 use Rattle.sheet.specs.Shape.{isSheet, rulesShaped, wellShaped}
-use Rattle.sheet.proofs.Accepted.{all-lawful}
-use Rattle.sheet.proofs.Choices.{failed, never, passed}
 use Rattle.sheet.proofs.Sheet.is_sheet.Statement.{statement}
 use Rattle.sheet.proofs.Sheet.is_sheet.Tie as tie
 

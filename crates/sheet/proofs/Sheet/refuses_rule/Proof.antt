@@ -5,8 +5,9 @@ use Prim.Native.Nat.{ℕ}
 use native.Mathlib.Omega.{arith}
 use borrow.Author.Needs.{needs}
 use Rattle.rule.specs.declared.Rule.{Rule}
+use Rattle.accept.specs.Accept.{badConstant, badForm, badSense}
 use Rattle.sheet.specs.declared.Sheet.{Sheet}
-use Rattle.sheet.specs.Calls.{add, badConstant, badForm, badSense, refusal}
+use Rattle.sheet.specs.Calls.{add, refusal}
 use Rattle.sheet.specs.Page.{page}
 use Rattle.sheet.specs.Stands.{RuleSeen, Standing, before-table, by-table}
 use Rattle.sheet.proofs.Refusals.{Allowed, add-constant, add-fits, add-form, add-full, add-sense}

@@ -3,9 +3,9 @@
 use mathlib.Core.Path.{sym, _∙_}
 use borrow.Author.Needs.{needs}
 use borrow.Author.Tests.{not-false, not-true}
+use Rattle.accept.proofs.Choices.{never}
 use Rattle.sheet.specs.Stands.{no-sheet}
 use Rattle.sheet.specs.Statements.{IsSheet}
-use Rattle.sheet.proofs.Choices.{never}
 use Rattle.sheet.proofs.Stands.{has-width, is-blank}
 use Rattle.sheet.proofs.Tested.{passes-sheet, sheet-passes}
 use Rattle.sheet.proofs.Sheet.standing.Statement.{statement}

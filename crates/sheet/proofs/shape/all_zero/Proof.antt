@@ -7,9 +7,9 @@ use borrow.Author.Needs.{needs}
 use borrow.Author.Tests.{eq-eqb, ne-eqb}
 use lib.Dec.{eqb}
 use lib.ListN.{drop}
+use Rattle.accept.proofs.Every.{Opens, ends, goes, stops}
 use Rattle.sheet.specs.Page.{MARKS}
 use Rattle.sheet.specs.Shape.{allZero}
-use Rattle.sheet.proofs.Every.{Opens, ends, goes, stops}
 use Rattle.sheet.proofs.shape.all_zero.Statement.{statement}
 use Rattle.sheet.proofs.shape.all_zero.Tie as tie
 

@@ -3,8 +3,9 @@
 use mathlib.Core.Bool.{and-false}
 use borrow.Author.Needs.{needs}
 use borrow.Author.Tests.{ne-eqb}
-use Rattle.sheet.specs.Shape.{allAcceptable, marksShaped, rising, rulesShaped}
-use Rattle.sheet.proofs.Choices.{failed, never, passed}
+use Rattle.accept.specs.Accept.{allAcceptable}
+use Rattle.accept.proofs.Choices.{failed, never, passed}
+use Rattle.sheet.specs.Shape.{marksShaped, rising, rulesShaped}
 use Rattle.sheet.proofs.shape.blank.Statement.{statement}
 use Rattle.sheet.proofs.shape.blank.Tie as tie
 

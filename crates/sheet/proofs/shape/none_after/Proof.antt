@@ -1,7 +1,7 @@
 -- `none_after` meets its contract. Assumes nothing.
 use borrow.Author.Needs.{needs}
+use Rattle.accept.proofs.Choices.{failed, never, passed}
 use Rattle.sheet.specs.Shape.{marksShaped}
-use Rattle.sheet.proofs.Choices.{failed, never, passed}
 use Rattle.sheet.proofs.shape.none_after.Statement.{statement}
 use Rattle.sheet.proofs.shape.none_after.Tie as tie
 

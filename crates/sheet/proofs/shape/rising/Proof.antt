@@ -7,8 +7,8 @@ use borrow.Author.Needs.{needs}
 use borrow.Author.Tests.{le-leb, lt-leb}
 use lib.Dec.{leb}
 use lib.ListN.{drop, take}
+use Rattle.accept.proofs.Every.{Opens, front-ends, front-goes, front-stops}
 use Rattle.sheet.specs.Shape.{rising}
-use Rattle.sheet.proofs.Every.{Opens, front-ends, front-goes, front-stops}
 use Rattle.sheet.proofs.shape.rising.Statement.{statement}
 use Rattle.sheet.proofs.shape.rising.Tie as tie
 

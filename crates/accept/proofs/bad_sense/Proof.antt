@@ -1,8 +1,8 @@
 -- `bad_sense` meets its contract. Assumes nothing.
 use borrow.Author.Tests.{eq-eqb, le-ltb, lt-ltb, ne-eqb}
-use Rattle.sheet.specs.Calls.{badSense}
-use Rattle.sheet.proofs.shape.bad_sense.Statement.{statement}
-use Rattle.sheet.proofs.shape.bad_sense.Tie as tie
+use Rattle.accept.specs.Accept.{badSense}
+use Rattle.accept.proofs.bad_sense.Statement.{statement}
+use Rattle.accept.proofs.bad_sense.Tie as tie
 
 returns : tie.Need-returns
 unfolding badSense

@@ -1,8 +1,8 @@
 -- `is_no_rule` meets its contract. Assumes nothing.
 use borrow.Author.Tests.{eq-eqb, ne-eqb}
-use Rattle.sheet.specs.Shape.{isNoRule}
-use Rattle.sheet.proofs.shape.is_no_rule.Statement.{statement}
-use Rattle.sheet.proofs.shape.is_no_rule.Tie as tie
+use Rattle.accept.specs.Accept.{isNoRule}
+use Rattle.accept.proofs.is_no_rule.Statement.{statement}
+use Rattle.accept.proofs.is_no_rule.Tie as tie
 
 returns : tie.Need-returns
 unfolding isNoRule

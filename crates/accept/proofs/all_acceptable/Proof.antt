@@ -5,11 +5,11 @@ use Prim.Native.Nat.{ℕ, _-_, _≤_}
 use native.Mathlib.Omega.{arith}
 use borrow.Author.Needs.{needs}
 use lib.ListN.{drop, take}
-use Rattle.sheet.specs.Shape.{acceptable, allAcceptable}
-use Rattle.sheet.proofs.Choices.{failed, passed}
-use Rattle.sheet.proofs.Every.{Opens, front-ends, front-goes, front-stops}
-use Rattle.sheet.proofs.shape.all_acceptable.Statement.{statement}
-use Rattle.sheet.proofs.shape.all_acceptable.Tie as tie
+use Rattle.accept.specs.Accept.{acceptable, allAcceptable}
+use Rattle.accept.proofs.Choices.{failed, passed}
+use Rattle.accept.proofs.Every.{Opens, front-ends, front-goes, front-stops}
+use Rattle.accept.proofs.all_acceptable.Statement.{statement}
+use Rattle.accept.proofs.all_acceptable.Tie as tie
 
 abbrev Inv-loop : tie.InvT-loop
 Inv-loop n width rules i₀ i = (i ≤ n) × (allAcceptable (width .bits) (take n rules) ≡ allAcceptable (width .bits) (drop i (take n rules)))

@@ -1,9 +1,9 @@
 -- `bad_form` meets its contract. Assumes nothing.
 use borrow.Author.Tests.{le-leb, lt-leb}
-use Rattle.sheet.specs.Calls.{badForm}
-use Rattle.sheet.proofs.Choices.{above}
-use Rattle.sheet.proofs.shape.bad_form.Statement.{statement}
-use Rattle.sheet.proofs.shape.bad_form.Tie as tie
+use Rattle.accept.specs.Accept.{badForm}
+use Rattle.accept.proofs.Choices.{above}
+use Rattle.accept.proofs.bad_form.Statement.{statement}
+use Rattle.accept.proofs.bad_form.Tie as tie
 
 returns : tie.Need-returns
 unfolding badForm

@@ -1,9 +1,9 @@
 -- `bad_constant` meets its contract. Assumes nothing.
 use borrow.Author.Needs.{needs}
 use borrow.Author.Tests.{eq-eqb, le-leb, le-ltb, lt-leb, lt-ltb, ne-eqb}
-use Rattle.sheet.specs.Calls.{badConstant}
-use Rattle.sheet.proofs.shape.bad_constant.Statement.{statement}
-use Rattle.sheet.proofs.shape.bad_constant.Tie as tie
+use Rattle.accept.specs.Accept.{badConstant}
+use Rattle.accept.proofs.bad_constant.Statement.{statement}
+use Rattle.accept.proofs.bad_constant.Tie as tie
 
 top-requires : tie.Need-top-requires
 top-requires c κs = search needs

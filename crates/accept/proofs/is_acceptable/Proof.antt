@@ -1,9 +1,9 @@
 -- `is_acceptable` meets its contract. Assumes nothing.
 use mathlib.Core.Path.{sym, _∙_}
 use borrow.Author.Needs.{needs}
-use Rattle.sheet.specs.Shape.{acceptable}
-use Rattle.sheet.proofs.shape.is_acceptable.Statement.{statement}
-use Rattle.sheet.proofs.shape.is_acceptable.Tie as tie
+use Rattle.accept.specs.Accept.{acceptable}
+use Rattle.accept.proofs.is_acceptable.Statement.{statement}
+use Rattle.accept.proofs.is_acceptable.Tie as tie
 
 bad-form-requires : tie.Need-bad-form-requires
 bad-form-requires c κs = search needs

@@ -10,8 +10,7 @@ use Rattle.word.specs.Word.{top}
 use Rattle.word.proofs.Tests.{both-pass}
 use Rattle.rule.specs.declared.Rule.{Rule}
 use Rattle.rule.specs.Meaning.{AllLawful, Lawful}
-use Rattle.sheet.specs.Calls.{badConstant, badForm, badSense}
-use Rattle.sheet.specs.Shape.{acceptable, allAcceptable}
+use Rattle.accept.specs.Accept.{badConstant, badForm, badSense, acceptable, allAcceptable}
 
 both-fail : (a b : Bool) → (a || b) ≡ false → (a ≡ false) × (b ≡ false)
 both-fail true b e = absurd (true≢false e)

@@ -6,11 +6,11 @@ use native.Mathlib.Omega.{arith}
 use borrow.Author.Needs.{needs}
 use lib.ListN.{drop}
 use Rattle.rule.specs.Meaning.{RULES}
-use Rattle.sheet.specs.Shape.{allNoRule, isNoRule}
-use Rattle.sheet.proofs.Choices.{failed, passed}
-use Rattle.sheet.proofs.Every.{Opens, ends, goes, stops}
-use Rattle.sheet.proofs.shape.all_no_rule.Statement.{statement}
-use Rattle.sheet.proofs.shape.all_no_rule.Tie as tie
+use Rattle.accept.specs.Accept.{allNoRule, isNoRule}
+use Rattle.accept.proofs.Choices.{failed, passed}
+use Rattle.accept.proofs.Every.{Opens, ends, goes, stops}
+use Rattle.accept.proofs.all_no_rule.Statement.{statement}
+use Rattle.accept.proofs.all_no_rule.Tie as tie
 
 abbrev Inv-loop : tie.InvT-loop
 Inv-loop n rules i₀ i = (i ≤ RULES) × (allNoRule (drop n rules) ≡ allNoRule (drop i rules))
