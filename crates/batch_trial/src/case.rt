@@ -3,10 +3,8 @@ use batch::Batch;
 use batch_lists::calls;
 use page_trial::answers::UNTOUCHED;
 use rule::Rule;
+use sheet::Sheet;
 use trial::tally::Tally;
-
-// What asking wants of as many rules as a sheet takes.
-const LENT: usize = 3 * (4 * Rule::LIMIT + 1);
 
 // With enough lent for any list: what is answered, and at which rule.
 pub fn lent_enough(
@@ -16,7 +14,7 @@ pub fn lent_enough(
     number: u64,
     place: usize,
 ) -> Tally {
-    compared(width, rules, count, LENT, number, place)
+    compared(width, rules, count, Sheet::LENT, number, place)
 }
 
 // With just enough lent for as many rules, which are all accepted, and with one number less.
@@ -43,12 +41,12 @@ fn compared(
     number: u64,
     place: usize,
 ) -> Tally {
-    if LENT < lent {
+    if Sheet::LENT < lent {
         return Tally::none();
     }
-    let mut out = [UNTOUCHED; LENT];
+    let mut out = [UNTOUCHED; Sheet::LENT];
     let batch = batch::first(width, rules, count, &mut out[..lent]);
-    let mut direct = [UNTOUCHED; LENT];
+    let mut direct = [UNTOUCHED; Sheet::LENT];
     let one_by_one = calls(width, rules, count, &mut direct[..lent]);
     said(batch, number, place).plus(same_answer(batch, one_by_one))
         .plus(same_numbers(&out, &direct))
@@ -73,9 +71,9 @@ fn same_answer(batch: Batch, direct: Batch) -> Tally {
         .plus(Tally::one(batch.place == direct.place))
 }
 
-fn same_numbers(out: &[u64; LENT], direct: &[u64; LENT]) -> Tally {
+fn same_numbers(out: &[u64; Sheet::LENT], direct: &[u64; Sheet::LENT]) -> Tally {
     let mut tally = Tally::none();
-    for i in 0..LENT {
+    for i in 0..Sheet::LENT {
         tally = tally.plus(Tally::one(out[i] == direct[i]));
     }
     tally

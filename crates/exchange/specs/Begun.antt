@@ -1,4 +1,5 @@
--- A line that is not finished, as it is carried from one part of the input to the next.
+-- A line that is not finished, as it is carried from one part of the input to the next. A route and no meaning: what is held is the
+-- line's first bytes, and they tell which frame it is, as is proved (proofs/Held.antt).
 use mathlib.Core.Bool.{cond}
 use mathlib.Core.List.{List, [], _∷_}
 use Prim.Native.Nat.{ℕ, suc}

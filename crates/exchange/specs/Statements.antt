@@ -1,4 +1,5 @@
--- What the exchange promises of a part of the input.
+-- What the exchange promises of a part of the input: a route, byte by byte and line by line. What it comes to over a whole input,
+-- however that is cut, is `exchange` (specs/Exchange.antt), as is proved (proofs/Whole.antt).
 use mathlib.Core.Path.{_≡_}
 use mathlib.Core.List.{List, [], _∷_, _++_}
 use Prim.Native.Nat.{ℕ, _+_, _-_, _≤_, _<_}

@@ -3,9 +3,7 @@ ghost use mathlib.Core.Path.{_≡_};
 ghost use Prim.Native.Nat.{_+_, _≤_};
 ghost use lib.ListN.{drop, length};
 ghost use Rattle.exchange.specs.Lines.{lineOf};
-
-// What ends a line.
-const NEWLINE: u8 = 10;
+use frame::Frame;
 
 // The line that starts at a place, up to the next byte 10 or the end: a part of the caller's own bytes.
 pub fn line_at(bytes: &[u8], start: usize) -> &[u8]
@@ -22,7 +20,7 @@ fn line_end(bytes: &[u8], start: usize) -> usize
     ensures { λ r. ⌜ (r ≡ start + length (lineOf (drop start (now (bytes .entry))))) × (r ≤ length (now (bytes .entry))) ⌝ }
 {
     for i in start..bytes.len() {
-        if bytes[i] == NEWLINE {
+        if bytes[i] == Frame::NEWLINE {
             return i;
         }
     }

@@ -9,16 +9,9 @@ ghost use Rattle.frame.specs.Statements.{AskLaid, Laid, LineAnswered};
 use crate::Answered;
 use crate::Frame;
 use crate::reading;
-use rule::Rule;
 use sheet::Answer;
 use sheet::Sheet;
 use verdict::Kept;
-
-// What ends a line.
-const NEWLINE: u8 = 10;
-
-// The numbers that asking may want of a full sheet.
-const LENT: usize = 3 * (4 * Rule::LIMIT + 1);
 
 // Answers one line on one sheet. A line that is no frame is answered with 10, and no call is made.
 pub fn answer(sheet: Sheet, line: &[u8], out: &mut [u8], at: usize) -> Answered
@@ -59,7 +52,7 @@ fn asked(sheet: Sheet, out: &mut [u8], at: usize) -> usize
     requires { ⌜ at + ROOM ≤ length (now out) ⌝ }
     ensures { λ r. ⌜ AskLaid sheet (now (out .entry)) at (now (out .exit)) r ⌝ }
 {
-    let mut chain = [0; LENT];
+    let mut chain = [0; Sheet::LENT];
     let reply = sheet.ask(&mut chain);
     if reply.number != 0 {
         return put_number(&mut *out, at, reply.number);
@@ -76,12 +69,12 @@ fn put_number(out: &mut [u8], at: usize, number: u64) -> usize
 {
     if number == 0 {
         hex::put_byte(&mut *out, at, 0);
-        out[at + 2] = NEWLINE;
+        out[at + 2] = Frame::NEWLINE;
         return at + 3;
     }
     hex::put_byte(&mut *out, at, 255);
     hex::put_byte(&mut *out, at + 2, number);
-    out[at + 4] = NEWLINE;
+    out[at + 4] = Frame::NEWLINE;
     at + 5
 }
 
@@ -94,12 +87,12 @@ fn put_kept(out: &mut [u8], at: usize, kept: Kept) -> usize
     hex::put_byte(&mut *out, at + 2, kept.verdict);
     hex::put_word(&mut *out, at + 4, kept.smallest);
     hex::put_word(&mut *out, at + 12, kept.largest);
-    out[at + 20] = NEWLINE;
+    out[at + 20] = Frame::NEWLINE;
     at + 21
 }
 
 // The first n links of a chain, a line each.
-fn put_links(out: &mut [u8], at: usize, chain: &[u64; LENT], n: usize) -> usize
+fn put_links(out: &mut [u8], at: usize, chain: &[u64; Sheet::LENT], n: usize) -> usize
     requires { ⌜ at + LINE * n ≤ length (now out) ⌝ }
     requires { ⌜ n ≤ mostLinks RULES ⌝ }
     ensures { λ r. ⌜ Laid (now (out .entry)) at (linkLines n (now (chain .entry))) (now (out .exit)) r ⌝ }
@@ -122,6 +115,6 @@ fn put_link(out: &mut [u8], at: usize, from: u64, to: u64, reason: u64) -> usize
     hex::put_word(&mut *out, at + 2, from);
     hex::put_word(&mut *out, at + 10, to);
     hex::put_byte(&mut *out, at + 18, reason);
-    out[at + 20] = NEWLINE;
+    out[at + 20] = Frame::NEWLINE;
     at + 21
 }

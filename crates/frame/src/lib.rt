@@ -24,6 +24,9 @@ pub struct Answered {
 }
 
 impl Frame {
+    // What ends a line.
+    pub const NEWLINE: u8 = 10;
+
     // The most digits that a frame has.
     pub const LONGEST: usize = 22;
 

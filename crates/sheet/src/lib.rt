@@ -34,4 +34,7 @@ pub struct Reply {
 impl Sheet {
     // The most marks that may be in force.
     pub const MARKS: usize = 16;
+
+    // What asking wants of a full sheet: three numbers for each of up to 4n + 1 links.
+    pub const LENT: usize = 3 * (4 * Rule::LIMIT + 1);
 }

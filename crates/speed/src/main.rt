@@ -13,9 +13,6 @@ const ASKED: u64 = 10_000;
 
 const MADE: u64 = 1_000;
 
-// What asking wants of all rules.
-const LENT: usize = 3 * (4 * Rule::LIMIT + 1);
-
 fn main() {
     let mut word = [0u8; 8];
     os::arg(1, &mut word);
@@ -49,7 +46,7 @@ fn answered(way: u8, times: u64, sheet: Sheet, rules: [Rule; Batch::MOST]) -> u6
 }
 
 fn links(way: u8, sheet: Sheet, rules: [Rule; Batch::MOST]) -> usize {
-    let mut out = [0; LENT];
+    let mut out = [0; Sheet::LENT];
     if way == b'b' {
         let made = batch::first(Width::LIMIT, rules, Rule::LIMIT, &mut out);
         return made.reply.links;
