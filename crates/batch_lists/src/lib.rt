@@ -1,6 +1,6 @@
 // Lists of rules for the programs that try the batch call, and the calls one by one.
 use batch::Batch;
-use page_trial::sheets::rule;
+use call_trial::sheets::rule;
 use rule::Rule;
 use sheet::Sheet;
 

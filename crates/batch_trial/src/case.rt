@@ -1,7 +1,7 @@
 // One case: the batch call and the calls one by one, on the same list with as many numbers lent.
 use batch::Batch;
 use batch_lists::calls;
-use page_trial::answers::UNTOUCHED;
+use call_trial::answers::UNTOUCHED;
 use rule::Rule;
 use sheet::Sheet;
 use trial::tally::Tally;

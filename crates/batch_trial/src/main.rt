@@ -10,7 +10,7 @@ use batch::Batch;
 use batch_lists::alike;
 use batch_lists::parts;
 use batch_lists::with;
-use page_trial::sheets::rule;
+use call_trial::sheets::rule;
 use rule::Rule;
 use trial::tally::Tally;
 

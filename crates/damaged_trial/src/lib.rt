@@ -2,12 +2,12 @@
 //
 // The sheet is such that no raised number gives another sheet. Its two rules are fitted by 11 to 14, and each of them by
 // other words once one of its numbers is raised by 1, or is then refused; and its mark is as high as a mark may be.
-use page_trial::answers::ask_refused;
-use page_trial::answers::refused;
-use page_trial::sheets::added;
-use page_trial::sheets::marked;
-use page_trial::sheets::opened;
-use page_trial::sheets::rule;
+use call_trial::answers::ask_refused;
+use call_trial::answers::refused;
+use call_trial::sheets::added;
+use call_trial::sheets::marked;
+use call_trial::sheets::opened;
+use call_trial::sheets::rule;
 use rule::Rule;
 use sheet::Sheet;
 use trial::tally::Tally;

@@ -1,14 +1,14 @@
 // Which number is given where two refusals apply.
-use page_trial::answers::UNTOUCHED;
-use page_trial::answers::ask_refused;
-use page_trial::answers::kept;
-use page_trial::answers::refused;
-use page_trial::answers::replied;
-use page_trial::sheets::added;
-use page_trial::sheets::all_marks;
-use page_trial::sheets::full;
-use page_trial::sheets::opened;
-use page_trial::sheets::rule;
+use call_trial::answers::UNTOUCHED;
+use call_trial::answers::ask_refused;
+use call_trial::answers::kept;
+use call_trial::answers::refused;
+use call_trial::answers::replied;
+use call_trial::sheets::added;
+use call_trial::sheets::all_marks;
+use call_trial::sheets::full;
+use call_trial::sheets::opened;
+use call_trial::sheets::rule;
 use rule::Rule;
 use sheet::Sheet;
 use trial::tally::Tally;

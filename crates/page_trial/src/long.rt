@@ -1,9 +1,9 @@
 // Long sequences of calls. After each call, accepted or refused, the desk's sheet is the one that a fresh sheet comes to
 // that is given what stands on the clerk's page.
-use crate::answers::same_sheet;
 use crate::draw;
 use crate::draw::Call;
 use crate::page::Page;
+use call_trial::answers::same_sheet;
 use made_sheets::drawn::next;
 use sheet::Answer;
 use sheet::Sheet;

@@ -1,8 +1,8 @@
 // The clerk's page: the width, and what stands on it, in order.
 use crate::draw::Call;
-use crate::sheets::added;
-use crate::sheets::marked;
-use crate::sheets::opened;
+use call_trial::sheets::added;
+use call_trial::sheets::marked;
+use call_trial::sheets::opened;
 use rule::Rule;
 use sheet::Sheet;
 

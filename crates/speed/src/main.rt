@@ -3,8 +3,8 @@
 use batch::Batch;
 use batch_lists::calls;
 use batch_lists::parts;
-use page_trial::sheets::added;
-use page_trial::sheets::opened;
+use call_trial::sheets::added;
+use call_trial::sheets::opened;
 use rule::Rule;
 use sheet::Sheet;
 use word::Width;

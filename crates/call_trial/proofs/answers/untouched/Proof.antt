@@ -2,8 +2,8 @@
 -- Assumes nothing.
 use Prim.Native.Nat.{_-_, _≤_}
 use borrow.Author.Needs.{needs}
-use Rattle.page_trial.proofs.answers.untouched.Statement.{statement}
-use Rattle.page_trial.proofs.answers.untouched.Tie as tie
+use Rattle.call_trial.proofs.answers.untouched.Statement.{statement}
+use Rattle.call_trial.proofs.answers.untouched.Tie as tie
 
 abbrev Inv-loop : tie.InvT-loop
 Inv-loop out i₀ i = i ≤ 14
