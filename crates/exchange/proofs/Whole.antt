@@ -16,10 +16,9 @@ use Rattle.frame.specs.Pages.{answerTo, pageAfter}
 use Rattle.frame.specs.Statements.{Laid}
 use Rattle.frame.proofs.OnPage.{page-answers, page-reached}
 use Rattle.exchange.specs.declared.Desk.{Desk}
-use Rattle.exchange.specs.declared.Fed.{Fed}
 use Rattle.exchange.specs.Begun.{HELD, begunLine, desk, none, put}
 use Rattle.exchange.specs.Exchange.{answersTo, exchange, inFront, lines}
-use Rattle.exchange.specs.Statements.{Ends, FedSo, Finished, LineSaid, Takes, ends-line, goes-on, last-line, no-line, nothing}
+use Rattle.exchange.specs.Statements.{Ends, Finished, LineSaid, Takes, Talk, a-part, ends-line, goes-on, last-line, no-line, nothing, silence}
 use Rattle.exchange.proofs.Cut.{feeds-takes, takes-on}
 use Rattle.exchange.proofs.Held.{Whole, cut-frame, put-held, put-whole, take-take-append}
 
@@ -105,13 +104,6 @@ pub laid-read : {b b′ bytes : List ℕ} {n : ℕ} → Laid b 0 bytes b′ n �
 laid-read {b} {b′} {bytes} {n} l =
     ap₂ take (l .ends ∙ zero-add (length bytes)) (l .written .stands ∙ sets-eq bytes b 0 (l .fits))
     ∙ take-append-seam bytes (drop (0 + length bytes) b)
-
--- Parts go in one after the other, each with any outcome that satisfies what feeding promises; what a feeding leaves of a part
--- may go in again. The input is what was used of each, and the output what each wrote.
-pub data Talk : Desk → List ℕ → Desk → List ℕ → Type 0 where
-  silence : {d : Desk} → Talk d [] d []
-  a-part : {d e : Desk} {more o : List ℕ} (part b b′ : List ℕ) (r : Fed) → FedSo d part b b′ r → Talk (r .desk) more e o
-      → Talk d (take (r .used) part ++ more) e (take (r .written) b′ ++ o)
 
 talk-takes : {d e : Desk} {input o : List ℕ} → Talk d input e o → Takes d input e o
 talk-takes silence = nothing

@@ -3,7 +3,7 @@
 use mathlib.Core.Path.{_≡_}
 use mathlib.Core.List.{List, [], _∷_, _++_}
 use Prim.Native.Nat.{ℕ, _+_, _-_, _≤_, _<_}
-use lib.ListN.{drop, length}
+use lib.ListN.{drop, length, take}
 use Rattle.sheet.specs.declared.Sheet.{Sheet}
 use Rattle.frame.specs.declared.Answered.{Answered}
 use Rattle.frame.specs.Answers.{NEWLINE, ROOM}
@@ -62,3 +62,10 @@ pub record WholeAnswered (s : Sheet) (g : Begun) (line b : List ℕ) (at : ℕ) 
   pub said : LineSaid (desk s (joined g line)) (r .sheet) bytes
   pub laid : Laid b at bytes b′ (r .end)
   pub fits : length bytes ≤ ROOM
+
+-- Parts go in one after the other, each with any outcome that satisfies what feeding promises; what a feeding leaves of a part
+-- may go in again. The input is what was used of each, and the output what each wrote.
+pub data Talk : Desk → List ℕ → Desk → List ℕ → Type 0 where
+  silence : {d : Desk} → Talk d [] d []
+  a-part : {d e : Desk} {more o : List ℕ} (part b b′ : List ℕ) (r : Fed) → FedSo d part b b′ r → Talk (r .desk) more e o
+      → Talk d (take (r .used) part ++ more) e (take (r .written) b′ ++ o)
