@@ -1,5 +1,6 @@
 pub mod Added
 pub mod OneByOne
 pub mod Onward
+pub mod Place
 pub mod UnderWay
 pub mod Unique

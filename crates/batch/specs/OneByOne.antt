@@ -1,5 +1,5 @@
--- The calls one by one, each with any outcome that satisfies its statement, up to the first refusal. That the batch call
--- promises just what these come to is proved (proofs/OneByOne.antt).
+-- The calls one by one, each with any outcome that satisfies its statement, up to the first refusal. That what these come to is
+-- what the batch call promises is proved (proofs/OneByOne.antt).
 use mathlib.Core.Path.{_≡_}
 use mathlib.Core.List.{List, [], _∷_}
 use Prim.Native.Nat.{ℕ, _+_}

@@ -24,9 +24,14 @@ unfolding
     exchange answersTo answerTo pageAfter lines inFront bytesOf frameOf byDigits bare ruleOf allDigits isDigit number numberFrom value numberLine keptLine linkLine chainLines hex glyph after refusal lowest grounds isBlank badForm badSense badConstant rulesOf marksOf writes entriesOf widthOf rulesOn marksOn struck answer chainFor kept verdictOf links linksFrom linkAt linkBy gap before furthest furthestOf further blocks reach meets7 fits meets written rows first last climb top half plus minus signed
 paper = refl
 
--- "Empty input gives empty output; an empty line is answered with 10"; "the last may lack it, and a final byte 10 opens no
--- further line"
+-- "each line ended by byte 10; the last may lack it, and a final byte 10 opens no further line"
 pub endings : map (λ (t : String). lines (bytesOf t)) ("" ∷ "\n" ∷ "a" ∷ "a\n" ∷ "a\n\n" ∷ [])
     ≡ [] ∷ ([] ∷ []) ∷ ((97 ∷ []) ∷ []) ∷ ((97 ∷ []) ∷ []) ∷ ((97 ∷ []) ∷ [] ∷ []) ∷ []
 unfolding lines inFront bytesOf
 endings = refl
+
+-- "Empty input gives empty output; an empty line is answered with 10."
+pub empties : map (λ (t : String). exchange (bytesOf t)) ("" ∷ "\n" ∷ "\n\n" ∷ []) ≡ map bytesOf ("" ∷ "ff0a\n" ∷ "ff0a\nff0a\n" ∷ [])
+unfolding
+    exchange answersTo answerTo pageAfter lines inFront bytesOf frameOf byDigits bare allDigits number numberFrom numberLine hex glyph
+empties = refl

@@ -1,8 +1,9 @@
 -- On the sheet that a page gives, a frame gets the page's answer, and the sheet of the page after it. Assumes nothing.
-use mathlib.Core.Path.{_≡_, refl, ap, ap₂, _∙_}
+use mathlib.Core.Path.{_≡_, refl, sym, ap, ap₂, _∙_}
 use mathlib.Core.List.{List, [], _∷_, _++_}
 use Prim.Native.Nat.{ℕ}
 use native.Mathlib.Decide.{ℕ-discrete}
+use native.Mathlib.Omega.{arith}
 use borrow.Author.Tests.{eq-eqb, ne-eqb}
 use lib.ListN.{length}
 use Rattle.rule.specs.Meaning.{RULES}
@@ -12,9 +13,11 @@ use Rattle.sheet.specs.declared.Answer.{Answer}
 use Rattle.sheet.specs.declared.Reply.{Reply}
 use Rattle.sheet.specs.declared.Sheet.{Sheet}
 use Rattle.sheet.specs.Calls.{Call, after, grounds, refusal}
-use Rattle.sheet.specs.Page.{Page, fresh}
+use Rattle.sheet.specs.Page.{Page, fresh, no-page, page}
 use Rattle.sheet.specs.Statements.{Answers, Asked, Reached, chainOn, opened, overlaid, reply}
 use Rattle.sheet.proofs.Demand.{after-reached, opened-sheet}
+use Rattle.sheet.proofs.Lawful.{reached-lawful}
+use Rattle.sheet.proofs.Refusals.{ask-fits, blank-ask}
 use Rattle.frame.specs.declared.Frame.{Frame}
 use Rattle.frame.specs.declared.Frame.the-variants.{Add, Ask, Back, Mark, NoFrame, Open}
 use Rattle.frame.specs.Answers.{askLines, chainLines, linkLine, linkLines, numberLine}
@@ -67,3 +70,11 @@ page-reached h Mark = after-reached h _
 page-reached h Back = after-reached h _
 page-reached h Ask = h
 page-reached h NoFrame = h
+
+-- "the program always lends enough for the chain": 9 cannot come from a line
+pub lent-enough : (pg : Page) → Reached pg → refusal pg asking ≡ 9 → ⊥
+lent-enough no-page h e = let z = sym (blank-ask (chainRoom RULES)) ∙ e in omega arith
+lent-enough (page w es) h e =
+    let few = reached-lawful h .rules-fit in
+    let z = sym (ask-fits w es (chainRoom RULES) (omega arith)) ∙ e in
+    omega arith

@@ -33,7 +33,8 @@ Fits Back = Unit
 Fits Ask = Unit
 Fits NoFrame = ⊥
 
--- Reading: that a line is read as a frame just where it is that frame's digits is proved (proofs/ReadBack.antt).
+-- Reading: that a line is read as a frame just where it is the digits of that frame, whose numbers fit them, is proved
+-- (proofs/ReadBack.antt).
 
 -- the rule of an add: after its code "form(2) sense(2) c1(8) c2(8)"
 unfoldable pub ruleOf : List ℕ → Rule
