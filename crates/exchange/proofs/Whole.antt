@@ -44,7 +44,7 @@ byte-more [] b ls = refl
 byte-more (c ∷ u) b ls = ap (inFront c) (byte-more u b ls)
 
 -- a desk on a page, which holds the first bytes of a line u
-pub record Holds (pg : Page) (u : List ℕ) (d : Desk) : Type 0 where
+record Holds (pg : Page) (u : List ℕ) (d : Desk) : Type 0 where
   pub reached : Reached pg
   pub sheet-of : d .sheet ≡ fresh pg
   pub whole : Whole (d .begun)
@@ -93,14 +93,14 @@ from-here {pg} u {p} h (ends-line {b} {bs} {o} {p = q} z s t) k =
 from-here {pg} u h (goes-on {b} {bs} n t) k =
     from-here (u ++ b ∷ []) (holds-more h b) t k ∙ sym (rw (ne-eqb b NEWLINE n, byte-more u b (lines bs)))
 
-pub whole-exchange : {e : Desk} {input o p : List ℕ} → Takes (desk blank none) input e o → Ends e p → o ++ p ≡ exchange input
+whole-exchange : {e : Desk} {input o p : List ℕ} → Takes (desk blank none) input e o → Ends e p → o ++ p ≡ exchange input
 unfolding exchange fresh begunLine afterBytes
 whole-exchange t k = from-here [] (record { reached = start; sheet-of = refl; whole = refl; held = refl }) t k
 
 -- ---- however it is cut
 
 -- what a buffer holds up to the place where bytes from its start on end
-pub laid-read : {b b′ bytes : List ℕ} {n : ℕ} → Laid b 0 bytes b′ n → take n b′ ≡ bytes
+laid-read : {b b′ bytes : List ℕ} {n : ℕ} → Laid b 0 bytes b′ n → take n b′ ≡ bytes
 laid-read {b} {b′} {bytes} {n} l =
     ap₂ take (l .ends ∙ zero-add (length bytes)) (l .written .stands ∙ sets-eq bytes b 0 (l .fits))
     ∙ take-append-seam bytes (drop (0 + length bytes) b)

@@ -12,7 +12,7 @@ use lib.Seq.{getD-drop, length-sets}
 use Rattle.verdict.specs.declared.Kept.{Kept}
 use Rattle.hex.specs.Hex.{Written, hex}
 use Rattle.hex.proofs.Digits.{and-then, length-hex}
-use Rattle.frame.specs.Answers.{LINE, NEWLINE, keptLine, linkLine, linkLines, numberLine}
+use Rattle.frame.specs.Answers.{ACCEPTED, LINE, LINKED, NEWLINE, REFUSED, TOLD, keptLine, linkLine, linkLines, numberLine}
 use Rattle.frame.specs.Statements.{Laid}
 
 -- a line of digits gets its byte 10
@@ -26,16 +26,16 @@ ended {b} {b₁} {at} {xs} w n e h =
     }
 
 module _ {b b₁ : List ℕ} {at : ℕ} where
-  pub accepted : at + 3 ≤ length b → Written b at (hex 2 0) b₁ → Laid b at (numberLine 0) (set b₁ (at + 2) NEWLINE) (at + 3)
+  pub accepted : at + 3 ≤ length b → Written b at (hex 2 ACCEPTED) b₁ → Laid b at (numberLine 0) (set b₁ (at + 2) NEWLINE) (at + 3)
   unfolding numberLine
-  accepted h u = ended u 2 (length-hex 2 0) h
+  accepted h u = ended u 2 (length-hex 2 ACCEPTED) h
 
-  pub refused : {b₂ : List ℕ} (n : ℕ) → at + 5 ≤ length b → (n ≡ 0 → ⊥) → Written b at (hex 2 255) b₁ → Written b₁ (at + 2) (hex 2 n) b₂
+  pub refused : {b₂ : List ℕ} (n : ℕ) → at + 5 ≤ length b → (n ≡ 0 → ⊥) → Written b at (hex 2 REFUSED) b₁ → Written b₁ (at + 2) (hex 2 n) b₂
       → Laid b at (numberLine n) (set b₂ (at + 4) NEWLINE) (at + 5)
   unfolding numberLine
   refused n h k u v = rw (ne-eqb n 0 k) (ended (and-then u v (simp length-hex)) 4 (simp (length-append, length-hex)) h)
 
-  pub verdict-line : {b₂ b₃ b₄ : List ℕ} (k : Kept) → at + LINE ≤ length b → Written b at (hex 2 160) b₁ → Written b₁ (at + 2) (hex 2 (k .verdict)) b₂
+  pub verdict-line : {b₂ b₃ b₄ : List ℕ} (k : Kept) → at + LINE ≤ length b → Written b at (hex 2 TOLD) b₁ → Written b₁ (at + 2) (hex 2 (k .verdict)) b₂
       → Written b₂ (at + 4) (hex 8 (k .smallest)) b₃ → Written b₃ (at + 12) (hex 8 (k .largest)) b₄
       → Laid b at (keptLine k) (set b₄ (at + 20) NEWLINE) (at + 21)
   unfolding keptLine
@@ -44,7 +44,7 @@ module _ {b b₁ : List ℕ} {at : ℕ} where
       let uvs = and-then uv s (simp (length-append, length-hex)) in
       ended (and-then uvs l (simp (length-append, length-hex))) 20 (simp (length-append, length-hex)) h
 
-  pub link-line : {b₂ b₃ b₄ : List ℕ} (from to reason : ℕ) → at + LINE ≤ length b → Written b at (hex 2 192) b₁ → Written b₁ (at + 2) (hex 8 from) b₂
+  pub link-line : {b₂ b₃ b₄ : List ℕ} (from to reason : ℕ) → at + LINE ≤ length b → Written b at (hex 2 LINKED) b₁ → Written b₁ (at + 2) (hex 8 from) b₂
       → Written b₂ (at + 10) (hex 8 to) b₃ → Written b₃ (at + 18) (hex 2 reason) b₄
       → Laid b at (linkLine from to reason) (set b₄ (at + 20) NEWLINE) (at + 21)
   unfolding linkLine
@@ -71,7 +71,7 @@ pub length-number : (n : ℕ) → length (numberLine n) ≤ 5
 unfolding numberLine
 length-number n = go (eqb n 0)
   where
-    go : (t : Bool) → length (cond t (hex 2 0 ++ NEWLINE ∷ []) (hex 2 255 ++ hex 2 n ++ NEWLINE ∷ [])) ≤ 5
+    go : (t : Bool) → length (cond t (hex 2 ACCEPTED ++ NEWLINE ∷ []) (hex 2 REFUSED ++ hex 2 n ++ NEWLINE ∷ [])) ≤ 5
     go true = simp (length-append, length-hex) (omega arith)
     go false = simp (length-append, length-hex) (omega arith)
 

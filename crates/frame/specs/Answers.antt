@@ -22,17 +22,30 @@ LINE = 21
 abbrev pub ROOM : ℕ
 ROOM = LINE + LINE * mostLinks RULES
 
+-- what an answer's line begins with: accepted, refused, the verdict, a link
+abbrev pub ACCEPTED : ℕ
+ACCEPTED = 0
+
+abbrev pub REFUSED : ℕ
+REFUSED = 255
+
+abbrev pub TOLD : ℕ
+TOLD = 160
+
+abbrev pub LINKED : ℕ
+LINKED = 192
+
 -- "`00` accepted; `ff` number(2) refused, in hexadecimal, so 10 is `ff0a`"
 unfoldable pub numberLine : ℕ → List ℕ
-numberLine n = cond (eqb n 0) (hex 2 0 ++ NEWLINE ∷ []) (hex 2 255 ++ hex 2 n ++ NEWLINE ∷ [])
+numberLine n = cond (eqb n 0) (hex 2 ACCEPTED ++ NEWLINE ∷ []) (hex 2 REFUSED ++ hex 2 n ++ NEWLINE ∷ [])
 
 -- "`a0` verdict(2: 00 none, 01 one, 02 many) smallest(8) largest(8)"
 unfoldable pub keptLine : Kept → List ℕ
-keptLine k = hex 2 160 ++ hex 2 (k .verdict) ++ hex 8 (k .smallest) ++ hex 8 (k .largest) ++ NEWLINE ∷ []
+keptLine k = hex 2 TOLD ++ hex 2 (k .verdict) ++ hex 8 (k .smallest) ++ hex 8 (k .largest) ++ NEWLINE ∷ []
 
 -- "`c0` from(8) to(8) reason(2)"
 unfoldable pub linkLine : (from to reason : ℕ) → List ℕ
-linkLine from to reason = hex 2 192 ++ hex 8 from ++ hex 8 to ++ hex 2 reason ++ NEWLINE ∷ []
+linkLine from to reason = hex 2 LINKED ++ hex 8 from ++ hex 8 to ++ hex 2 reason ++ NEWLINE ∷ []
 
 -- "a line a link"
 unfoldable pub chainLines : List Link → List ℕ

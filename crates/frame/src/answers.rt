@@ -13,6 +13,15 @@ use sheet::Answer;
 use sheet::Sheet;
 use verdict::Kept;
 
+// What an answer's line begins with: accepted, refused, the verdict, a link.
+const ACCEPTED: u64 = 0x00;
+
+const REFUSED: u64 = 0xff;
+
+const TOLD: u64 = 0xa0;
+
+const LINKED: u64 = 0xc0;
+
 // Answers one line on one sheet. A line that is no frame is answered with 10, and no call is made.
 pub fn answer(sheet: Sheet, line: &[u8], out: &mut [u8], at: usize) -> Answered
     requires { ⌜ at + ROOM ≤ length (now out) ⌝ }
@@ -68,11 +77,11 @@ fn put_number(out: &mut [u8], at: usize, number: u64) -> usize
     ensures { λ r. ⌜ Laid (now (out .entry)) at (numberLine number) (now (out .exit)) r ⌝ }
 {
     if number == 0 {
-        hex::put_byte(&mut *out, at, 0);
+        hex::put_byte(&mut *out, at, ACCEPTED);
         out[at + 2] = Frame::NEWLINE;
         return at + 3;
     }
-    hex::put_byte(&mut *out, at, 255);
+    hex::put_byte(&mut *out, at, REFUSED);
     hex::put_byte(&mut *out, at + 2, number);
     out[at + 4] = Frame::NEWLINE;
     at + 5
@@ -83,12 +92,12 @@ fn put_kept(out: &mut [u8], at: usize, kept: Kept) -> usize
     requires { ⌜ at + LINE ≤ length (now out) ⌝ }
     ensures { λ r. ⌜ Laid (now (out .entry)) at (keptLine kept) (now (out .exit)) r ⌝ }
 {
-    hex::put_byte(&mut *out, at, 160);
+    hex::put_byte(&mut *out, at, TOLD);
     hex::put_byte(&mut *out, at + 2, kept.verdict);
     hex::put_word(&mut *out, at + 4, kept.smallest);
     hex::put_word(&mut *out, at + 12, kept.largest);
     out[at + 20] = Frame::NEWLINE;
-    at + 21
+    at + Frame::LINE
 }
 
 // The first n links of a chain, a line each.
@@ -111,10 +120,10 @@ fn put_link(out: &mut [u8], at: usize, from: u64, to: u64, reason: u64) -> usize
     requires { ⌜ at + LINE ≤ length (now out) ⌝ }
     ensures { λ r. ⌜ Laid (now (out .entry)) at (linkLine from to reason) (now (out .exit)) r ⌝ }
 {
-    hex::put_byte(&mut *out, at, 192);
+    hex::put_byte(&mut *out, at, LINKED);
     hex::put_word(&mut *out, at + 2, from);
     hex::put_word(&mut *out, at + 10, to);
     hex::put_byte(&mut *out, at + 18, reason);
     out[at + 20] = Frame::NEWLINE;
-    at + 21
+    at + Frame::LINE
 }

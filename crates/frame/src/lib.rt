@@ -30,6 +30,9 @@ impl Frame {
     // The most digits that a frame has.
     pub const LONGEST: usize = 22;
 
-    // How long an answer can be: a line on the verdict, and one for each link, of 21 bytes each.
-    pub const ROOM: usize = 21 * (4 * Rule::LIMIT + 2);
+    // The bytes of a line on the verdict or on a link.
+    pub const LINE: usize = 21;
+
+    // How long an answer can be: a line on the verdict, and one for each link.
+    pub const ROOM: usize = Frame::LINE * (4 * Rule::LIMIT + 2);
 }

@@ -59,6 +59,6 @@ fn rule_of(line: &[u8]) -> Rule
         form: hex::number(line, 2, 4),
         sense: hex::number(line, 4, 6),
         c1: hex::number(line, 6, 14),
-        c2: hex::number(line, 14, 22),
+        c2: hex::number(line, 14, Frame::LONGEST),
     }
 }

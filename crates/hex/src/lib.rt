@@ -19,9 +19,9 @@ pub fn put_word(out: &mut [u8], at: usize, x: u64)
     requires { ⌜ at + 8 ≤ length (now out) ⌝ }
     ensures { λ _. ⌜ Written (now (out .entry)) at (hex 8 x) (now (out .exit)) ⌝ }
 {
-    put_byte(&mut *out, at, x / 16777216);
-    put_byte(&mut *out, at + 2, x / 65536);
-    put_byte(&mut *out, at + 4, x / 256);
+    put_byte(&mut *out, at, x / 0x100_0000);
+    put_byte(&mut *out, at + 2, x / 0x1_0000);
+    put_byte(&mut *out, at + 4, x / 0x100);
     put_byte(&mut *out, at + 6, x);
 }
 
