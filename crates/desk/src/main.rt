@@ -1,7 +1,10 @@
 // The desk: frames on standard input, a line each, and answers on standard output.
+ghost use mathlib.Core.Path.{_≡_};
+ghost use mathlib.Core.Bool.{true};
 ghost use Prim.Native.Nat.{_≤_};
 ghost use lib.ListN.{length};
 ghost use Rattle.frame.specs.Answers.{ROOM};
+ghost use Rattle.desk.specs.Passed.{Passed};
 use exchange::Desk;
 use libc::STDIN_FILENO;
 use libc::STDOUT_FILENO;
@@ -15,6 +18,7 @@ struct Served {
 // Answers a part of the input, with a write each time that the buffer is full and one at the end.
 fn serve(desk: Desk, part: &[u8], out: &mut [u8]) -> Served
     requires { ⌜ ROOM ≤ length (now out) ⌝ }
+    ensures { λ r. ⌜ (r .taken ≡ true → Passed desk (now (part .entry)) (r .desk)) ⌝ }
 {
     let mut desk = desk;
     let mut at = 0;
