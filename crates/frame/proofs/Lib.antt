@@ -1,3 +1,4 @@
+pub mod Fit
 pub mod Lines
 pub mod OnPage
 pub mod ReadBack
