@@ -52,7 +52,7 @@ unfoldable pub chainLines : List Link → List ℕ
 chainLines [] = []
 chainLines (l ∷ ls) = linkLine (l .from) (l .to) (l .reason) ++ chainLines ls
 
--- the lines of the first n links that a buffer holds, three numbers each
+-- the lines of the first n links that a buffer holds, three numbers each: on the sheet of a page, `chainLines` of its chain
 unfoldable pub linkLines : ℕ → List ℕ → List ℕ
 linkLines zero b = []
 linkLines (suc n) b = linkLine (getD b 0 0) (getD b 1 0) (getD b 2 0) ++ linkLines n (drop 3 b)
