@@ -5,7 +5,7 @@ use mathlib.Core.List.{List, []}
 use Prim.Native.Nat.{ℕ}
 use lib.ListN.{length}
 use Rattle.rule.specs.declared.Rule.{Rule}
-use Rattle.chain.specs.Links.{laid}
+use Rattle.chain.specs.Links.{numbersOf}
 use Rattle.sheet.specs.declared.Answer.{Answer}
 use Rattle.sheet.specs.declared.Reply.{Reply}
 use Rattle.sheet.specs.declared.Sheet.{Sheet}
@@ -21,7 +21,7 @@ use Rattle.batch.proofs.Added.{add-goes, add-stops, open-goes, open-sto
 
 adding-gives : {b b′ : List ℕ} {s : Sheet} {i : ℕ} {us : List Rule} {r : Batch} (pg : Page) → Reached pg → s ≡ fresh pg
     → Adding b s i us b′ r → Gives (added pg i us (length b)) b b′ r
-unfolding added laid
+unfolding added numbersOf
 adding-gives {b} {i = i} pg h e (asks a) =
     let q = a .on-page pg h e in
     record { answers = ap (λ (r : Reply). batches r i) (q .0); writes = q .1 }
@@ -35,7 +35,7 @@ adding-gives {b} {i = i} pg h e (adds {u = u} {us = us} a p z k) =
     (adding-gives (after pg (add u)) (after-reached h (add u)) (ap (λ (r : Answer). r .sheet) q) k)
 
 pub one-by-one : {w : ℕ} {us : List Rule} {b b′ : List ℕ} {r : Batch} → OneByOne w us b b′ r → Batched w us b b′ r
-unfolding opened laid written
+unfolding opened numbersOf written
 one-by-one {w} {us} {b} (refused-width n) = rw (open-stops w us (length b) n) (record { answers = refl; writes = refl })
 one-by-one {w} {us} {b} (opens z k) =
     rw (open-goes w us (length b) z)

@@ -14,7 +14,7 @@ use lib.ListN.{drop, drop-of-length-le, getD, length}
 use lib.Seq.{drop-cons}
 use Rattle.word.proofs.Tests.{both-pass}
 use Rattle.rule.specs.declared.Rule.{Rule}
-use Rattle.chain.specs.Links.{laid}
+use Rattle.chain.specs.Links.{numbersOf}
 use Rattle.sheet.specs.declared.Answer.{Answer}
 use Rattle.sheet.specs.Calls.{add, after, open-at, refusal, written}
 use Rattle.sheet.specs.Page.{Page, blank, fresh, noRule, no-page, page}
@@ -119,7 +119,7 @@ module _ (w : ℕ) (us : List Rule) (m : ℕ) where
 
 module _ (w : ℕ) (us : List Rule) (c : Course) (b b′ : List ℕ) (r : Batch) (f : Finished c b b′ r) where
   pub finish-way : UnderWay w us (length b) c → goes c (length us) ≡ false → Batched w us b b′ r
-  unfolding added laid goes
+  unfolding added numbersOf goes
   finish-way (stopped z _ q) none-left =
       let h = f .refused z in
       rw q (record { answers = h .0; writes = h .1 })

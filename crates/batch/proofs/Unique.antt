@@ -8,7 +8,7 @@ use borrow.Author.Tests.{eq-eqb, ne-eqb}
 use lib.ListN.{length}
 use Rattle.rule.specs.declared.Rule.{Rule}
 use Rattle.chain.specs.declared.Link.{Link}
-use Rattle.chain.specs.Links.{laid}
+use Rattle.chain.specs.Links.{numbersOf}
 use Rattle.sheet.specs.Calls.{add, after, ask, open-at, refusal}
 use Rattle.sheet.specs.Page.{Page, no-page, page}
 use Rattle.sheet.specs.Statements.{chainOn, overlaid, reply}
@@ -50,7 +50,7 @@ batch-leaves w us m = go (ℕ-discrete (refusal no-page (open-at w)) 0)
 
 pub batched-leaves : (w : ℕ) (us : List Rule) {b b′ : List ℕ} {r : Batch} → Batched w us b b′ r → (r .reply .number ≡ 0 → ⊥)
     → b′ ≡ b
-unfolding laid
+unfolding numbersOf
 batched-leaves w us {b} h k =
     h .writes
     ∙ ap (λ (ls : List Link). overlaid ls b)

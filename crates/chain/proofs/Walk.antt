@@ -18,7 +18,7 @@ use Rattle.bits.specs.Fixed.{fixedBits}
 use Rattle.verdict.specs.Kept.{kept}
 use Rattle.verdict.proofs.Right.{kept-right}
 use Rattle.chain.specs.declared.Link.{Link}
-use Rattle.chain.specs.Links.{laid, linkAt, links, linksFrom}
+use Rattle.chain.specs.Links.{numbersOf, linkAt, links, linksFrom}
 use Rattle.chain.proofs.Bound.{chain-bound}
 use Rattle.chain.proofs.Lists.{Next, next-of, paste-on}
 use Rattle.chain.proofs.Steps.{NoFit, chain-is, links-end, links-on}
@@ -42,31 +42,31 @@ pub record Sheet (n : ℕ) (bands : List Band) (fixed : Fixed) (w : ℕ) (rs : L
 -- so many links are written, and the next starts at p
 pub record Walked (w : ℕ) (rs : List Rule) (out₀ out : List ℕ) (count p : ℕ) : Type 0 where
   pub rest : drop count (links w rs) ≡ linksFrom w rs (suc (top w) - p) p
-  pub written : out ≡ laid (take count (links w rs)) ++ drop (3 * count) out₀
+  pub written : out ≡ numbersOf (take count (links w rs)) ++ drop (3 * count) out₀
 
-laid-more : (ls ms : List Link) → laid (ls ++ ms) ≡ laid ls ++ laid ms
-unfolding laid
-laid-more [] ms = refl
-laid-more (l ∷ ls) ms = ap (λ (ns : List ℕ). l .from ∷ l .to ∷ l .reason ∷ ns) (laid-more ls ms)
+numbers-more : (ls ms : List Link) → numbersOf (ls ++ ms) ≡ numbersOf ls ++ numbersOf ms
+unfolding numbersOf
+numbers-more [] ms = refl
+numbers-more (l ∷ ls) ms = ap (λ (ns : List ℕ). l .from ∷ l .to ∷ l .reason ∷ ns) (numbers-more ls ms)
 
-pub laid-length : (ls : List Link) → length (laid ls) ≡ 3 * length ls
-unfolding laid
-laid-length [] = refl
-laid-length (l ∷ ls) = omega (arith, laid-length ls)
+pub numbers-length : (ls : List Link) → length (numbersOf ls) ≡ 3 * length ls
+unfolding numbersOf
+numbers-length [] = refl
+numbers-length (l ∷ ls) = omega (arith, numbers-length ls)
 
 -- one link put behind those that are written
 put-next : (ls : List Link) (out₀ out : List ℕ) (count : ℕ) (l : Link) {ms : List Link} → Next ls count l ms
-    → out ≡ laid (take count ls) ++ drop (3 * count) out₀
-    → take (3 * count) out ++ l .from ∷ l .to ∷ l .reason ∷ drop (3 * count + 3) out ≡ laid (take (count + 1) ls) ++ drop (3 * (count + 1)) out₀
-unfolding laid
+    → out ≡ numbersOf (take count ls) ++ drop (3 * count) out₀
+    → take (3 * count) out ++ l .from ∷ l .to ∷ l .reason ∷ drop (3 * count + 3) out ≡ numbersOf (take (count + 1) ls) ++ drop (3 * (count + 1)) out₀
+unfolding numbersOf
 put-next ls out₀ out count l n e =
     let many = length-take-le count ls (omega (arith, n .there)) in
-    let size : length (laid (take count ls)) ≡ 3 * count = omega (arith, laid-length (take count ls)) in
+    let size : length (numbersOf (take count ls)) ≡ 3 * count = omega (arith, numbers-length (take count ls)) in
     let more : suc count ≡ count + 1 = omega arith in
     let on : 3 * count + 3 ≡ 3 * (count + 1) = omega arith in
-    paste-on (laid (take count ls)) (l .from ∷ l .to ∷ l .reason ∷ []) out out₀ (3 * count) 3 size e
+    paste-on (numbersOf (take count ls)) (l .from ∷ l .to ∷ l .reason ∷ []) out out₀ (3 * count) 3 size e
     ∙ ap₂ (λ (ns : List ℕ) (k : ℕ). ns ++ drop k out₀)
-    (sym (laid-more (take count ls) (l ∷ [])) ∙ ap laid (sym (n .taken)) ∙ ap (λ (k : ℕ). laid (take k ls)) more) on
+    (sym (numbers-more (take count ls) (l ∷ [])) ∙ ap numbersOf (sym (n .taken)) ∙ ap (λ (k : ℕ). numbersOf (take k ls)) more) on
 
 some-link : (w : ℕ) (rs : List Rule) (k p : ℕ) → 1 ≤ k → (ls : List Link) × (linksFrom w rs k p ≡ linkAt w rs p ∷ ls)
 unfolding linksFrom
@@ -74,7 +74,7 @@ some-link w rs zero p h = absurd (omega arith)
 some-link w rs (suc k) p h = (_, refl)
 
 pub walk-start : (w : ℕ) (rs : List Rule) (out : List ℕ) → Walked w rs out out 0 0
-unfolding links laid
+unfolding links numbersOf
 walk-start w rs out =
     let fuel : 2 ^ w ≡ suc (top w) - 0 = omega (arith, top-suc w) in
     record { rest = ap (λ (k : ℕ). linksFrom w rs k 0) fuel; written = refl }
@@ -105,7 +105,7 @@ module _ (w : ℕ) (rs : List Rule) (no-fit : NoFit w rs) (p : ℕ) (word : p �
             written = put ∙ put-next (links w rs) out₀ out count l n (walk .written);
           }
 
-      pub walk-end : l .to ≡ top w → (count + 1 ≡ length (links w rs)) × (out′ ≡ laid (links w rs) ++ drop (3 * (count + 1)) out₀)
+      pub walk-end : l .to ≡ top w → (count + 1 ≡ length (links w rs)) × (out′ ≡ numbersOf (links w rs) ++ drop (3 * (count + 1)) out₀)
       walk-end h =
           let t : l .to ≡ linkAt w rs p .to = ap (λ (m : Link). m .to) here in
           let e = links-end w rs no-fit p word (suc (top w) - p) (omega arith) (omega arith) in
@@ -115,5 +115,5 @@ module _ (w : ℕ) (rs : List Rule) (no-fit : NoFit w rs) (p : ℕ) (word : p �
             full,
             put
                 ∙ put-next (links w rs) out₀ out count l n (walk .written)
-                ∙ ap (λ (ls : List Link). laid ls ++ drop (3 * (count + 1)) out₀) (take-all (count + 1) (links w rs) (omega arith)),
+                ∙ ap (λ (ls : List Link). numbersOf ls ++ drop (3 * (count + 1)) out₀) (take-all (count + 1) (links w rs) (omega arith)),
           )

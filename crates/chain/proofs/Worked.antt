@@ -5,11 +5,11 @@ use Rattle.word.specs.Word.{half, minus, plus, signed, top}
 use Rattle.word.specs.Search.{climb, first, last}
 use Rattle.rule.specs.Meaning.{fits, meets, meets7, reach, rows, written}
 use Rattle.verdict.specs.Kept.{kept, verdictOf}
-use Rattle.chain.specs.Answer.{answer, chainFor}
+use Rattle.chain.specs.Findings.{findings, chainFor}
 use Rattle.chain.specs.Cases.{Case, cases}
 use Rattle.chain.specs.Links.{before, blocks, further, furthest, furthestOf, gap, linkAt, linkBy, links, linksFrom}
 
-pub worked : map (λ (c : Case). answer (c .width) (c .rules)) cases ≡ map (λ (c : Case). c .expected) cases
+pub worked : map (λ (c : Case). findings (c .width) (c .rules)) cases ≡ map (λ (c : Case). c .expected) cases
 unfolding
-    answer chainFor kept verdictOf links linksFrom linkAt linkBy gap before furthest furthestOf further blocks reach meets7 fits meets written rows first last climb top half plus minus signed
+    findings chainFor kept verdictOf links linksFrom linkAt linkBy gap before furthest furthestOf further blocks reach meets7 fits meets written rows first last climb top half plus minus signed
 worked = refl

@@ -4,15 +4,15 @@ use Prim.Native.Nat.{ℕ}
 use Rattle.rule.specs.declared.Rule.{Rule}
 use Rattle.rule.specs.Meaning.{rule}
 use Rattle.verdict.specs.Kept.{keeps}
-use Rattle.chain.specs.Answer.{Answer, says}
+use Rattle.chain.specs.Findings.{Findings, says}
 use Rattle.chain.specs.Links.{BITS, link}
 
 pub record Case : Type 0 where
   pub width : ℕ
   pub rules : List Rule
-  pub expected : Answer
+  pub expected : Findings
 
-abbrev pub case : ℕ → List Rule → Answer → Case
+abbrev pub case : ℕ → List Rule → Findings → Case
 case w rs a = record { width = w; rules = rs; expected = a }
 
 abbrev pub cases : List Case

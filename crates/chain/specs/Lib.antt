@@ -1,4 +1,4 @@
-pub mod Answer
 pub mod Cases
 pub mod Chain
+pub mod Findings
 pub mod Links

@@ -76,6 +76,6 @@ abbrev pub chainRoom : ℕ → ℕ
 chainRoom n = 3 * mostLinks n
 
 -- links as a lent buffer holds them, three numbers each
-unfoldable pub laid : List Link → List ℕ
-laid [] = []
-laid (l ∷ ls) = l .from ∷ l .to ∷ l .reason ∷ laid ls
+unfoldable pub numbersOf : List Link → List ℕ
+numbersOf [] = []
+numbersOf (l ∷ ls) = l .from ∷ l .to ∷ l .reason ∷ numbersOf ls

@@ -6,7 +6,7 @@ ghost use lib.ListN.{drop, length, take};
 ghost use Rattle.word.specs.Word.{IsWidth};
 ghost use Rattle.rule.specs.Meaning.{AllLawful, RULES};
 ghost use Rattle.verdict.specs.Kept.{kept};
-ghost use Rattle.chain.specs.Links.{chainRoom, laid, links};
+ghost use Rattle.chain.specs.Links.{chainRoom, numbersOf, links};
 use bits::Fixed;
 use rule::Rule;
 use word::Width;
@@ -34,7 +34,7 @@ pub fn write(rules: [Rule; Rule::LIMIT], n: usize, width: Width, out: &mut [u64]
     requires { ⌜ kept (width .bits) (take n rules) .verdict ≡ 0 ⌝ }
     requires { ⌜ chainRoom n ≤ length (now out) ⌝ }
     ensures { λ r. ⌜ r ≡ length (links (width .bits) (take n rules)) ⌝ }
-    ensures { λ r. ⌜ now (out .exit) ≡ laid (links (width .bits) (take n rules)) ++ drop (3 * r) (now (out .entry)) ⌝ }
+    ensures { λ r. ⌜ now (out .exit) ≡ numbersOf (links (width .bits) (take n rules)) ++ drop (3 * r) (now (out .entry)) ⌝ }
 {
     let bands = verdict::bands::lay(rules, n, width);
     let fixed = Fixed::of(rules, n);

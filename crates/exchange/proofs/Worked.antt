@@ -7,7 +7,7 @@ use Rattle.word.specs.Word.{half, minus, plus, signed, top}
 use Rattle.rule.specs.Meaning.{fits, meets, meets7, reach, rows, written}
 use Rattle.accept.specs.Accept.{badConstant, badForm, badSense}
 use Rattle.verdict.specs.Kept.{kept, verdictOf}
-use Rattle.chain.specs.Answer.{answer, chainFor}
+use Rattle.chain.specs.Findings.{findings, chainFor}
 use Rattle.chain.specs.Links.{before, blocks, further, furthest, furthestOf, gap, linkAt, linkBy, links, linksFrom}
 use Rattle.sheet.specs.Calls.{after, grounds, isBlank, lowest, marksOf, refusal, rulesOf, written as writes}
 use Rattle.sheet.specs.Page.{entriesOf, marksOn, rulesOn, struck, widthOf}
@@ -21,7 +21,7 @@ use Rattle.exchange.specs.Text.{bytesOf}
 
 pub paper : exchange (bytesOf paper-input) ≡ bytesOf paper-output
 unfolding
-    exchange answersTo answerTo pageAfter lines inFront bytesOf frameOf byDigits bare ruleOf allDigits isDigit number numberFrom value numberLine keptLine linkLine chainLines hex glyph after refusal lowest grounds isBlank badForm badSense badConstant rulesOf marksOf writes entriesOf widthOf rulesOn marksOn struck answer chainFor kept verdictOf links linksFrom linkAt linkBy gap before furthest furthestOf further blocks reach meets7 fits meets written rows first last climb top half plus minus signed
+    exchange answersTo answerTo pageAfter lines inFront bytesOf frameOf byDigits bare ruleOf allDigits isDigit number numberFrom value numberLine keptLine linkLine chainLines hex glyph after refusal lowest grounds isBlank badForm badSense badConstant rulesOf marksOf writes entriesOf widthOf rulesOn marksOn struck findings chainFor kept verdictOf links linksFrom linkAt linkBy gap before furthest furthestOf further blocks reach meets7 fits meets written rows first last climb top half plus minus signed
 paper = refl
 
 -- "each line ended by byte 10; the last may lack it, and a final byte 10 opens no further line"

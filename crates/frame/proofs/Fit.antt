@@ -22,7 +22,7 @@ use Rattle.rule.specs.Meaning.{RULES, fits}
 use Rattle.verdict.specs.declared.Kept.{Kept}
 use Rattle.verdict.specs.Kept.{kept, verdictOf}
 use Rattle.chain.specs.declared.Link.{Link}
-use Rattle.chain.specs.Answer.{answer, chainFor}
+use Rattle.chain.specs.Findings.{findings, chainFor}
 use Rattle.chain.specs.Chain.{Covers, Shows, end, on}
 use Rattle.chain.specs.Links.{links}
 use Rattle.chain.proofs.Cover.{chain-covers}
@@ -97,12 +97,12 @@ written-fits w rs k f = go (ℕ-discrete (k .verdict) 0)
     go (no n) = rw (ne-eqb (k .verdict) 0 n, chainFor) no-more
 
 -- what is said of rules on a sheet
-answer-fits : (w : ℕ) (rs : List Rule) → w ≤ WIDEST → length rs ≤ RULES → KeptFits (answer w rs .kept) × AllFit (answer w rs .chain)
-unfolding answer
+answer-fits : (w : ℕ) (rs : List Rule) → w ≤ WIDEST → length rs ≤ RULES → KeptFits (findings w rs .kept) × AllFit (findings w rs .chain)
+unfolding findings
 answer-fits w rs narrow few = (
   kept-fits w rs narrow,
   written-fits w rs (kept w rs) (λ e. chain-fits w rs narrow few (chain-covers w rs (chain-is w rs (none-fits w rs e)))),
 )
 
-pub page-fits : (w : ℕ) (es : List Entry) → Reached (page w es) → KeptFits (answer w (rulesOn es) .kept) × AllFit (answer w (rulesOn es) .chain)
+pub page-fits : (w : ℕ) (es : List Entry) → Reached (page w es) → KeptFits (findings w (rulesOn es) .kept) × AllFit (findings w (rulesOn es) .chain)
 page-fits w es h = let l = reached-lawful h in answer-fits w (rulesOn es) (l .high) (l .rules-fit)

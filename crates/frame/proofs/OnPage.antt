@@ -8,7 +8,7 @@ use borrow.Author.Tests.{eq-eqb, ne-eqb}
 use lib.ListN.{length}
 use Rattle.rule.specs.Meaning.{RULES}
 use Rattle.chain.specs.declared.Link.{Link}
-use Rattle.chain.specs.Links.{chainRoom, laid}
+use Rattle.chain.specs.Links.{chainRoom, numbersOf}
 use Rattle.sheet.specs.declared.Answer.{Answer}
 use Rattle.sheet.specs.declared.Reply.{Reply}
 use Rattle.sheet.specs.declared.Sheet.{Sheet}
@@ -25,8 +25,8 @@ use Rattle.frame.specs.Pages.{answerTo, asking, pageAfter}
 use Rattle.frame.specs.Statements.{Said, adds, asks, goes-back, marks, no-frame, opens}
 
 -- the lines of links that are laid at a buffer's start
-chain-lines : (ls : List Link) (b : List ℕ) → linkLines (length ls) (laid ls ++ b) ≡ chainLines ls
-unfolding linkLines laid chainLines
+chain-lines : (ls : List Link) (b : List ℕ) → linkLines (length ls) (numbersOf ls ++ b) ≡ chainLines ls
+unfolding linkLines numbersOf chainLines
 chain-lines [] b = refl
 chain-lines (l ∷ ls) b = ap (λ (o : List ℕ). linkLine (l .from) (l .to) (l .reason) ++ o) (chain-lines ls b)
 

@@ -8,8 +8,8 @@ use borrow.Author.Tests.{eq-eqb, ne-eqb}
 use lib.ListN.{drop, length, length-append, length-drop}
 use Rattle.rule.specs.Meaning.{RULES}
 use Rattle.chain.specs.declared.Link.{Link}
-use Rattle.chain.specs.Links.{chainRoom, laid, mostLinks}
-use Rattle.chain.proofs.Walk.{laid-length}
+use Rattle.chain.specs.Links.{chainRoom, numbersOf, mostLinks}
+use Rattle.chain.proofs.Walk.{numbers-length}
 use Rattle.sheet.specs.declared.Answer.{Answer}
 use Rattle.sheet.specs.declared.Reply.{Reply}
 use Rattle.sheet.specs.declared.Sheet.{Sheet}
@@ -50,7 +50,7 @@ told pg m = go (ℕ-discrete (refusal pg (ask m)) 0)
 -- links that are laid over a buffer fit in it
 laid-fit : (ls : List Link) (b : List ℕ) → length (overlaid ls b) ≡ length b → 3 * length ls ≤ length b
 laid-fit ls b e =
-    omega (arith, laid-length ls, length-drop (3 * length ls) b, sym (length-append (laid ls) (drop (3 * length ls) b)) ∙ e)
+    omega (arith, numbers-length ls, length-drop (3 * length ls) b, sym (length-append (numbersOf ls) (drop (3 * length ls) b)) ∙ e)
 
 pub few-links : {s : Sheet} {b b′ : List ℕ} {r : Reply} → Asked s b b′ r → length b ≡ chainRoom RULES → length b′ ≡ chainRoom RULES
     → r .links ≤ mostLinks RULES

@@ -4,7 +4,7 @@ use mathlib.Core.List.{List, _++_}
 use Prim.Native.Nat.{ℕ}
 use lib.Dec.{eqb}
 use Rattle.rule.specs.Meaning.{RULES}
-use Rattle.chain.specs.Answer.{answer}
+use Rattle.chain.specs.Findings.{findings}
 use Rattle.chain.specs.Links.{chainRoom}
 use Rattle.sheet.specs.Calls.{Call, add, after, ask, back, mark, open-at, refusal, rulesOf}
 use Rattle.sheet.specs.Page.{Page, widthOf}
@@ -24,7 +24,7 @@ answerTo pg Mark = numberLine (refusal pg mark)
 answerTo pg Back = numberLine (refusal pg back)
 answerTo pg Ask =
     cond (eqb (refusal pg asking) 0)
-    (keptLine (answer (widthOf pg) (rulesOf pg) .kept) ++ chainLines (answer (widthOf pg) (rulesOf pg) .chain))
+    (keptLine (findings (widthOf pg) (rulesOf pg) .kept) ++ chainLines (findings (widthOf pg) (rulesOf pg) .chain))
     (numberLine (refusal pg asking))
 answerTo pg NoFrame = numberLine 10
 

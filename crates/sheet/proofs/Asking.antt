@@ -10,8 +10,8 @@ use lib.ListN.{drop, length, take}
 use Rattle.verdict.specs.declared.Kept.{Kept}
 use Rattle.verdict.specs.Kept.{kept}
 use Rattle.chain.specs.declared.Link.{Link}
-use Rattle.chain.specs.Answer.{answer, chainFor}
-use Rattle.chain.specs.Links.{chainRoom, laid, links}
+use Rattle.chain.specs.Findings.{findings, chainFor}
+use Rattle.chain.specs.Links.{chainRoom, numbersOf, links}
 use Rattle.sheet.specs.declared.Reply.{Reply}
 use Rattle.sheet.specs.declared.Sheet.{Sheet}
 use Rattle.sheet.specs.Calls.{ask, refusal, rulesOf}
@@ -34,7 +34,7 @@ asked-on pg h {s} e {b} {b′} {r} p q =
 
 module _ (pg : Page) (m : ℕ) where
   abbrev said : List Link
-  said = answer (widthOf pg) (rulesOf pg) .chain
+  said = findings (widthOf pg) (rulesOf pg) .chain
 
   -- what is answered and laid, by the test whether the call is accepted
   no-chain : (refusal pg (ask m) ≡ 0 → ⊥) → chainOn pg m ≡ []
@@ -46,19 +46,19 @@ module _ (pg : Page) (m : ℕ) where
   the-chain q = ap (λ (b : Bool). cond b said []) (eq-eqb _ 0 q)
 
   abbrev choice : Bool → ℕ → List Link → Reply
-  choice b k ls = cond b (replies 0 (answer (widthOf pg) (rulesOf pg) .kept) (length ls)) (refuses k)
+  choice b k ls = cond b (replies 0 (findings (widthOf pg) (rulesOf pg) .kept) (length ls)) (refuses k)
 
   refused-reply : {n : ℕ} → refusal pg (ask m) ≡ n → (n ≡ 0 → ⊥) → refuses n ≡ reply pg m
   unfolding reply
   refused-reply {n} q z =
       sym (ap₂ (λ (b : Bool) (k : ℕ). choice b k (chainOn pg m)) (ne-eqb (refusal pg (ask m)) 0 (λ t. z (sym q ∙ t))) q)
 
-  accepted-reply : refusal pg (ask m) ≡ 0 → replies 0 (answer (widthOf pg) (rulesOf pg) .kept) (length said) ≡ reply pg m
+  accepted-reply : refusal pg (ask m) ≡ 0 → replies 0 (findings (widthOf pg) (rulesOf pg) .kept) (length said) ≡ reply pg m
   unfolding reply
   accepted-reply q = sym (ap₂ (λ (b : Bool) (ls : List Link). choice b (refusal pg (ask m)) ls) (eq-eqb _ 0 q) (the-chain q))
 
 overlaid-none : (b : List ℕ) → b ≡ overlaid [] b
-unfolding laid
+unfolding numbersOf
 overlaid-none b = refl
 
 refused-on : (pg : Page) → Reached pg → {s : Sheet} → s ≡ fresh pg → {n : ℕ} (b : List ℕ) → refusal pg (ask (length b)) ≡ n → (n ≡ 0 → ⊥)
@@ -91,7 +91,7 @@ module _ {s : Sheet} (p : Standing s) (b : List ℕ) where
   -- answered, where the chain that is said is ls
   answered : {b′ : List ℕ} → chainRoom (s .count) ≤ length b → (ls : List Link)
       → chainFor (s .width) (take (s .count) (s .rules)) (s .kept) ≡ ls → b′ ≡ overlaid ls b → Asked s b b′ (replies 0 (s .kept) (length ls))
-  unfolding answer widthOf rulesOf entriesOf
+  unfolding findings widthOf rulesOf entriesOf
   answered h ls q d =
       let g = known p in
       let k : s .kept ≡ kept (p .width) (rulesOn (p .entries)) = kept-on p ∙ ap₂ kept (g .width) (g .rules) in
@@ -108,9 +108,9 @@ module _ {s : Sheet} (p : Standing s) (b : List ℕ) where
 
   pub chain-asking : {b′ : List ℕ} {n : ℕ} → chainRoom (s .count) ≤ length b → s .kept .verdict ≡ 0
       → n ≡ length (links (s .width) (take (s .count) (s .rules)))
-      → b′ ≡ laid (links (s .width) (take (s .count) (s .rules))) ++ drop (3 * n) b → Asked s b b′ (replies 0 (s .kept) n)
+      → b′ ≡ numbersOf (links (s .width) (take (s .count) (s .rules))) ++ drop (3 * n) b → Asked s b b′ (replies 0 (s .kept) n)
   unfolding chainFor
   chain-asking {b′} {n} h z q d =
       let ls : List Link = links (s .width) (take (s .count) (s .rules)) in
       subst (λ (k : ℕ). Asked s b b′ (replies 0 (s .kept) k)) (sym q)
-      (answered h ls (rw (eq-eqb (s .kept .verdict) 0 z, chainFor)) (d ∙ ap (λ (k : ℕ). laid ls ++ drop (3 * k) b) q))
+      (answered h ls (rw (eq-eqb (s .kept .verdict) 0 z, chainFor)) (d ∙ ap (λ (k : ℕ). numbersOf ls ++ drop (3 * k) b) q))

@@ -7,7 +7,7 @@ use Prim.Native.Nat.{ℕ}
 use native.Mathlib.Decide.{ℕ-discrete}
 use borrow.Author.Tests.{eq-eqb, ne-eqb}
 use lib.ListN.{length}
-use Rattle.chain.specs.Links.{laid}
+use Rattle.chain.specs.Links.{numbersOf}
 use Rattle.sheet.specs.declared.Answer.{Answer}
 use Rattle.sheet.specs.declared.Reply.{Reply}
 use Rattle.sheet.specs.declared.Sheet.{Sheet}
@@ -52,7 +52,7 @@ answers-leaves {s} {c} {r} a k = go (sheet-dec s)
 
 -- no link is written where asking is refused
 reply-leaves : (pg : Page) (b : List ℕ) → (reply pg (length b) .number ≡ 0 → ⊥) → overlaid (chainOn pg (length b)) b ≡ b
-unfolding reply chainOn laid
+unfolding reply chainOn numbersOf
 reply-leaves pg b n = go (ℕ-discrete (refusal pg (ask (length b))) 0)
   where
     go : Dec (refusal pg (ask (length b)) ≡ 0) → overlaid (chainOn pg (length b)) b ≡ b

@@ -9,8 +9,8 @@ use Rattle.rule.specs.declared.Rule.{Rule}
 use Rattle.verdict.specs.declared.Kept.{Kept}
 use Rattle.verdict.specs.Kept.{keeps}
 use Rattle.chain.specs.declared.Link.{Link}
-use Rattle.chain.specs.Links.{laid}
-use Rattle.chain.specs.Answer.{answer}
+use Rattle.chain.specs.Links.{numbersOf}
+use Rattle.chain.specs.Findings.{findings}
 use Rattle.sheet.specs.declared.Answer.{Answer}
 use Rattle.sheet.specs.declared.Reply.{Reply}
 use Rattle.sheet.specs.declared.Sheet.{Sheet}
@@ -52,17 +52,17 @@ refuses n = replies n (keeps 0 0 0) 0
 
 -- the links that asking writes with m numbers lent: none where it is refused
 unfoldable pub chainOn : Page → ℕ → List Link
-chainOn pg m = cond (eqb (refusal pg (ask m)) 0) (answer (widthOf pg) (rulesOf pg) .chain) []
+chainOn pg m = cond (eqb (refusal pg (ask m)) 0) (findings (widthOf pg) (rulesOf pg) .chain) []
 
 -- what asking answers with m numbers lent
 unfoldable pub reply : Page → ℕ → Reply
 reply pg m =
     let k : ℕ = refusal pg (ask m) in
-    cond (eqb k 0) (replies 0 (answer (widthOf pg) (rulesOf pg) .kept) (length (chainOn pg m))) (refuses k)
+    cond (eqb k 0) (replies 0 (findings (widthOf pg) (rulesOf pg) .kept) (length (chainOn pg m))) (refuses k)
 
 -- a buffer with links laid at its start, and every number after them as it was
 abbrev pub overlaid : List Link → List ℕ → List ℕ
-overlaid ls b = laid ls ++ drop (3 * length ls) b
+overlaid ls b = numbersOf ls ++ drop (3 * length ls) b
 
 -- What asking answers, whatever record it is handed, and what the lent buffer, b before, holds after.
 pub record Asked (s : Sheet) (b b′ : List ℕ) (r : Reply) : Type 0 where
