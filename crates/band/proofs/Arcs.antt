@@ -1,5 +1,5 @@
--- The arc law. The distance of x from the arc's start, going up, is at most that of its end exactly when x is within the
--- arc; turning the wheel keeps distances; and each form is a plain bound on the word turned by some amount: by c1 or c2
+-- Each form is an arc. The distance of x from the arc's start, going up, is at most that of its end exactly when x is within
+-- the arc; turning the wheel keeps distances; and each form is a plain bound on the word turned by some amount: by c1 or c2
 -- for forms 1, 2, 3 and 8, by half for the signed forms 4 and 5. Assumes nothing.
 use mathlib.Core.Path.{_≡_, sym, ap, ap₂, _∙_}
 use mathlib.Core.Bool.{Bool}
@@ -16,7 +16,7 @@ use Rattle.word.proofs.Signed.{order}
 use Rattle.word.proofs.Sums.{minus-cases, minus-word, plus-cases, plus-word, redo, regroup, rest, turn}
 use Rattle.word.proofs.Tests.{leb-same}
 use Rattle.word.proofs.Widths.{halves, half-pos}
-use Rattle.band.specs.Band.{within}
+use Rattle.band.specs.Band.{holds, span, within}
 use Rattle.band.proofs.Sides.{In, Out, is-in, is-out, sides}
 
 -- d is how far it is up from a to y on a wheel with the top word t
@@ -47,7 +47,7 @@ module _ (t a b x m n : ℕ) (ha : a ≤ t) (hb : b ≤ t) (hx : x ≤ t) where
   further (inr (inr o)) (inr p) (inr q) = absurd (omega arith)
 
 module _ (w : ℕ) where
-  abbrev pub near : (a b x : ℕ) → Bool
+  abbrev near : (a b x : ℕ) → Bool
   near a b x = leb (minus w x a) (minus w b a)
 
   -- a word is within an arc by its distance from the start
@@ -89,14 +89,19 @@ module _ (w : ℕ) (width : 1 ≤ w) (c1 c2 x : ℕ) (h1 : c1 ≤ top w) (h2 : c
   half-word : half w ≤ top w
   half-word = omega (arith, halves w width, half-pos w)
 
+  on-arc : {a b : ℕ} → a ≤ top w → b ≤ top w → near w a b x ≡ holds (span a b) x
+  unfolding holds span
+  on-arc ha hb = sym (distance w _ _ x ha hb hx)
+
   -- adding a difference to a word leaves it no smaller exactly when the sum does not pass the top word
-  pub form1 : leb (plus w c1 x) (plus w c2 x) ≡ near w (minus w 0 c1) (minus w (top w) c2) x
+  pub form1 : leb (plus w c1 x) (plus w c2 x) ≡ holds (span (minus w 0 c1) (minus w (top w) c2)) x
   form1 =
       ap (leb (plus w c1 x)) (sym (regroup w c1 c2 x h1))
       ∙ grows (plus w c1 x) (minus w c2 c1) (plus-word w c1 x) (minus-word w c2 c1)
       ∙ up-to w (top w - minus w c2 c1) (plus w c1 x) (omega arith) (plus-word w c1 x)
       ∙ sym (shifted w 0 (top w - minus w c2 c1) c1 x zero-word h1 hx)
       ∙ ap (λ (b : ℕ). near w (minus w 0 c1) b x) (rest w c1 c2 h1 h2)
+      ∙ on-arc (minus-word w _ _) (minus-word w _ _)
     where
       grows : (y d : ℕ) → y ≤ top w → d ≤ top w → leb y (plus w y d) ≡ leb y (top w - d)
       grows y d hy hd =
@@ -104,36 +109,44 @@ module _ (w : ℕ) (width : 1 ≤ w) (c1 c2 x : ℕ) (h1 : c1 ≤ top w) (h2 : c
           (λ h. ⊎-elim (λ c. omega arith) (λ c. absurd (omega arith)) (plus-cases w y d hy hd))
           (λ h. ⊎-elim (λ c. omega arith) (λ c. absurd (omega arith)) (plus-cases w y d hy hd))
 
-  pub form2 : leb c1 (plus w c2 x) ≡ near w (minus w c1 c2) (minus w (top w) c2) x
-  form2 = from-on w c1 (plus w c2 x) h1 (plus-word w c2 x) ∙ sym (shifted w c1 (top w) c2 x h1 h2 hx)
+  pub form2 : leb c1 (plus w c2 x) ≡ holds (span (minus w c1 c2) (minus w (top w) c2)) x
+  form2 =
+      from-on w c1 (plus w c2 x) h1 (plus-word w c2 x)
+      ∙ sym (shifted w c1 (top w) c2 x h1 h2 hx)
+      ∙ on-arc (minus-word w _ _) (minus-word w _ _)
 
-  pub form3 : leb (plus w c1 x) c2 ≡ near w (minus w 0 c1) (minus w c2 c1) x
-  form3 = up-to w c2 (plus w c1 x) h2 (plus-word w c1 x) ∙ sym (shifted w 0 c2 c1 x zero-word h1 hx)
+  pub form3 : leb (plus w c1 x) c2 ≡ holds (span (minus w 0 c1) (minus w c2 c1)) x
+  form3 =
+      up-to w c2 (plus w c1 x) h2 (plus-word w c1 x)
+      ∙ sym (shifted w 0 c2 c1 x zero-word h1 hx)
+      ∙ on-arc (minus-word w _ _) (minus-word w _ _)
 
-  pub form4 : leZ (signed w x) (signed w c1) ≡ near w (half w) c1 x
+  pub form4 : leZ (signed w x) (signed w c1) ≡ holds (span (half w) c1) x
   form4 =
       order w width x c1 hx h1
       ∙ up-to w (plus w (half w) c1) (plus w (half w) x) (plus-word w (half w) c1) (plus-word w (half w) x)
       ∙ sym (shifted w 0 (plus w (half w) c1) (half w) x zero-word half-word hx)
       ∙ ap₂ (λ (a b : ℕ). near w a b x) other-half (redo w (half w) c1 half-word h1)
+      ∙ on-arc half-word h1
     where
       other-half : minus w 0 (half w) ≡ half w
       other-half =
           ⊎-elim (λ c. absurd (omega (arith, half-pos w))) (λ c. omega (arith, halves w width))
           (minus-cases w 0 (half w) zero-word half-word)
 
-  pub form5 : leZ (signed w c1) (signed w x) ≡ near w c1 (half w - 1) x
+  pub form5 : leZ (signed w c1) (signed w x) ≡ holds (span c1 (half w - 1)) x
   form5 =
       order w width c1 x h1 hx
       ∙ from-on w (plus w (half w) c1) (plus w (half w) x) (plus-word w (half w) c1) (plus-word w (half w) x)
       ∙ sym (shifted w (plus w (half w) c1) (top w) (half w) x (plus-word w (half w) c1) half-word hx)
       ∙ ap₂ (λ (a b : ℕ). near w a b x) (redo w (half w) c1 half-word h1) last-low
+      ∙ on-arc h1 (omega (arith, half-word))
     where
       last-low : minus w (top w) (half w) ≡ half w - 1
       last-low = omega (arith, to-top w (half w) half-word, halves w width)
 
-  pub form6 : eqb x c1 ≡ near w c1 c1 x
-  form6 = go (ℕ-discrete x c1)
+  pub form6 : eqb x c1 ≡ holds (span c1 c1) x
+  form6 = go (ℕ-discrete x c1) ∙ on-arc h1 h1
     where
       none : minus w c1 c1 ≡ 0
       none = ⊎-elim (λ c. omega arith) (λ c. absurd (omega arith)) (minus-cases w c1 c1 h1 h1)
@@ -146,12 +159,13 @@ module _ (w : ℕ) (width : 1 ≤ w) (c1 c2 x : ℕ) (h1 : c1 ≤ top w) (h2 : c
           (lt-leb (minus w x c1) (minus w c1 c1)
           (⊎-elim (λ c. omega (arith, none)) (λ c. omega (arith, none)) (minus-cases w x c1 hx h1)))
 
-  pub form8 : leb c2 (minus w x c1) ≡ near w (plus w c1 c2) (minus w c1 1) x
+  pub form8 : leb c2 (minus w x c1) ≡ holds (span (plus w c1 c2) (minus w c1 1)) x
   form8 =
       from-on w c2 (minus w x c1) h2 (minus-word w x c1)
       ∙ ap₂ (λ (a b : ℕ). near w a b (minus w x c1)) (sym (redo w c1 c2 h1 h2)) (sym (redo w c1 (top w) h1 (omega arith)))
       ∙ turned w (plus w c1 c2) (plus w c1 (top w)) c1 x (plus-word w c1 c2) h1
       ∙ ap (λ (b : ℕ). near w (plus w c1 c2) b x) one-less
+      ∙ on-arc (plus-word w _ _) (minus-word w _ _)
     where
       one-less : plus w c1 (top w) ≡ minus w c1 1
       one-less =

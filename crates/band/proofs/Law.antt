@@ -1,13 +1,14 @@
 -- A word meets a rule exactly when it is on the holding side of the rule's band, and so the run around a failing word is
 -- the band's. Assumes nothing.
-use mathlib.Core.Path.{_≡_, refl, sym, ap, _∙_, subst}
-use mathlib.Core.Bool.{Bool, true, not}
+use mathlib.Core.Path.{_≡_, refl, sym, ap, ap₂, _∙_, subst}
+use mathlib.Core.Bool.{Bool, true, false, not, cond, Bool·not-not}
 use mathlib.Core.Logic.{_⊎_, inl, inr, ⊎-elim}
 use Prim.Native.Nat.{ℕ, suc, _-_, _≤_}
 use native.Mathlib.Nat.{le-refl}
 use native.Mathlib.Decide.{ℕ-discrete}
 use native.Mathlib.Omega.{arith}
-use borrow.Author.Tests.{eq-eqb, le-leb, ne-eqb}
+use borrow.Author.Tests.{eq-eqb, le-leb}
+use lib.Dec.{eqb}
 use lib.ListN.{getD}
 use Rattle.word.specs.Word.{top, half, minus}
 use Rattle.word.specs.Search.{climb, sink}
@@ -18,31 +19,74 @@ use Rattle.rule.specs.declared.Rule.{Rule}
 use Rattle.rule.specs.Meaning.{Lawful, ends, meets, reach, rows, runs, start, written}
 use Rattle.rule.proofs.Forms.{by-form}
 use Rattle.rule.proofs.Ends.{ends-below}
-use Rattle.rule.proofs.Rows.{as-written, at-row, negated, past-rows}
-use Rattle.band.specs.declared.Arc.{Arc}
+use Rattle.rule.proofs.Rows.{at-row, past-rows}
 use Rattle.band.specs.declared.Band.{Band}
-use Rattle.band.specs.Band.{Laid, arcOf, arcs, bandOf, holds, seamless, span, within}
-use Rattle.band.proofs.Arcs.{distance, form1, form2, form3, form4, form5, form6, form8, near}
-use Rattle.band.proofs.Laying.{at-arc, lay, part-arc, past-arcs, whole-arc}
-use Rattle.band.proofs.Runs.{edge, inside-holds, outside-holds, run-ends}
+use Rattle.band.specs.Band.{Laid, bandOf, bySense, holds, otherSide, seamless, span, wheel, within, writtenBand, writtenBands}
+use Rattle.band.proofs.Arcs.{distance, form1, form2, form3, form4, form5, form6, form8}
+use Rattle.band.proofs.Laying.{at-band, part-band, past-bands, whole-band}
+use Rattle.band.proofs.Runs.{edge, run-ends}
 use Rattle.band.proofs.Sides.{is-in}
 
-abbrev arc-within : Arc → ℕ → Bool
-arc-within a x = within (a .from) (a .to) x
+abbrev Words : ℕ → Band → Type 0
+Words w b = (b .from ≤ top w) × (b .to ≤ top w)
 
-abbrev Words : ℕ → Arc → Type 0
-Words w a = (a .from ≤ top w) × (a .to ≤ top w)
+-- a band laid without a seam
+module _ (w : ℕ) (b : Band) (words : Words w b) where
+  -- a whole wheel is the same from wherever it is written
+  seam-law : (x : ℕ) → x ≤ top w → holds (seamless w b) x ≡ holds b x
+  unfolding holds wheel
+  seam-law x word = go (ℕ-discrete (minus w (b .to) (b .from)) (top w))
+    where
+      all : minus w (b .to) (b .from) ≡ top w → within 0 (top w) x ≡ within (b .from) (b .to) x
+      all e =
+          is-in 0 (top w) x (inl (omega arith, word))
+          ∙ sym (distance w _ _ x (words .0) (words .1) word ∙ le-leb (minus w x (b .from)) (minus w (b .to) (b .from)) (omega (arith, e, minus-word w x (b .from))))
+
+      go : Dec (minus w (b .to) (b .from) ≡ top w) → holds (seamless w b) x ≡ holds b x
+      go (yes e) = ap (λ (c : Band). holds c x) (whole-band w b e) ∙ ap (λ (v : Bool). cond (b .inside) (not v) v) (all e)
+      go (no e) = ap (λ (c : Band). holds c x) (part-band w b e)
+
+  seamless-laid : Laid (top w) (seamless w b)
+  unfolding wheel
+  seamless-laid = go (ℕ-discrete (minus w (b .to) (b .from)) (top w))
+    where
+      seam : (minus w (b .to) (b .from) ≡ top w → ⊥) → suc (b .to) ≡ b .from → ⊥
+      seam d s =
+          d (⊎-elim (λ c. absurd (omega arith)) (λ c. omega arith) (minus-cases w (b .to) (b .from) (words .1) (words .0)))
+
+      go : Dec (minus w (b .to) (b .from) ≡ top w) → Laid (top w) (seamless w b)
+      go (yes e) = rw (whole-band w b e) (record { from-word = omega arith; to-word = le-refl (top w); no-seam = λ s. omega arith })
+      go (no e) = rw (part-band w b e) (record { from-word = words .0; to-word = words .1; no-seam = seam e })
+
+-- a band by the sense, where s says that it is as written
+module _ (b : Band) where
+  side-holds : (s : Bool) (x : ℕ) → holds (cond s b (otherSide b)) x ≡ cond s (holds b x) (not (holds b x))
+  unfolding holds otherSide
+  side-holds true x = refl
+  side-holds false x = go (b .inside)
+    where
+      v : Bool
+      v = within (b .from) (b .to) x
+
+      go : (i : Bool) → cond (not i) (not v) v ≡ not (cond i (not v) v)
+      go true = sym (Bool·not-not v)
+      go false = refl
+
+  side-laid : (t : ℕ) → Laid t b → (s : Bool) → Laid t (cond s b (otherSide b))
+  unfolding otherSide
+  side-laid t l true = l
+  side-laid t l false = record { from-word = l .from-word; to-word = l .to-word; no-seam = l .no-seam }
 
 module _ (w : ℕ) (width : 1 ≤ w) (r : Rule) (lawful : Lawful w r) where
   -- the ends of every row are words
-  arc-words : Words w (arcOf w r)
-  unfolding arcs span
-  arc-words =
+  row-words : Words w (writtenBand w r)
+  unfolding writtenBands span
+  row-words =
       let c = lawful .c1-word in
       let m = minus-word w in
       let h : half w ≤ top w = omega (arith, halves w width, half-pos w) in
       let t : 0 ≤ top w = omega arith in
-      by-form (λ (n : ℕ). r .form ≡ n → Words w (arcOf w r)) (at 0 (t, le-refl (top w)))
+      by-form (λ (n : ℕ). r .form ≡ n → Words w (writtenBand w r)) (at 0 (t, le-refl (top w)))
       (at 1 (m _ _, m _ _))
       (at 2 (m _ _, m _ _))
       (at 3 (m _ _, m _ _))
@@ -51,40 +95,29 @@ module _ (w : ℕ) (width : 1 ≤ w) (r : Rule) (lawful : Lawful w r) where
       (at 6 (c, c))
       (at 7 (t, le-refl (top w)))
       (at 8 (plus-word w _ _, m _ _))
-      (λ n k e. subst (Words w) (sym (past-arcs w r (rw e k))) (t, le-refl (top w))) (r .form) refl
+      (λ n k e. subst (Words w) (sym (past-bands w r (rw e k))) (t, le-refl (top w))) (r .form) refl
     where
-      at : (k : ℕ) → Words w (getD (arcs w (r .c1) (r .c2)) k (span 0 (top w))) → r .form ≡ k → Words w (arcOf w r)
-      at k h e = subst (Words w) (sym (at-arc w r k e)) h
+      at : (k : ℕ) → Words w (getD (writtenBands w (r .c1) (r .c2)) k (span 0 (top w))) → r .form ≡ k → Words w (writtenBand w r)
+      at k h e = subst (Words w) (sym (at-band w r k e)) h
 
   module _ (x : ℕ) (word : x ≤ top w) where
-    all-words : arc-within (span 0 (top w)) x ≡ true
-    unfolding span
+    all-words : holds (span 0 (top w)) x ≡ true
+    unfolding holds span
     all-words = is-in 0 (top w) x (inl (omega arith, word))
 
-    abbrev arc-near : Arc → Bool
-    arc-near a = near w (a .from) (a .to) x
+    -- one row: what the form says is what its band says
+    by-row : (k : ℕ) → getD (rows w (r .c1) (r .c2) x) k true ≡ holds (getD (writtenBands w (r .c1) (r .c2)) k (span 0 (top w))) x
+        → r .form ≡ k → written w r x ≡ holds (writtenBand w r) x
+    by-row k row e = at-row w r x k e ∙ row ∙ ap (λ (b : Band). holds b x) (sym (at-band w r k e))
 
-    -- one row: what the form says is what its arc says
-    by-row : (k : ℕ) → getD (rows w (r .c1) (r .c2) x) k true ≡ arc-near (getD (arcs w (r .c1) (r .c2)) k (span 0 (top w)))
-        → r .form ≡ k → written w r x ≡ arc-within (arcOf w r) x
-    by-row k row e =
-        at-row w r x k e
-        ∙ row
-        ∙ ap arc-near (sym (at-arc w r k e))
-        ∙ sym (distance w _ _ x (arc-words .0) (arc-words .1) word)
-
-    -- a number that is no form forbids nothing
-    by-none : written w r x ≡ true → arcOf w r ≡ span 0 (top w) → written w r x ≡ arc-within (arcOf w r) x
-    by-none e f = e ∙ sym (ap (λ (a : Arc). arc-within a x) f ∙ all-words)
-
-    -- a word meets the rule as written exactly when it is within the rule's arc
-    pub arc-law : (r .form ≡ 7 → ⊥) → written w r x ≡ arc-within (arcOf w r) x
-    unfolding rows arcs span
-    arc-law d =
+    -- a word meets the rule as written exactly when it is on the holding side of its band as written
+    pub written-law : (r .form ≡ 7 → ⊥) → written w r x ≡ holds (writtenBand w r) x
+    unfolding rows writtenBands
+    written-law d =
         let c = lawful .c1-word in
         let c′ = lawful .c2-word in
-        by-form (λ (n : ℕ). r .form ≡ n → written w r x ≡ arc-within (arcOf w r) x)
-        (λ e. by-none (at-row w r x 0 e) (at-arc w r 0 e))
+        by-form (λ (n : ℕ). r .form ≡ n → written w r x ≡ holds (writtenBand w r) x)
+        (by-row 0 (sym all-words))
         (by-row 1 (form1 w width _ _ x c c′ word))
         (by-row 2 (form2 w width _ _ x c c′ word))
         (by-row 3 (form3 w width _ _ x c c′ word))
@@ -93,59 +126,32 @@ module _ (w : ℕ) (width : 1 ≤ w) (r : Rule) (lawful : Lawful w r) where
         (by-row 6 (form6 w width _ _ x c c′ word))
         (λ e. absurd (d e))
         (by-row 8 (form8 w width _ _ x c c′ word))
-        (λ n h e. by-none (past-rows w r x (rw e h)) (past-arcs w r (rw e h))) (r .form) refl
+        (λ n h e. past-rows w r x (rw e h) ∙ sym (ap (λ (b : Band). holds b x) (past-bands w r (rw e h)) ∙ all-words)) (r .form) refl
 
-    -- a whole wheel is the same from wherever it is written
-    seam-law : arc-within (seamless w (arcOf w r)) x ≡ arc-within (arcOf w r) x
-    seam-law = go (ℕ-discrete (minus w (arcOf w r .to) (arcOf w r .from)) (top w))
-      where
-        go : Dec (minus w (arcOf w r .to) (arcOf w r .from) ≡ top w)
-            → arc-within (seamless w (arcOf w r)) x ≡ arc-within (arcOf w r) x
-        go (yes e) =
-            ap (λ (a : Arc). arc-within a x) (whole-arc w (arcOf w r) e)
-            ∙ all-words
-            ∙ sym (distance w _ _ x (arc-words .0) (arc-words .1) word ∙ le-leb (minus w x (arcOf w r .from)) (minus w (arcOf w r .to) (arcOf w r .from)) (omega (arith, e, minus-word w x (arcOf w r .from))))
-        go (no e) = ap (λ (a : Arc). arc-within a x) (part-arc w (arcOf w r) e)
+    -- the sense turns the side
+    by-side : holds (bandOf w r) x ≡ cond (eqb (r .sense) 0) (holds (writtenBand w r) x) (not (holds (writtenBand w r) x))
+    unfolding bandOf bySense
+    by-side =
+        side-holds (seamless w (writtenBand w r)) (eqb (r .sense) 0) x
+        ∙ ap (λ (v : Bool). cond (eqb (r .sense) 0) v (not v)) (seam-law w (writtenBand w r) row-words x word)
 
     -- a word meets the rule exactly when it is on the holding side of its band
     pub band-law : (r .form ≡ 7 → ⊥) → holds (bandOf w r) x ≡ meets w r x
-    unfolding bandOf
-    band-law d = go (ℕ-discrete (r .sense) 0)
-      where
-        same : arc-within (seamless w (arcOf w r)) x ≡ written w r x
-        same = seam-law ∙ sym (arc-law d)
-
-        go : Dec (r .sense ≡ 0) → holds (bandOf w r) x ≡ meets w r x
-        go (yes e) = outside-holds (bandOf w r) (ap not (eq-eqb (r .sense) 0 e)) x ∙ same ∙ sym (as-written w r x e)
-        go (no e) = inside-holds (bandOf w r) (ap not (ne-eqb (r .sense) 0 e)) x ∙ ap not same ∙ sym (negated w r x e)
+    unfolding meets
+    band-law d = by-side ∙ ap (λ (v : Bool). cond (eqb (r .sense) 0) v (not v)) (sym (written-law d))
 
     -- the band of a bit rule fails no word
     pub bit-band : r .form ≡ 7 → holds (bandOf w r) x ≡ true
-    unfolding bandOf arcs
+    unfolding writtenBands
     bit-band e =
-        outside-holds (bandOf w r) (ap not (eq-eqb (r .sense) 0 (lawful .plain e))) x
-        ∙ seam-law
-        ∙ ap (λ (a : Arc). arc-within a x) (at-arc w r 7 e)
-        ∙ all-words
+        by-side
+        ∙ ap₂ (λ (s v : Bool). cond s v (not v)) (eq-eqb (r .sense) 0 (lawful .plain e))
+        (ap (λ (b : Band). holds b x) (at-band w r 7 e) ∙ all-words)
 
   -- its ends are words, and no seam is left
   pub laid : Laid (top w) (bandOf w r)
-  unfolding bandOf span
-  laid = go (ℕ-discrete (minus w (arcOf w r .to) (arcOf w r .from)) (top w))
-    where
-      sound : (a : Arc) → seamless w (arcOf w r) ≡ a → Words w a → (suc (a .to) ≡ a .from → ⊥) → Laid (top w) (bandOf w r)
-      sound a e h d =
-          subst (λ (c : Arc). Laid (top w) (lay w r c)) (sym e) (record { from-word = h .0; to-word = h .1; no-seam = d })
-
-      seam : (minus w (arcOf w r .to) (arcOf w r .from) ≡ top w → ⊥) → suc (arcOf w r .to) ≡ arcOf w r .from → ⊥
-      seam d s =
-          d
-          (⊎-elim (λ c. absurd (omega arith)) (λ c. omega arith)
-          (minus-cases w (arcOf w r .to) (arcOf w r .from) (arc-words .1) (arc-words .0)))
-
-      go : Dec (minus w (arcOf w r .to) (arcOf w r .from) ≡ top w) → Laid (top w) (bandOf w r)
-      go (yes e) = sound _ (whole-arc w (arcOf w r) e) (omega arith, le-refl (top w)) (λ s. omega arith)
-      go (no e) = sound _ (part-arc w (arcOf w r) e) arc-words (seam e)
+  unfolding bandOf bySense
+  laid = side-laid _ (top w) (seamless-laid w (writtenBand w r) row-words) (eqb (r .sense) 0)
 
   -- the run around a failing word is the band's
   pub reach-law : (r .form ≡ 7 → ⊥) → (p : ℕ) → p ≤ top w → climb (holds (bandOf w r)) (top w - p) p ≡ reach w r p

@@ -1,14 +1,13 @@
 -- A rule laid on the wheel of words. This is a route and no meaning: that a word is on the holding side of a rule's band
--- exactly when it meets the rule is proved (proofs/Arcs.antt).
+-- exactly when it meets the rule is proved (proofs/Law.antt).
 use mathlib.Core.Path.{_≡_}
-use mathlib.Core.Bool.{Bool, true, not, _&&_, _||_, cond}
+use mathlib.Core.Bool.{Bool, true, false, not, _&&_, _||_, cond}
 use mathlib.Core.List.{List, [], _∷_}
 use Prim.Native.Nat.{ℕ, suc, _-_, _≤_}
 use lib.Dec.{leb, eqb}
 use lib.ListN.{getD}
 use Rattle.word.specs.Word.{top, half, plus, minus}
 use Rattle.rule.specs.declared.Rule.{Rule}
-use Rattle.band.specs.declared.Arc.{Arc}
 use Rattle.band.specs.declared.Band.{Band}
 
 -- x is met on the way up from a to b, round past the top word where b is below a
@@ -19,13 +18,17 @@ within a b x = cond (leb a b) (leb a x && leb x b) (leb x b || leb a x)
 unfoldable pub holds : Band → ℕ → Bool
 holds b x = cond (b .inside) (not (within (b .from) (b .to) x)) (within (b .from) (b .to) x)
 
--- the words from a to b
-unfoldable pub span : ℕ → ℕ → Arc
-span a b = record { from = a; to = b }
+-- the band that holds the words from a to b: those outside fail
+unfoldable pub span : ℕ → ℕ → Band
+span a b = record { from = a; to = b; inside = false }
 
--- The table, a row for each form: the words that meet it as written. Form 7 is no arc, and is left to the fixed bits.
-unfoldable pub arcs : (w c1 c2 : ℕ) → List Arc
-arcs w c1 c2 =
+-- the whole wheel, from 0 to the top word t: where the inside fails every word does, and else none
+unfoldable pub wheel : (t : ℕ) (inside : Bool) → Band
+wheel t inside = record { from = 0; to = t; inside = inside }
+
+-- The table, a row for each form: the band of a rule as written. Form 7 is no arc, and is left to the fixed bits.
+unfoldable pub writtenBands : (w c1 c2 : ℕ) → List Band
+writtenBands w c1 c2 =
     span 0 (top w)
     ∷ span (minus w 0 c1) (minus w (top w) c2)
     ∷ span (minus w c1 c2) (minus w (top w) c2)
@@ -37,18 +40,24 @@ arcs w c1 c2 =
     ∷ span (plus w c1 c2) (minus w c1 1)
     ∷ []
 
-unfoldable pub arcOf : ℕ → Rule → Arc
-arcOf w r = getD (arcs w (r .c1) (r .c2)) (r .form) (span 0 (top w))
+unfoldable pub writtenBand : ℕ → Rule → Band
+writtenBand w r = getD (writtenBands w (r .c1) (r .c2)) (r .form) (span 0 (top w))
 
 -- a whole wheel, wherever it starts, is written from 0 to the top word
-unfoldable pub seamless : ℕ → Arc → Arc
-seamless w a = cond (eqb (minus w (a .to) (a .from)) (top w)) (span 0 (top w)) a
+unfoldable pub seamless : ℕ → Band → Band
+seamless w b = cond (eqb (minus w (b .to) (b .from)) (top w)) (wheel (top w) (b .inside)) b
 
--- the rule's arc, and whether the words inside it are those that fail
+-- the band where the other side fails
+unfoldable pub otherSide : Band → Band
+otherSide b = record { from = b .from; to = b .to; inside = not (b .inside) }
+
+-- the sense turns it: "0 as written, 1 negated"
+unfoldable pub bySense : ℕ → Band → Band
+bySense s b = cond (eqb s 0) b (otherSide b)
+
+-- the rule's band
 unfoldable pub bandOf : ℕ → Rule → Band
-bandOf w r =
-    let a : Arc = seamless w (arcOf w r) in
-    record { from = a .from; to = a .to; inside = not (eqb (r .sense) 0) }
+bandOf w r = bySense (r .sense) (seamless w (writtenBand w r))
 
 -- what a run asks of a band: its ends are words, and it is no whole wheel with a seam
 pub record Laid (t : ℕ) (b : Band) : Type 0 where

@@ -5,17 +5,12 @@ ghost use mathlib.Core.Bool.{false};
 ghost use Prim.Native.Nat.{_-_, _≤_};
 ghost use Rattle.word.specs.Word.{IsWidth};
 ghost use Rattle.word.specs.Search.{climb, sink};
-ghost use Rattle.band.specs.Band.{Laid, arcOf, bandOf, holds, span, turnedBand, within};
+ghost use Rattle.band.specs.Band.{Laid, bandOf, bySense, holds, seamless, span, turnedBand, wheel, within, writtenBand};
 use rule::Rule;
 use word::Width;
 
-// The words from one up to another, round past the top word where the second is below the first.
-pub struct Arc {
-    pub from: u64,
-    pub to: u64,
-}
-
-// An arc and the side of it that fails.
+// An arc, the words from one up to another, round past the top word where the second is below the first, and the side of it
+// that fails.
 pub struct Band {
     pub from: u64,
     pub to: u64,
@@ -28,35 +23,15 @@ pub struct Run {
     pub to: u64,
 }
 
-impl Arc {
-    fn new(from: u64, to: u64) -> Arc
-        ensures { λ r. ⌜ r ≡ span from to ⌝ }
-    {
-        Arc { from, to }
-    }
-}
-
 impl Band {
-    // The rule's band. A whole wheel is written from 0 to the top word, so that a run never stops at a seam.
+    // The rule's band: its form's, and the sense says which side fails.
     pub fn of(rule: Rule, width: Width) -> Band
         requires { ⌜ IsWidth (width .bits) ⌝ }
         ensures { λ r. ⌜ r ≡ bandOf (width .bits) rule ⌝ }
     {
-        let arc = arc_of(rule, width);
-        let top = width.top();
-        let inside = rule.sense != 0;
-        if width.sub(arc.to, arc.from) == top {
-            return Band {
-                from: 0,
-                to: top,
-                inside,
-            };
-        }
-        Band {
-            from: arc.from,
-            to: arc.to,
-            inside,
-        }
+        Band::written(rule, width)
+            .seamless(width)
+            .by_sense(rule.sense)
     }
 
     // Whether the word x is on the side that does not fail.
@@ -87,6 +62,73 @@ impl Band {
             from: top - self.to,
             to: top - self.from,
             inside: self.inside,
+        }
+    }
+
+    // The band of the rule as written.
+    fn written(rule: Rule, width: Width) -> Band
+        requires { ⌜ IsWidth (width .bits) ⌝ }
+        ensures { λ r. ⌜ r ≡ writtenBand (width .bits) rule ⌝ }
+    {
+        let form = rule.form;
+        let top = width.top();
+        match form {
+            1 => Band::span(width.sub(0, rule.c1), width.sub(top, rule.c2)),
+            2 => Band::span(width.sub(rule.c1, rule.c2), width.sub(top, rule.c2)),
+            3 => Band::span(width.sub(0, rule.c1), width.sub(rule.c2, rule.c1)),
+            4 => Band::span(width.half(), rule.c1),
+            5 => Band::span(rule.c1, width.half() - 1),
+            6 => Band::span(rule.c1, rule.c1),
+            8 => Band::span(width.add(rule.c1, rule.c2), width.sub(rule.c1, 1)),
+            _ => Band::span(0, top),
+        }
+    }
+
+    // The band that holds the words from one to another, and no others.
+    fn span(from: u64, to: u64) -> Band
+        ensures { λ r. ⌜ r ≡ span from to ⌝ }
+    {
+        Band {
+            from,
+            to,
+            inside: false,
+        }
+    }
+
+    // The whole wheel, from 0 to the top word, with the inside failing or the outside, where no word is.
+    fn wheel(top: u64, inside: bool) -> Band
+        ensures { λ r. ⌜ r ≡ wheel top inside ⌝ }
+    {
+        Band {
+            from: 0,
+            to: top,
+            inside,
+        }
+    }
+
+    // A whole wheel is written from 0 to the top word, so that a run never stops at a seam.
+    fn seamless(self, width: Width) -> Band
+        requires { ⌜ IsWidth (width .bits) ⌝ }
+        ensures { λ r. ⌜ r ≡ seamless (width .bits) self ⌝ }
+    {
+        let top = width.top();
+        if width.sub(self.to, self.from) == top {
+            return Band::wheel(top, self.inside);
+        }
+        self
+    }
+
+    // As written, or where the rule is negated with the other side failing.
+    fn by_sense(self, sense: u64) -> Band
+        ensures { λ r. ⌜ r ≡ bySense sense self ⌝ }
+    {
+        if sense == 0 {
+            return self;
+        }
+        Band {
+            from: self.from,
+            to: self.to,
+            inside: !self.inside,
         }
     }
 
@@ -133,23 +175,4 @@ fn within(from: u64, to: u64, x: u64) -> bool
         return true;
     }
     from <= x
-}
-
-// The words that meet the rule as written.
-fn arc_of(rule: Rule, width: Width) -> Arc
-    requires { ⌜ IsWidth (width .bits) ⌝ }
-    ensures { λ r. ⌜ r ≡ arcOf (width .bits) rule ⌝ }
-{
-    let form = rule.form;
-    let top = width.top();
-    match form {
-        1 => Arc::new(width.sub(0, rule.c1), width.sub(top, rule.c2)),
-        2 => Arc::new(width.sub(rule.c1, rule.c2), width.sub(top, rule.c2)),
-        3 => Arc::new(width.sub(0, rule.c1), width.sub(rule.c2, rule.c1)),
-        4 => Arc::new(width.half(), rule.c1),
-        5 => Arc::new(rule.c1, width.half() - 1),
-        6 => Arc::new(rule.c1, rule.c1),
-        8 => Arc::new(width.add(rule.c1, rule.c2), width.sub(rule.c1, 1)),
-        _ => Arc::new(0, top),
-    }
 }

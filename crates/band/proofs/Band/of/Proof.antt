@@ -1,28 +1,24 @@
 -- `Band::of` meets its contract. Assumes nothing.
-use mathlib.Core.Path.{sym, _∙_}
+use mathlib.Core.Path.{ap, _∙_}
 use borrow.Author.Needs.{needs}
-use Rattle.band.proofs.Laying.{partial, whole}
+use Rattle.band.specs.Band.{bandOf, bySense, seamless}
 use Rattle.band.proofs.Band.of.Statement.{statement}
 use Rattle.band.proofs.Band.of.Tie as tie
 
-arc-of-requires : tie.Need-arc-of-requires
-arc-of-requires c κs = search needs
+written-requires : tie.Need-written-requires
+written-requires c κs = search needs
 
-top-requires : tie.Need-top-requires
-top-requires c κs = search needs
+seamless-requires : tie.Need-seamless-requires
+seamless-requires c κs = search needs
 
-sub-requires : tie.Need-sub-requires
-sub-requires c κs = search needs
+by-sense-requires : tie.Need-by-sense-requires
+by-sense-requires c κs = search needs
 
 returns : tie.Need-returns
+unfolding bandOf
 returns c =
-    let t = c .before .before .before in
-    whole _ _ _ _ (t .before .arc-of .ensures) (t .top .ensures) (sym (c .before .sub .ensures) ∙ c .if1 .taken)
-
-returns-2 : tie.Need-returns-2
-returns-2 c =
-    let t = c .before .before .before in
-    partial _ _ _ _ (t .before .arc-of .ensures) (t .top .ensures) (λ e. c .if1 .left (c .before .sub .ensures ∙ e))
+    c .by-sense .ensures
+    ∙ ap (bySense _) (c .before .seamless .ensures ∙ ap (seamless _) (c .before .before .written .ensures))
 
 pub of-spec : {M : Type 1} → statement M
-of-spec = tie.close (tie.spec arc-of-requires top-requires sub-requires returns returns-2)
+of-spec = tie.close (tie.spec written-requires seamless-requires by-sense-requires returns)

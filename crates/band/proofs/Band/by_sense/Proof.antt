@@ -1,0 +1,16 @@
+-- `Band::by_sense` meets its contract. Assumes nothing.
+use borrow.Author.Tests.{eq-eqb, ne-eqb}
+use Rattle.band.specs.Band.{bySense, otherSide}
+use Rattle.band.proofs.Band.by_sense.Statement.{statement}
+use Rattle.band.proofs.Band.by_sense.Tie as tie
+
+returns : tie.Need-returns
+unfolding bySense
+returns c = rw (eq-eqb _ 0 (c .if1 .taken))
+
+returns-2 : tie.Need-returns-2
+unfolding bySense otherSide
+returns-2 c = rw (ne-eqb _ 0 (c .before .if1 .left))
+
+pub by-sense-spec : {M : Type 1} → statement M
+by-sense-spec = tie.close (tie.spec returns returns-2)
