@@ -79,9 +79,10 @@ module _ (w : ℕ) (width : 1 ≤ w) where
   passes-fits rs l x h = ap (λ (b : Bool). allHold (map (bandOf w) rs) x && b) (fixed-bits w rs x l) ∙ joint rs l x h
 
   pub smallest-is : (rs : List Rule) → AllLawful w rs
-      → first (passes (map (bandOf w) rs) (fixedBits rs)) (suc (top w)) 0 ≡ first (fits w rs) (2 ^ w) 0
+      → first (passes (map (bandOf w) rs) (fixedBits rs)) (suc (top w) - 0) 0 ≡ first (fits w rs) (2 ^ w) 0
   smallest-is rs l =
-      first-same _ _ (suc (top w)) 0 (λ y a b. passes-fits rs l y (omega arith)) ∙ ap (λ (k : ℕ). first (fits w rs) k 0) (top-suc w)
+      let all : suc (top w) - 0 ≡ 2 ^ w = omega (arith, top-suc w) in
+      first-same _ _ (suc (top w) - 0) 0 (λ y a b. passes-fits rs l y (omega arith)) ∙ ap (λ (k : ℕ). first (fits w rs) k 0) all
 
 hold-turned : (t : ℕ) (bs : List Band) → AllLaid t bs → (x : ℕ) → x ≤ t → allHold (map (turnedBand t) bs) x ≡ allHold bs (t - x)
 unfolding allHold AllLaid
@@ -100,9 +101,8 @@ module _ (w : ℕ) (width : 1 ≤ w) (rs : List Rule) (lawful : AllLawful w rs) 
   abbrev turned-test : ℕ → Bool
   turned-test = passes (map (turnedBand (top w)) (map (bandOf w) rs)) (turnedBits (fixedBits rs))
 
-  pub largest-is : back (top w) (first turned-test (suc (top w)) 0) ≡ last (fits w rs) (2 ^ w)
+  pub largest-is : back (top w) (first turned-test (suc (top w) - 0) 0) ≡ last (fits w rs) (2 ^ w)
   largest-is =
-      let k : suc (top w) ≡ suc (top w) - (top w - top w) = omega arith in
-      ap₂ (λ (k p : ℕ). back (top w) (first turned-test k p)) k (sym (sub-self (top w)))
+      ap (λ (p : ℕ). back (top w) (first turned-test (suc (top w) - p) p)) (sym (sub-self (top w)))
       ∙ sym (turned-back (top w) (fits w rs) turned-test passes-turned (top w) (omega arith))
       ∙ ap (last (fits w rs)) (top-suc w)

@@ -1,4 +1,4 @@
--- The steps of the sweep: no word below p passes, and a stretch from p on whose words all fail one band, or all lack the
+-- The steps of the sweep from s: no word below p passes, and a stretch from p on whose words all fail one band, or all lack the
 -- bits, moves p past it. Assumes nothing.
 use mathlib.Core.Path.{_≡_, refl, sym, ap, ap₂, _∙_, subst}
 use mathlib.Core.Bool.{Bool, true, false, _&&_, and-assoc, and-true, and-false}
@@ -49,15 +49,15 @@ laid-at t (b ∷ bs) (suc i) d h l = laid-at t bs i d (omega arith) (l .1)
 pub laid-take : (t : ℕ) (bs : List Band) (n i : ℕ) (d : Band) → i < n → n ≤ length bs → AllLaid t (take n bs) → Laid t (getD bs i d)
 laid-take t bs n i d h l a = subst (Laid t) (getD-take n bs i d h) (laid-at t (take n bs) i d (omega (arith, length-take-le n bs l)) a)
 
-module _ (bs : List Band) (f : Fixed) where
+module _ (bs : List Band) (f : Fixed) (s : ℕ) where
   abbrev pub NoneBelow : ℕ → Type 0
-  NoneBelow p = (x : ℕ) → x < p → passes bs f x ≡ false
+  NoneBelow p = (x : ℕ) → s ≤ x → x < p → passes bs f x ≡ false
 
   further : (p q : ℕ) → NoneBelow p → ((x : ℕ) → p ≤ x → x < q → passes bs f x ≡ false) → NoneBelow q
-  further p q n h x b = go (decLt x p)
+  further p q n h x a b = go (decLt x p)
     where
       go : Dec (x < p) → passes bs f x ≡ false
-      go (yes l) = n x l
+      go (yes l) = n x a l
       go (no l) = h x (omega arith) b
 
   past-band : (p q i : ℕ) (d : Band) → i < length bs → NoneBelow p → ((x : ℕ) → p ≤ x → x < q → holds (getD bs i d) x ≡ false)
@@ -70,12 +70,13 @@ module _ (bs : List Band) (f : Fixed) where
   unfolding passes
   past-bits p q n h = further p q n (λ x a b. ap (λ (t : Bool). allHold bs x && t) (h x a b) ∙ and-false (allHold bs x))
 
-  pub found-none : (t : ℕ) → NoneBelow (suc t) → Nothing ≡ first (passes bs f) (suc t) 0
-  found-none t n = sym (first-none (passes bs f) (suc t) 0 (λ y a b. n y (omega arith)))
+  pub found-none : (t : ℕ) → s ≤ t → NoneBelow (suc t) → Nothing ≡ first (passes bs f) (suc t - s) s
+  found-none t l n = sym (first-none (passes bs f) (suc t - s) s (λ y a b. n y a (omega arith)))
 
-  pub found-at : (t p : ℕ) → p ≤ t → NoneBelow p → allHold bs p ≡ true → hasBits f p ≡ true → At p ≡ first (passes bs f) (suc t) 0
+  pub found-at : (t p : ℕ) → s ≤ p → p ≤ t → NoneBelow p → allHold bs p ≡ true → hasBits f p ≡ true
+      → At p ≡ first (passes bs f) (suc t - s) s
   unfolding passes
-  found-at t p h n a b = sym (first-at (passes bs f) (suc t) 0 p (omega arith) (omega arith) (ap₂ _&&_ a b) (λ y l u. n y u))
+  found-at t p l h n a b = sym (first-at (passes bs f) (suc t - s) s p l (omega arith) (ap₂ _&&_ a b) n)
 
   -- past the words before the next one that has the bits, or past the top word where there is none
   pub past-next : (p x k : ℕ) → NoneBelow p → First (hasBits f) k p x → NoneBelow x
@@ -91,10 +92,10 @@ run-range b t p r h e =
     (omega (arith, c .order), omega (arith, c .bound))
 
 -- past a run of words that fail one of the first n bands
-pub past-run : (bs : List Band) (n : ℕ) (f : Fixed) (t p r i : ℕ) (d : Band) → i < n → n ≤ length bs → p ≤ t
-    → NoneBelow (take n bs) f p → holds (getD bs i d) p ≡ false → r ≡ climb (holds (getD bs i d)) (t - p) p
-    → NoneBelow (take n bs) f (r + 1)
-past-run bs n f t p r i d h l word below fails e =
-    past-band (take n bs) f p (r + 1) i d (omega (arith, length-take-le n bs l)) below
+pub past-run : (bs : List Band) (n : ℕ) (f : Fixed) (s t p r i : ℕ) (d : Band) → i < n → n ≤ length bs → p ≤ t
+    → NoneBelow (take n bs) f s p → holds (getD bs i d) p ≡ false → r ≡ climb (holds (getD bs i d)) (t - p) p
+    → NoneBelow (take n bs) f s (r + 1)
+past-run bs n f s t p r i d h l word below fails e =
+    past-band (take n bs) f s p (r + 1) i d (omega (arith, length-take-le n bs l)) below
     (λ x a b. ap (λ (c : Band). holds c x) (getD-take n bs i d h)
     ∙ all-miss (holds (getD bs i d)) (climb-is (holds (getD bs i d)) (t - p) p t (omega arith)) fails x a (omega arith))

@@ -33,12 +33,13 @@ pub fn solve(rules: [Rule; Rule::LIMIT], n: usize, width: Width) -> Kept
     };
     let laid = bands::lay(rules, n, width);
     let fixed = Fixed::of(rules, n);
-    let Found::At(smallest) = sweep::sweep(laid, n, fixed, width) else {
+    let Found::At(smallest) = sweep::sweep(laid, n, fixed, width, 0) else {
         return none;
     };
     let top = width.top();
     let turned = bands::turn(laid, n, top);
-    let Found::At(last) = sweep::sweep(turned, n, fixed.turned(), width) else {
+    let turned_bits = fixed.turned();
+    let Found::At(last) = sweep::sweep(turned, n, turned_bits, width, 0) else {
         return none;
     };
     let largest = top - last;

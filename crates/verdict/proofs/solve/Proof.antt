@@ -51,7 +51,7 @@ first-found : (c : tie.After-sweep) → c .sweep .result ≡ first (fits (c .bef
 first-found c =
     let s = c .before .before .before in
     c .sweep .ensures
-    ∙ ap₂ (λ (bs : List Band) (f : Fixed). first (passes bs f) (suc (top (s .args .width .bits))) 0) (own (c .before .before)) (c .before .of .ensures)
+    ∙ ap₂ (λ (bs : List Band) (f : Fixed). first (passes bs f) (suc (top (s .args .width .bits)) - 0) 0) (own (c .before .before)) (c .before .of .ensures)
     ∙ smallest-is _ (s .pre .0 .low) (rs s) (s .pre .1 .1)
 
 -- what has been turned round
@@ -78,7 +78,7 @@ last-found c =
     let s = start (c .before) in
     ap (back (top (s .args .width .bits)))
     (c .sweep2 .ensures
-    ∙ ap₂ (λ (bs : List Band) (f : Fixed). first (passes bs f) (suc (top (s .args .width .bits))) 0) (turned-own (c .before)) (turned-bits-own (c .before)))
+    ∙ ap₂ (λ (bs : List Band) (f : Fixed). first (passes bs f) (suc (top (s .args .width .bits)) - 0) 0) (turned-own (c .before)) (turned-bits-own (c .before)))
     ∙ largest-is _ (s .pre .0 .low) (rs s) (s .pre .1 .1)
 
 solved : (c : tie.After-sweep2)
@@ -100,7 +100,7 @@ of-requires : tie.Need-of-requires
 of-requires c κs = search needs
 
 sweep-requires : tie.Need-sweep-requires
-sweep-requires c κs = (c .before .before .pre .0, ((c .before .before .pre .1 .0, own-laid (c .before)), own-tidy c))
+sweep-requires c κs = (c .before .before .pre .0, ((c .before .before .pre .1 .0, own-laid (c .before)), (own-tidy c, omega arith)))
 
 enum-known-smallest : tie.Need-enum-known-smallest
 enum-known-smallest c = search needs
@@ -131,7 +131,7 @@ sweep-requires-2 c κs =
       s .pre .0,
       (
         (s .pre .1 .0, subst (AllLaid _) (sym (turned-own c)) (turned-all-laid _ _ (bands-laid _ (s .pre .0 .low) (rs s) (s .pre .1 .1)))),
-        subst Tidy (sym (turned-bits-own c)) (turned-tidy _ _ (fixed-tidy (rs s)) (fixed-within _ (rs s) (s .pre .1 .1))),
+        (subst Tidy (sym (turned-bits-own c)) (turned-tidy _ _ (fixed-tidy (rs s)) (fixed-within _ (rs s) (s .pre .1 .1))), omega arith),
       ),
     )
 

@@ -7,7 +7,7 @@ use native.Mathlib.Numerals.{add-one}
 use native.Mathlib.Omega.{arith}
 use borrow.Author.Needs.{needs}
 use lib.ListN.{set, take}
-use Rattle.rule.specs.Meaning.{rule}
+use Rattle.rule.specs.Meaning.{RULES, rule}
 use Rattle.band.specs.declared.Band.{Band}
 use Rattle.verdict.specs.Bands.{bandsOf}
 use Rattle.verdict.proofs.Stores.{bands-suc}
@@ -49,7 +49,7 @@ loop-again : tie.Need-loop-again Inv-loop μ-loop
 loop-again c =
     let l = c .before .before .before in
     let rules = l .before .args .t1 in
-    let h : l .loop .i < 64 = omega arith in (
+    let h : l .loop .i < RULES = omega arith in (
       omega arith,
       ap₂ (λ (bs : List Band) (b : Band). set bs (l .loop .i) b) (l .loop .inv .1) (c .of .ensures)
           ∙ bands-suc _ rules (l .loop .i) (rule 0 0 0 0) (omega arith) h
