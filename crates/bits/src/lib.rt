@@ -55,16 +55,6 @@ impl Fixed {
         }
     }
 
-    // Whether x has the bits.
-    pub fn has(self, x: u64) -> bool
-        ensures { λ r. ⌜ r ≡ hasBits self x ⌝ }
-    {
-        match self {
-            Fixed::Bits { mask, value } => x & mask == value,
-            Fixed::Clash => false,
-        }
-    }
-
     // The smallest word at or above p that has the bits.
     pub fn next(self, width: Width, p: u64) -> Found
         requires { ⌜ IsWidth (width .bits) ⌝ }
