@@ -14,7 +14,7 @@ use Rattle.chain.specs.Chain.{Covers, IsChain, Shows, Taken}
 use Rattle.chain.specs.Chain.Covers.{end, on}
 use Rattle.chain.specs.Chain.IsChain.{last, more}
 use Rattle.chain.specs.declared.Link.{Link}
-use Rattle.chain.proofs.Fits.{bits-fail, rule-fails}
+use Rattle.chain.proofs.Failing.{bits-fail, rule-fails}
 
 module _ (w : ℕ) (rs : List Rule) where
   shown : {p : ℕ} {l : Link} → Taken w rs p l → Shows w rs l

@@ -1,11 +1,10 @@
 pub mod Apart
-pub mod Bands
 pub mod Bound
 pub mod Cover
-pub mod Fits
+pub mod Failing
 pub mod Furthest
-pub mod Gaps
 pub mod Lists
+pub mod OnBands
 pub mod Steps
 pub mod Taken
 pub mod Unique

@@ -1,17 +1,10 @@
--- Laws of lists in general: an element of a mapped list, the next element of a list, and a part pasted over a tail.
--- Assumes nothing.
-use mathlib.Core.Path.{_≡_, refl, sym, ap, ap₂, _∙_}
-use mathlib.Core.List.{List, [], _∷_, map, _++_, append-assoc}
-use Prim.Native.Nat.{ℕ, zero, suc, _+_, _<_}
+-- Laws of lists in general: the next element of a list, and a part pasted over a tail. Assumes nothing.
+use mathlib.Core.Path.{_≡_, sym, ap, ap₂, _∙_}
+use mathlib.Core.List.{List, [], _∷_, _++_, append-assoc}
+use Prim.Native.Nat.{ℕ, suc, _+_, _<_}
 use native.Mathlib.Omega.{arith}
 use lib.ListN.{drop, getD, length, length-drop, take}
 use lib.Seq.{drop-at, drop-cons, drop-drop, take-at, take-suc}
-
--- any defaults will do
-pub map-at : {A B : Type 0} (f : A → B) (l : List A) (i : ℕ) (a : A) (b : B) → i < length l → getD (map f l) i b ≡ f (getD l i a)
-map-at f [] i a b h = absurd (omega arith)
-map-at f (x ∷ l) zero a b h = refl
-map-at f (x ∷ l) (suc i) a b h = map-at f l i a b (omega arith)
 
 module _ {A : Type 0} where
   -- x is element i of the list, and xs are those after it

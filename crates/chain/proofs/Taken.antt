@@ -18,7 +18,7 @@ use Rattle.chain.specs.declared.Far.the-variants.{To, Nowhere}
 use Rattle.chain.specs.Chain.{BitsLink, Fails, Plain, RuleLink, Taken, nth}
 use Rattle.chain.specs.declared.Link.{Link}
 use Rattle.chain.specs.Links.{before, furthest, gap, linkAt, linkBy}
-use Rattle.chain.proofs.Fits.{bits-only}
+use Rattle.chain.proofs.Failing.{bits-only}
 use Rattle.chain.proofs.Furthest.{Best, Held, furthest-held}
 
 -- a link has at least one word, and all of them are words
@@ -27,20 +27,20 @@ taken-order (e, inl r) = (r .fails .order, r .fails .word)
 taken-order (e, inr b) = (b .1 .lacks .order, b .1 .lacks .word)
 
 -- one less than the first word that passes is as far as one can go
-before-first : (w : ℕ) (f : ℕ → Bool) (k p : ℕ) → p + k ≡ top w → climb f k p ≡ before w (first f k (suc p))
+before-first : (t : ℕ) (f : ℕ → Bool) (k p : ℕ) → p + k ≡ t → climb f k p ≡ before t (first f k (suc p))
 unfolding before first climb
-before-first w f zero p e = omega arith
-before-first w f (suc k) p e = go (f (suc p)) refl (before-first w f k (suc p) (omega arith))
+before-first t f zero p e = omega arith
+before-first t f (suc k) p e = go (f (suc p)) refl (before-first t f k (suc p) (omega arith))
   where
-    go : (s : Bool) → f (suc p) ≡ s → climb f k (suc p) ≡ before w (first f k (suc (suc p))) → climb f (suc k) p ≡ before w (first f (suc k) (suc p))
-    go true t later = rw (t, climb, first) (omega arith)
-    go false t later = rw (t, climb, first) later
+    go : (s : Bool) → f (suc p) ≡ s → climb f k (suc p) ≡ before t (first f k (suc (suc p))) → climb f (suc k) p ≡ before t (first f (suc k) (suc p))
+    go true d later = rw (d, climb, first) (omega arith)
+    go false d later = rw (d, climb, first) later
 
 module _ (w : ℕ) (rs : List Rule) (p : ℕ) (word : p ≤ top w) where
   gap-is : Climbed (meets7 w rs) p (top w) (gap w rs p)
   unfolding gap
   gap-is =
-      subst (Climbed (meets7 w rs) p (top w)) (before-first w (meets7 w rs) (top w - p) p (omega arith))
+      subst (Climbed (meets7 w rs) p (top w)) (before-first (top w) (meets7 w rs) (top w - p) p (omega arith))
       (climb-is (meets7 w rs) (top w - p) p (top w) (omega arith))
 
   rule-link : (q i : ℕ) → Best w rs p (length rs) q i → RuleLink w rs p q i
@@ -70,6 +70,6 @@ module _ (w : ℕ) (rs : List Rule) (p : ℕ) (word : p ≤ top w) where
     unfolding linkAt linkBy
     taken = go (furthest w rs p) (furthest-held w rs p word)
       where
-        go : (far : Far) → Held w rs p (length rs) far → Taken w rs p (linkBy w rs p far)
+        go : (far : Far) → Held w rs p (length rs) far → Taken w rs p (linkBy p (gap w rs p) far)
         go (To q i) b = (refl, inl (rule-link q i b))
         go Nowhere b = (refl, inr (refl, bits-link b))

@@ -19,8 +19,10 @@ use Rattle.verdict.specs.Kept.{kept}
 use Rattle.verdict.proofs.Right.{kept-right}
 use Rattle.chain.specs.declared.Link.{Link}
 use Rattle.chain.specs.Links.{numbersOf, linkAt, links, linksFrom}
+use Rattle.chain.specs.OnBands.{linkOn}
 use Rattle.chain.proofs.Bound.{chain-bound}
 use Rattle.chain.proofs.Lists.{Next, next-of, paste-on}
+use Rattle.chain.proofs.OnBands.{link-law}
 use Rattle.chain.proofs.Steps.{NoFit, chain-is, links-end, links-on}
 use Rattle.chain.proofs.Taken.{taken, taken-order}
 
@@ -38,6 +40,12 @@ pub record Sheet (n : ℕ) (bands : List Band) (fixed : Fixed) (w : ℕ) (rs : L
   pub own : take n bands ≡ map (bandOf w) rs
   pub bits : fixed ≡ fixedBits rs
   pub no-fit : NoFit w rs
+
+-- and so a step over those is the paper's
+pub own-link : (n : ℕ) (bands : List Band) (fixed : Fixed) (w : ℕ) (rs : List Rule) → 1 ≤ w → Sheet n bands fixed w rs → (p : ℕ) → p ≤ top w
+    → linkOn (take n bands) fixed (top w) p ≡ linkAt w rs p
+own-link n bands fixed w rs width h p word =
+    ap₂ (λ (bs : List Band) (f : Fixed). linkOn bs f (top w) p) (h .own) (h .bits) ∙ link-law w width p word rs (h .lawful)
 
 -- so many links are written, and the next starts at p
 pub record Walked (w : ℕ) (rs : List Rule) (out₀ out : List ℕ) (count p : ℕ) : Type 0 where

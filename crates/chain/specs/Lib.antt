@@ -2,3 +2,4 @@ pub mod Cases
 pub mod Chain
 pub mod Findings
 pub mod Links
+pub mod OnBands

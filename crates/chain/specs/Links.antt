@@ -41,20 +41,20 @@ unfoldable pub furthest : ℕ → List Rule → ℕ → Far
 furthest w rs p = furthestOf w Nowhere 0 rs p
 
 -- "q is one less than the smallest word above p that meets all form 7 rules, or the top word if there is none"
-unfoldable pub before : ℕ → Found → ℕ
-before w (At x) = x - 1
-before w Nothing = top w
+unfoldable pub before : (t : ℕ) → Found → ℕ
+before t (At x) = x - 1
+before t Nothing = t
 
 unfoldable pub gap : ℕ → List Rule → ℕ → ℕ
-gap w rs p = before w (first (meets7 w rs) (top w - p) (suc p))
+gap w rs p = before (top w) (first (meets7 w rs) (top w - p) (suc p))
 
--- the link that starts at p
-unfoldable pub linkBy : ℕ → List Rule → ℕ → Far → Link
-linkBy w rs p (To q i) = link p q i
-linkBy w rs p Nowhere = link p (gap w rs p) BITS
+-- the link that starts at p: the furthest reach with its rule's number, or where there is none the gap with 255
+unfoldable pub linkBy : (p gap : ℕ) → Far → Link
+linkBy p g (To q i) = link p q i
+linkBy p g Nowhere = link p g BITS
 
 unfoldable pub linkAt : ℕ → List Rule → ℕ → Link
-linkAt w rs p = linkBy w rs p (furthest w rs p)
+linkAt w rs p = linkBy p (gap w rs p) (furthest w rs p)
 
 -- "Stop after the link that ends at the top word; else go on with p = q + 1": at most k links from p on
 unfoldable pub linksFrom : ℕ → List Rule → ℕ → ℕ → List Link

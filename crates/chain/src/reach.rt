@@ -1,13 +1,12 @@
 // The rule of furthest reach.
 ghost use mathlib.Core.Path.{_≡_};
-ghost use mathlib.Core.List.{List, map};
 ghost use Prim.Native.Nat.{_≤_};
 ghost use lib.ListN.{take};
 ghost use Rattle.word.specs.Word.{IsWidth, top};
-ghost use Rattle.rule.specs.declared.Rule.{Rule as RuleOf};
-ghost use Rattle.rule.specs.Meaning.{AllLawful, RULES};
-ghost use Rattle.band.specs.Band.{bandOf};
-ghost use Rattle.chain.specs.Links.{further, furthest};
+ghost use Rattle.rule.specs.Meaning.{RULES};
+ghost use Rattle.band.specs.Band.{AllLaid};
+ghost use Rattle.chain.specs.Links.{further};
+ghost use Rattle.chain.specs.OnBands.{furthestBand};
 use crate::Far;
 use band::Band;
 use rule::Rule;
@@ -32,12 +31,12 @@ impl Far {
     }
 }
 
-// The rule of furthest reach from p among those whose bands are the first n, the lowest number on a tie.
+// The furthest reach from p of the first n bands, and that band's number, the lowest on a tie.
 pub fn furthest(bands: [Band; Rule::LIMIT], n: usize, width: Width, p: u64) -> Far
     requires { ⌜ IsWidth (width .bits) ⌝ }
-    requires { ⌜ (n ≤ RULES) × (p ≤ top (width .bits)) ⌝ }
-    requires { ⌜ ((rs : List RuleOf) × AllLawful (width .bits) rs × (take n bands ≡ map (bandOf (width .bits)) rs)) ⌝ }
-    ensures { λ r. ⌜ ((rs : List RuleOf) → AllLawful (width .bits) rs → take n bands ≡ map (bandOf (width .bits)) rs → r ≡ furthest (width .bits) rs p) ⌝ }
+    requires { ⌜ (n ≤ RULES) × AllLaid (top (width .bits)) (take n bands) ⌝ }
+    requires { ⌜ p ≤ top (width .bits) ⌝ }
+    ensures { λ r. ⌜ r ≡ furthestBand (take n bands) (top (width .bits)) p ⌝ }
 {
     let top = width.top();
     let mut far = Far::Nowhere;

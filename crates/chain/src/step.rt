@@ -1,14 +1,13 @@
 // One link: where it ends, why, and how it is written.
 ghost use mathlib.Core.Path.{_≡_};
-ghost use mathlib.Core.List.{List, map, _++_, _∷_};
+ghost use mathlib.Core.List.{_++_, _∷_};
 ghost use Prim.Native.Nat.{_+_, _≤_};
 ghost use lib.ListN.{drop, length, take};
 ghost use Rattle.word.specs.Word.{IsWidth, top};
-ghost use Rattle.rule.specs.declared.Rule.{Rule as RuleOf};
-ghost use Rattle.rule.specs.Meaning.{AllLawful, RULES};
-ghost use Rattle.band.specs.Band.{bandOf};
-ghost use Rattle.bits.specs.Fixed.{Tidy, fixedBits};
-ghost use Rattle.chain.specs.Links.{gap, linkAt};
+ghost use Rattle.rule.specs.Meaning.{RULES};
+ghost use Rattle.band.specs.Band.{AllLaid};
+ghost use Rattle.bits.specs.Fixed.{Tidy};
+ghost use Rattle.chain.specs.OnBands.{gapOn, linkOn};
 use crate::Far;
 use crate::Link;
 use crate::reach;
@@ -24,9 +23,9 @@ const BITS: u64 = 255;
 // The link that starts at p.
 pub fn link_at(bands: [Band; Rule::LIMIT], n: usize, fixed: Fixed, width: Width, p: u64) -> Link
     requires { ⌜ IsWidth (width .bits) ⌝ }
-    requires { ⌜ (n ≤ RULES) × (p ≤ top (width .bits)) ⌝ }
-    requires { ⌜ ((rs : List RuleOf) × AllLawful (width .bits) rs × (take n bands ≡ map (bandOf (width .bits)) rs) × (fixed ≡ fixedBits rs)) ⌝ }
-    ensures { λ r. ⌜ ((rs : List RuleOf) → AllLawful (width .bits) rs → take n bands ≡ map (bandOf (width .bits)) rs → fixed ≡ fixedBits rs → r ≡ linkAt (width .bits) rs p) ⌝ }
+    requires { ⌜ (n ≤ RULES) × AllLaid (top (width .bits)) (take n bands) ⌝ }
+    requires { ⌜ Tidy fixed × (p ≤ top (width .bits)) ⌝ }
+    ensures { λ r. ⌜ r ≡ linkOn (take n bands) fixed (top (width .bits)) p ⌝ }
 {
     match reach::furthest(bands, n, width, p) {
         Far::To { reach, rule } => Link {
@@ -45,9 +44,8 @@ pub fn link_at(bands: [Band; Rule::LIMIT], n: usize, fixed: Fixed, width: Width,
 // The last word before the next one above p that has the bits, or the top word where there is none.
 fn gap(fixed: Fixed, width: Width, p: u64) -> u64
     requires { ⌜ IsWidth (width .bits) ⌝ }
-    requires { ⌜ p ≤ top (width .bits) ⌝ }
-    requires { ⌜ Tidy fixed ⌝ }
-    ensures { λ r. ⌜ ((rs : List RuleOf) → AllLawful (width .bits) rs → fixed ≡ fixedBits rs → r ≡ gap (width .bits) rs p) ⌝ }
+    requires { ⌜ Tidy fixed × (p ≤ top (width .bits)) ⌝ }
+    ensures { λ r. ⌜ r ≡ gapOn fixed (top (width .bits)) p ⌝ }
 {
     let top = width.top();
     if p == top {

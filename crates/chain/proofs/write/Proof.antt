@@ -1,6 +1,6 @@
 -- `write` meets its contract. The loop's invariant: the walk has come to p, whichever rules the bands and the bits are those
 -- of. The measure is the words above p. Assumes nothing.
-use mathlib.Core.Path.{_≡_, refl, ap, _∙_}
+use mathlib.Core.Path.{_≡_, refl, sym, ap, _∙_, subst}
 use mathlib.Core.List.{List}
 use Prim.Native.Nat.{_+_, _-_, _*_, _≤_, _<_}
 use native.Mathlib.Omega.{arith}
@@ -9,8 +9,12 @@ use lib.ListN.{length, take}
 use lib.Seq.{length-take-le}
 use Rattle.word.specs.Word.{top}
 use Rattle.rule.specs.declared.Rule.{Rule}
-use Rattle.verdict.proofs.Passes.{own-bands}
-use Rattle.chain.proofs.Walk.{Sheet, Walked, link-order, none-fits, walk-end, walk-on, walk-room, walk-start}
+use Rattle.band.specs.Band.{AllLaid}
+use Rattle.bits.specs.Fixed.{Tidy}
+use Rattle.bits.proofs.Joined.{fixed-tidy}
+use Rattle.verdict.proofs.Passes.{bands-laid, own-bands}
+use Rattle.chain.specs.Links.{linkAt}
+use Rattle.chain.proofs.Walk.{Sheet, Walked, link-order, none-fits, own-link, walk-end, walk-on, walk-room, walk-start}
 use Rattle.chain.proofs.write.Statement.{statement}
 use Rattle.chain.proofs.write.Tie as tie
 
@@ -54,14 +58,14 @@ top-requires c κs = search needs
 loop-holds : tie.Need-loop-holds Inv-loop μ-loop
 loop-holds c = (omega arith, refl, λ r h. walk-start _ r _)
 
+word : (l : Loop) → l .loop .p ≤ top (l .before .before .before .before .before .args .width .bits)
+word l = omega arith
+
 link-at-requires : tie.Need-link-at-requires Inv-loop μ-loop
 link-at-requires c κs =
     let s = c .before .before .before .before .before in
     let h = sheet (c .before .before) in
-    (s .pre .0, ((s .pre .1 .0 .0, omega arith), (rs s, h .lawful, h .own, h .bits)))
-
-word : (l : Loop) → l .loop .p ≤ top (l .before .before .before .before .before .args .width .bits)
-word l = omega arith
+    (s .pre .0, ((s .pre .1 .0 .0, subst (AllLaid _) (sym (h .own)) (bands-laid _ (s .pre .0 .low) (rs s) (h .lawful))), (subst Tidy (sym (h .bits)) (fixed-tidy (rs s)), word c)))
 
 -- there is room for one link more
 room : (l : Loop) → 3 * l .loop .count + 3 ≤ length (l .loop .out)
@@ -80,6 +84,12 @@ put-requires c κs = room (c .before .before)
 add-count : tie.Need-add-count Inv-loop μ-loop
 add-count c = omega (arith, room (c .before .before .before .before .before))
 
+-- the link is the one that the paper takes at p, whichever rules the bands and the bits are those of
+here : (a : tie.After-link-at Inv-loop μ-loop) (r : List Rule)
+    → Sheet (a .before .before .before .before .before .before .args .n) (a .before .before .before .before .lay .result) (a .before .before .before .of .result) (a .before .before .before .before .before .before .args .width .bits) r
+    → a .link-at .result ≡ linkAt (a .before .before .before .before .before .before .args .width .bits) r (a .before .loop .p)
+here a r h = a .link-at .ensures ∙ own-link _ _ _ _ r (a .before .before .before .before .before .before .pre .0 .low) h _ (word (a .before))
+
 -- the link starts at p and ends at a word
 order : (a : tie.After-link-at Inv-loop μ-loop)
     → (a .before .loop .p ≤ a .link-at .result .to) × (a .link-at .result .to ≤ top (a .before .before .before .before .before .before .args .width .bits))
@@ -87,7 +97,7 @@ order a =
     let l = a .before in
     let s = l .before .before .before .before .before in
     let h = sheet (l .before .before) in
-    link-order _ (rs s) (h .no-fit) _ (word l) _ (a .link-at .ensures (rs s) (h .lawful) (h .own) (h .bits))
+    link-order _ (rs s) (h .no-fit) _ (word l) _ (here a (rs s) h)
 
 add-p : tie.Need-add-p Inv-loop μ-loop
 add-p c = omega (arith, order (c .before .before .before .before .before .before .before))
@@ -105,7 +115,7 @@ loop-again c =
       omega arith,
       u .put .kept .0 ∙ l .loop .inv .1,
       λ r h.
-          walk-on _ r (h .no-fit) _ (word l) _ _ _ (l .loop .inv .2 r h) _ (a .link-at .ensures r (h .lawful) (h .own) (h .bits)) _ (u .put .ensures) up,
+          walk-on _ r (h .no-fit) _ (word l) _ _ _ (l .loop .inv .2 r h) _ (here a r h) _ (u .put .ensures) up,
     )
 
 same-length : tie.Need-same-length Inv-loop μ-loop
@@ -120,7 +130,7 @@ returns c =
     let l = a .before in
     let s = l .before .before .before .before .before in
     let h = sheet (l .before .before) in
-    walk-end _ (rs s) (h .no-fit) _ (word l) _ _ _ (l .loop .inv .2 (rs s) h) _ (a .link-at .ensures (rs s) (h .lawful) (h .own) (h .bits)) _ (u .put .ensures)
+    walk-end _ (rs s) (h .no-fit) _ (word l) _ _ _ (l .loop .inv .2 (rs s) h) _ (here a (rs s) h) _ (u .put .ensures)
     (c .if1 .taken ∙ l .before .top .ensures)
 
 pub write-spec : {M : Type 1} → statement M

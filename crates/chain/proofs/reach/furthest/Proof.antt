@@ -1,29 +1,25 @@
--- `furthest` meets its contract. The loop's invariant: the furthest so far is that of the rules passed, whichever rules
--- the bands are those of. The measure is the bands left. Assumes nothing.
+-- `furthest` meets its contract. The loop's invariant: the furthest so far is that of the bands passed. The measure is the
+-- bands left. Assumes nothing.
 use mathlib.Core.Path.{_≡_, refl, sym, ap, ap₂, _∙_, subst}
 use mathlib.Core.Logic.{⊎-elim}
-use mathlib.Core.List.{List}
 use Prim.Native.Nat.{ℕ, _-_, _≤_, _<_}
 use native.Mathlib.Numerals.{add-one}
 use native.Mathlib.Omega.{arith}
 use borrow.Author.Needs.{needs}
 use borrow.Author.Tests.{not-false, not-true}
 use lib.ListN.{getD, length, take}
-use lib.Seq.{take-all}
-use Rattle.rule.specs.declared.Rule.{Rule}
-use Rattle.band.specs.Band.{AllLaid, Laid}
-use Rattle.verdict.proofs.Passes.{bands-laid}
+use Rattle.band.specs.Band.{Laid}
 use Rattle.verdict.proofs.Steps.{laid-take}
 use Rattle.verdict.specs.Bands.{blankBand}
 use Rattle.chain.specs.declared.Far.{Far}
-use Rattle.chain.specs.Links.{further, furthest, furthestOf}
-use Rattle.chain.proofs.Bands.{Own, far-kept, far-new, own-count}
+use Rattle.chain.specs.Links.{further}
+use Rattle.chain.specs.OnBands.{furthestBand, furthestBandOf}
+use Rattle.chain.proofs.OnBands.{far-kept, far-new, furthest-suc}
 use Rattle.chain.proofs.reach.furthest.Statement.{statement}
 use Rattle.chain.proofs.reach.furthest.Tie as tie
 
 abbrev Inv-loop : tie.InvT-loop
-Inv-loop n p bands t far₀ i₀ far i =
-    (i ≤ n) × ((w : ℕ) (rs : List Rule) → Own t n bands w rs → far ≡ furthest w (take i rs) p)
+Inv-loop n p bands t far₀ i₀ far i = (i ≤ n) × (far ≡ furthestBand (take i bands) t p)
 
 abbrev μ-loop : tie.MeasureT-loop
 μ-loop n p bands t far₀ i₀ far i = n - i
@@ -32,8 +28,8 @@ top-requires : tie.Need-top-requires Inv-loop μ-loop
 top-requires c κs = search needs
 
 loop-holds : tie.Need-loop-holds Inv-loop μ-loop
-unfolding furthest furthestOf
-loop-holds c = (omega arith, λ w rs o. refl)
+unfolding furthestBand furthestBandOf
+loop-holds c = (omega arith, refl)
 
 mul-band : tie.Need-mul-band Inv-loop μ-loop
 mul-band c = search needs
@@ -47,11 +43,9 @@ holds-requires c κs = search needs
 run-requires : tie.Need-run-requires Inv-loop μ-loop
 run-requires c κs =
     let l = c .before .before .before .before in
-    let s = l .before .before in
-    let (rs, lawful, own) = s .pre .1 .1 in (
+    let s = l .before .before in (
       subst (λ (t : ℕ). Laid t (getD (s .args .t1) (l .loop .i) blankBand)) (sym (l .before .top .ensures))
-          (laid-take _ (s .args .t1) (s .args .n) (l .loop .i) blankBand (omega arith) (omega arith)
-          (subst (AllLaid _) (sym own) (bands-laid _ (s .pre .0 .low) rs lawful))),
+          (laid-take _ (s .args .t1) (s .args .n) (l .loop .i) blankBand (omega arith) (omega arith) (s .pre .1 .0 .1)),
       omega arith,
       sym (c .before .holds .ensures) ∙ not-true _ (c .if1 .taken),
     )
@@ -70,31 +64,29 @@ loop-again c =
     let l = c .before .before .before .before in
     let s = l .before .before in
     let i = l .loop .i in
-    let few : s .args .n ≤ length (s .args .t1) = omega arith in
-    let word : s .args .p ≤ l .before .top .result = omega arith in
-    let there : i < s .args .n = omega arith in (
+    let bands = s .args .t1 in
+    let t = l .before .top .result in
+    let there : i < length bands = omega arith in (
       omega arith,
-      λ w rs o.
-          ⊎-elim
+      ⊎-elim
           (λ a. a .3
           ∙ a .2 .ensures
-          ∙ ap₂ (λ (f : Far) (q : ℕ). further f q i) (l .loop .inv .1 w rs o) (a .1 .ensures .1)
-          ∙ sym (far-new _ _ _ few w rs o _ word i there blankBand (sym (c .before .holds .ensures) ∙ not-true _ (a .0 .taken))))
+          ∙ ap₂ (λ (f : Far) (q : ℕ). further f q i) (l .loop .inv .1) (a .1 .ensures .1)
+          ∙ sym (far-new t _ _ i (getD bands i blankBand) (sym (c .before .holds .ensures) ∙ not-true _ (a .0 .taken))))
           (λ a. a .1
-          ∙ l .loop .inv .1 w rs o
-          ∙ sym (far-kept _ _ _ few w rs o _ word i there blankBand (sym (c .before .holds .ensures) ∙ not-false _ (a .0 .left))))
+          ∙ l .loop .inv .1
+          ∙ sym (far-kept t _ _ i (getD bands i blankBand) (sym (c .before .holds .ensures) ∙ not-false _ (a .0 .left))))
           (c .if1 .came)
-          ∙ ap (λ (j : ℕ). furthest w (take j rs) (s .args .p)) (sym (add-one i)),
+          ∙ sym (furthest-suc t (s .args .p) bands i blankBand there)
+          ∙ ap (λ (j : ℕ). furthestBand (take j bands) t (s .args .p)) (sym (add-one i)),
     )
 
 returns : tie.Need-returns Inv-loop μ-loop
-returns c rs lawful own =
+returns c =
     let l = c .before in
     let s = l .before .before in
-    let few : s .args .n ≤ length (s .args .t1) = omega arith in
-    let o : Own _ _ _ _ rs = record { width = s .pre .0 .low; is-top = l .before .top .ensures; lawful = lawful; own = own } in
-    l .loop .inv .1 _ rs o
-    ∙ ap (λ (r : List Rule). furthest (s .args .width .bits) r (s .args .p)) (take-all (l .loop .i) rs (omega (arith, own-count _ _ _ few _ rs o)))
+    let e : l .loop .i ≡ s .args .n = omega arith in
+    l .loop .inv .1 ∙ ap₂ (λ (i t : ℕ). furthestBand (take i (s .args .t1)) t (s .args .p)) e (l .before .top .ensures)
 
 pub furthest-spec : {M : Type 1} → statement M
 furthest-spec =

@@ -4,7 +4,7 @@ use native.Mathlib.Omega.{arith}
 use borrow.Author.Needs.{needs}
 use Rattle.word.proofs.Searched.{first-is}
 use Rattle.chain.specs.Links.{before}
-use Rattle.chain.proofs.Gaps.{gap-next, gap-top}
+use Rattle.chain.proofs.OnBands.{gap-next, gap-top}
 use Rattle.chain.proofs.step.gap.Statement.{statement}
 use Rattle.chain.proofs.step.gap.Tie as tie
 
@@ -12,7 +12,7 @@ top-requires : tie.Need-top-requires
 top-requires c κs = search needs
 
 returns : tie.Need-returns
-returns c rs lawful own = c .before .top .ensures ∙ gap-top _ rs _ (c .if1 .taken ∙ c .before .top .ensures)
+returns c = c .before .top .ensures ∙ gap-top _ _ _ (c .if1 .taken ∙ c .before .top .ensures)
 
 add-next : tie.Need-add-next
 add-next c = search needs
@@ -28,11 +28,9 @@ enum-told c = search needs
 
 returns-2 : tie.Need-returns-2
 unfolding before
-returns-2 c rs lawful own =
+returns-2 c =
     let n = c .before .before in
-    n .before .before .top .ensures
-    ∙ ap (before _) (sym (c .enum-told .given .1))
-    ∙ gap-next _ rs _ lawful _ own _ (n .next .ensures)
+    n .before .before .top .ensures ∙ ap (before _) (sym (c .enum-told .given .1)) ∙ gap-next _ _ _ _ (n .next .ensures)
 
 sub-result : tie.Need-sub-result
 sub-result c =
@@ -41,9 +39,9 @@ sub-result c =
 
 returns-3 : tie.Need-returns-3
 unfolding before
-returns-3 c rs lawful own =
+returns-3 c =
     let n = c .before .before .before in
-    ap (before _) (sym (c .before .x .given .1)) ∙ gap-next _ rs _ lawful _ own _ (n .next .ensures)
+    ap (before _) (sym (c .before .x .given .1)) ∙ gap-next _ _ _ _ (n .next .ensures)
 
 pub gap-spec : {M : Type 1} → statement M
 gap-spec =

@@ -1,10 +1,8 @@
 -- `link_at` meets its contract: each arm is a clause of the definition. Assumes nothing.
-use mathlib.Core.Path.{sym, ap, _∙_, subst}
-use Prim.Native.Nat.{ℕ}
+use mathlib.Core.Path.{sym, ap, ap₂, _∙_}
 use borrow.Author.Needs.{needs}
-use Rattle.bits.specs.Fixed.{Tidy}
-use Rattle.bits.proofs.Joined.{fixed-tidy}
-use Rattle.chain.specs.Links.{BITS, link, linkAt, linkBy}
+use Rattle.chain.specs.Links.{linkBy}
+use Rattle.chain.specs.OnBands.{linkOn}
 use Rattle.chain.proofs.step.link_at.Statement.{statement}
 use Rattle.chain.proofs.step.link_at.Tie as tie
 
@@ -18,23 +16,19 @@ enum-told : tie.Need-enum-told
 enum-told c = search needs
 
 gap-requires : tie.Need-gap-requires
-gap-requires c κs =
-    let s = c .before .before .before in
-    let (rs, lawful, own, bits) = s .pre .1 .1 in
-    (s .pre .0, (s .pre .1 .0 .1, subst Tidy (sym bits) (fixed-tidy rs)))
+gap-requires c κs = search needs
 
 returns : tie.Need-returns
-unfolding linkAt linkBy
-returns c rs lawful own bits =
+unfolding linkOn linkBy
+returns c =
     let f = c .before .before .before in
-    ap (linkBy _ rs _) (sym (c .before .reach .given .1) ∙ f .furthest .ensures rs lawful own)
+    ap (linkBy _ _) (sym (c .before .reach .given .1) ∙ f .furthest .ensures)
 
 returns-2 : tie.Need-returns-2
-unfolding linkAt linkBy
-returns-2 c rs lawful own bits =
+unfolding linkOn linkBy
+returns-2 c =
     let f = c .before .before .before in
-    ap (λ (q : ℕ). link (f .before .args .p) q BITS) (c .gap .ensures rs lawful bits)
-    ∙ ap (linkBy _ rs _) (sym (c .before .enum-told .given .1) ∙ f .furthest .ensures rs lawful own)
+    ap₂ (linkBy _) (c .gap .ensures) (sym (c .before .enum-told .given .1) ∙ f .furthest .ensures)
 
 pub link-at-spec : {M : Type 1} → statement M
 link-at-spec =
