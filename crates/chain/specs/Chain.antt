@@ -4,7 +4,7 @@ use mathlib.Core.Path.{_≡_}
 use mathlib.Core.Bool.{true, false}
 use mathlib.Core.Logic.{_⊎_}
 use mathlib.Core.List.{List, [], _∷_}
-use Prim.Native.Nat.{ℕ, suc, _≤_, _<_}
+use Prim.Native.Nat.{ℕ, suc, max, _≤_, _<_}
 use lib.ListN.{length, getD}
 use Rattle.word.specs.Word.{top}
 use Rattle.rule.specs.declared.Rule.{Rule}
@@ -59,10 +59,11 @@ pub data IsChain (w : ℕ) (rs : List Rule) : ℕ → List Link → Type 0 where
 abbrev pub Shows : ℕ → List Rule → Link → Type 0
 Shows w rs l = Fails w rs (l .reason) (l .from) (l .to) ⊎ ((l .reason ≡ BITS) × Lacks w rs (l .from) (l .to))
 
--- links that show so and join up from p to the top word
+-- Links that cover the wheel, where n words are covered so far, from 0: each link starts at or below n and shows its words, n
+-- becomes the larger of n and one more than the link's end, and at the end all words are covered.
 pub data Covers (w : ℕ) (rs : List Rule) : ℕ → List Link → Type 0 where
-  end : {p : ℕ} {l : Link} → l .from ≡ p → Shows w rs l → l .to ≡ top w → Covers w rs p (l ∷ [])
-  on : {p : ℕ} {l : Link} {ls : List Link} → l .from ≡ p → Shows w rs l → Covers w rs (suc (l .to)) ls → Covers w rs p (l ∷ ls)
+  end : {n : ℕ} → n ≡ suc (top w) → Covers w rs n []
+  on : {n : ℕ} {l : Link} {ls : List Link} → l .from ≤ n → Shows w rs l → Covers w rs (max n (suc (l .to))) ls → Covers w rs n (l ∷ ls)
 
 -- no two links with reason 255 stand next to each other
 pub data Apart : List Link → Type 0 where

@@ -60,7 +60,7 @@ module _ (w : ℕ) (rs : List Rule) (narrow : w ≤ WIDEST) (few : length rs ≤
       })
 
   chain-fits : {p : ℕ} {ls : List Link} → Covers w rs p ls → AllFit ls
-  chain-fits (end e s t) = and-more (link-fits _ s) no-more
+  chain-fits (end e) = no-more
   chain-fits (on e s c) = and-more (link-fits _ s) (chain-fits c)
 
 pub record KeptFits (k : Kept) : Type 0 where
