@@ -6,10 +6,15 @@ use Rattle.word.specs.Search.{climb, first, last}
 use Rattle.rule.specs.Meaning.{fits, meets, meets7, reach, rows, written}
 use Rattle.verdict.specs.Kept.{kept, verdictOf}
 use Rattle.chain.specs.Findings.{findings, chainFor}
-use Rattle.chain.specs.Cases.{Case, cases}
+use Rattle.chain.specs.Cases.{Case, case6, case6Words, cases, fitting}
 use Rattle.chain.specs.Links.{before, blocks, further, furthest, furthestOf, gap, linkAt, linkBy, links, linksFrom}
 
 pub worked : map (λ (c : Case). findings (c .width) (c .rules)) cases ≡ map (λ (c : Case). c .expected) cases
 unfolding
     findings chainFor kept verdictOf links linksFrom linkAt linkBy gap before furthest furthestOf further blocks reach meets7 fits meets written rows first last climb top half plus minus signed
 worked = refl
+
+-- case 6 has seven words
+pub case-6-words : fitting 4 case6 16 0 ≡ case6Words
+unfolding fitting fits meets written rows top half plus minus signed
+case-6-words = refl

@@ -1,8 +1,9 @@
 -- The sheets worked by hand that 01 marks P, as one table: width, rules, verdict, smallest, largest and links.
 use mathlib.Core.List.{List, [], _∷_}
-use Prim.Native.Nat.{ℕ}
+use mathlib.Core.Bool.{true, false}
+use Prim.Native.Nat.{ℕ, zero, suc}
 use Rattle.rule.specs.declared.Rule.{Rule}
-use Rattle.rule.specs.Meaning.{rule}
+use Rattle.rule.specs.Meaning.{fits, rule}
 use Rattle.verdict.specs.Kept.{keeps}
 use Rattle.chain.specs.Findings.{Findings, says}
 use Rattle.chain.specs.Links.{BITS, link}
@@ -14,6 +15,10 @@ pub record Case : Type 0 where
 
 abbrev pub case : ℕ → List Rule → Findings → Case
 case w rs a = record { width = w; rules = rs; expected = a }
+
+-- form 4, 3 with form 5, 13
+abbrev pub case6 : List Rule
+case6 = rule 4 0 3 0 ∷ rule 5 0 13 0 ∷ []
 
 abbrev pub cases : List Case
 cases =
@@ -30,7 +35,7 @@ cases =
     -- 5
     ∷ case 4 (rule 3 0 0 15 ∷ []) (says (keeps 2 0 15) [])
     -- 6
-    ∷ case 4 (rule 4 0 3 0 ∷ rule 5 0 13 0 ∷ []) (says (keeps 2 0 15) [])
+    ∷ case 4 case6 (says (keeps 2 0 15) [])
     -- 7
     ∷ case 4 (rule 3 0 5 3 ∷ rule 7 0 3 3 ∷ []) (says (keeps 1 11 11) [])
     -- 8
@@ -44,3 +49,12 @@ cases =
     -- 12
     ∷ case 4 (rule 8 0 14 3 ∷ []) (says (keeps 2 1 13) [])
     ∷ []
+
+-- those of k words from p that fit, in rising order
+unfoldable pub fitting : ℕ → List Rule → (k p : ℕ) → List ℕ
+fitting w rs zero p = []
+fitting w rs (suc k) p = elim (fits w rs p) [ true ↦ p ∷ fitting w rs k (suc p) | false ↦ fitting w rs k (suc p) ]
+
+-- "seven words: 0 to 3, 13 to 15"
+abbrev pub case6Words : List ℕ
+case6Words = 0 ∷ 1 ∷ 2 ∷ 3 ∷ 13 ∷ 14 ∷ 15 ∷ []
