@@ -27,6 +27,30 @@ pub struct Link {
     pub reason: u64,
 }
 
+impl Link {
+    // The reason of a link whose words fail a form 7 rule.
+    pub const BITS: u64 = 255;
+
+    // A link is so many numbers in a buffer.
+    pub const NUMBERS: usize = 3;
+
+    // So many links for each rule, and one more, are the most that a chain has.
+    pub const PER_RULE: usize = 4;
+
+    // The most links that a full sheet gives, and the numbers that they take.
+    pub const MOST: usize = Link::PER_RULE * Rule::LIMIT + 1;
+
+    pub const ROOM: usize = Link::NUMBERS * Link::MOST;
+}
+
+// The numbers that the chain of n rules may take: what has to be lent for it.
+pub fn room(n: usize) -> usize
+    requires { ⌜ n ≤ RULES ⌝ }
+    ensures { λ r. ⌜ r ≡ chainRoom n ⌝ }
+{
+    Link::NUMBERS * (Link::PER_RULE * n + 1)
+}
+
 // Writes the chain of the first n rules, which no word fits, three numbers a link, and says how many links it has.
 pub fn write(rules: [Rule; Rule::LIMIT], n: usize, width: Width, out: &mut [u64]) -> usize
     requires { ⌜ IsWidth (width .bits) ⌝ }
@@ -43,7 +67,7 @@ pub fn write(rules: [Rule; Rule::LIMIT], n: usize, width: Width, out: &mut [u64]
     let mut p = 0;
     loop {
         let link = step::link_at(bands, n, fixed, width, p);
-        step::put(&mut *out, 3 * count, link);
+        step::put(&mut *out, Link::NUMBERS * count, link);
         count += 1;
         if link.to == top {
             break;

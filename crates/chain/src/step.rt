@@ -17,9 +17,6 @@ use rule::Rule;
 use word::Found;
 use word::Width;
 
-// The reason of a link whose words fail a form 7 rule.
-const BITS: u64 = 255;
-
 // The link that starts at p.
 pub fn link_at(bands: [Band; Rule::LIMIT], n: usize, fixed: Fixed, width: Width, p: u64) -> Link
     requires { ⌜ IsWidth (width .bits) ⌝ }
@@ -36,7 +33,7 @@ pub fn link_at(bands: [Band; Rule::LIMIT], n: usize, fixed: Fixed, width: Width,
         Far::Nowhere => Link {
             from: p,
             to: gap(fixed, width, p),
-            reason: BITS,
+            reason: Link::BITS,
         },
     }
 }
