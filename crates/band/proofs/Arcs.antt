@@ -90,7 +90,7 @@ module _ (w : ℕ) (width : 1 ≤ w) (c1 c2 x : ℕ) (h1 : c1 ≤ top w) (h2 : c
   half-word = omega (arith, halves w width, half-pos w)
 
   on-arc : {a b : ℕ} → a ≤ top w → b ≤ top w → near w a b x ≡ holds (span a b) x
-  unfolding holds span
+  unfolding holds
   on-arc ha hb = sym (distance w _ _ x ha hb hx)
 
   -- adding a difference to a word leaves it no smaller exactly when the sum does not pass the top word

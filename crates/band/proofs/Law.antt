@@ -21,7 +21,7 @@ use Rattle.rule.proofs.Forms.{by-form}
 use Rattle.rule.proofs.Ends.{ends-below}
 use Rattle.rule.proofs.Rows.{at-row, past-rows}
 use Rattle.band.specs.declared.Band.{Band}
-use Rattle.band.specs.Band.{Laid, bandOf, bySense, holds, otherSide, seamless, span, wheel, within, writtenBand, writtenBands}
+use Rattle.band.specs.Band.{Laid, bandOf, bySense, holds, otherSide, seamless, span, within, writtenBand, writtenBands}
 use Rattle.band.proofs.Arcs.{distance, form1, form2, form3, form4, form5, form6, form8}
 use Rattle.band.proofs.Laying.{at-band, part-band, past-bands, whole-band}
 use Rattle.band.proofs.Runs.{edge, run-ends}
@@ -34,7 +34,7 @@ Words w b = (b .from ≤ top w) × (b .to ≤ top w)
 module _ (w : ℕ) (b : Band) (words : Words w b) where
   -- a whole wheel is the same from wherever it is written
   seam-law : (x : ℕ) → x ≤ top w → holds (seamless w b) x ≡ holds b x
-  unfolding holds wheel
+  unfolding holds
   seam-law x word = go (ℕ-discrete (minus w (b .to) (b .from)) (top w))
     where
       all : minus w (b .to) (b .from) ≡ top w → within 0 (top w) x ≡ within (b .from) (b .to) x
@@ -47,7 +47,6 @@ module _ (w : ℕ) (b : Band) (words : Words w b) where
       go (no e) = ap (λ (c : Band). holds c x) (part-band w b e)
 
   seamless-laid : Laid (top w) (seamless w b)
-  unfolding wheel
   seamless-laid = go (ℕ-discrete (minus w (b .to) (b .from)) (top w))
     where
       seam : (minus w (b .to) (b .from) ≡ top w → ⊥) → suc (b .to) ≡ b .from → ⊥
@@ -61,7 +60,7 @@ module _ (w : ℕ) (b : Band) (words : Words w b) where
 -- a band by the sense, where s says that it is as written
 module _ (b : Band) where
   side-holds : (s : Bool) (x : ℕ) → holds (cond s b (otherSide b)) x ≡ cond s (holds b x) (not (holds b x))
-  unfolding holds otherSide
+  unfolding holds
   side-holds true x = refl
   side-holds false x = go (b .inside)
     where
@@ -73,14 +72,13 @@ module _ (b : Band) where
       go false = refl
 
   side-laid : (t : ℕ) → Laid t b → (s : Bool) → Laid t (cond s b (otherSide b))
-  unfolding otherSide
   side-laid t l true = l
   side-laid t l false = record { from-word = l .from-word; to-word = l .to-word; no-seam = l .no-seam }
 
 module _ (w : ℕ) (width : 1 ≤ w) (r : Rule) (lawful : Lawful w r) where
   -- the ends of every row are words
   row-words : Words w (writtenBand w r)
-  unfolding writtenBands span
+  unfolding writtenBands
   row-words =
       let c = lawful .c1-word in
       let m = minus-word w in
@@ -102,7 +100,7 @@ module _ (w : ℕ) (width : 1 ≤ w) (r : Rule) (lawful : Lawful w r) where
 
   module _ (x : ℕ) (word : x ≤ top w) where
     all-words : holds (span 0 (top w)) x ≡ true
-    unfolding holds span
+    unfolding holds
     all-words = is-in 0 (top w) x (inl (omega arith, word))
 
     -- one row: what the form says is what its band says

@@ -19,11 +19,11 @@ unfoldable pub holds : Band → ℕ → Bool
 holds b x = cond (b .inside) (not (within (b .from) (b .to) x)) (within (b .from) (b .to) x)
 
 -- the band that holds the words from a to b: those outside fail
-unfoldable pub span : ℕ → ℕ → Band
+abbrev pub span : ℕ → ℕ → Band
 span a b = record { from = a; to = b; inside = false }
 
 -- the whole wheel, from 0 to the top word t: where the inside fails every word does, and else none
-unfoldable pub wheel : (t : ℕ) (inside : Bool) → Band
+abbrev pub wheel : (t : ℕ) (inside : Bool) → Band
 wheel t inside = record { from = 0; to = t; inside = inside }
 
 -- The table, a row for each form: the band of a rule as written. Form 7 is no arc, and is left to the fixed bits.
@@ -48,7 +48,7 @@ unfoldable pub seamless : ℕ → Band → Band
 seamless w b = cond (eqb (minus w (b .to) (b .from)) (top w)) (wheel (top w) (b .inside)) b
 
 -- the band where the other side fails
-unfoldable pub otherSide : Band → Band
+abbrev pub otherSide : Band → Band
 otherSide b = record { from = b .from; to = b .to; inside = not (b .inside) }
 
 -- the sense turns it: "0 as written, 1 negated"

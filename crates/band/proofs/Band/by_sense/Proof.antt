@@ -1,6 +1,6 @@
 -- `Band::by_sense` meets its contract. Assumes nothing.
 use borrow.Author.Tests.{eq-eqb, ne-eqb}
-use Rattle.band.specs.Band.{bySense, otherSide}
+use Rattle.band.specs.Band.{bySense}
 use Rattle.band.proofs.Band.by_sense.Statement.{statement}
 use Rattle.band.proofs.Band.by_sense.Tie as tie
 
@@ -9,7 +9,7 @@ unfolding bySense
 returns c = rw (eq-eqb _ 0 (c .if1 .taken))
 
 returns-2 : tie.Need-returns-2
-unfolding bySense otherSide
+unfolding bySense
 returns-2 c = rw (ne-eqb _ 0 (c .before .if1 .left))
 
 pub by-sense-spec : {M : Type 1} → statement M
