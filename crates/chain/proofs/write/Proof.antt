@@ -65,7 +65,8 @@ link-at-requires : tie.Need-link-at-requires Inv-loop μ-loop
 link-at-requires c κs =
     let s = c .before .before .before .before .before in
     let h = sheet (c .before .before) in
-    (s .pre .0, ((s .pre .1 .0 .0, subst (AllLaid _) (sym (h .own)) (bands-laid _ (s .pre .0 .low) (rs s) (h .lawful))), (subst Tidy (sym (h .bits)) (fixed-tidy (rs s)), word c)))
+    let laid = subst (AllLaid _) (sym (h .own)) (bands-laid _ (s .pre .0 .low) (rs s) (h .lawful)) in
+    (s .pre .0, ((s .pre .1 .0 .0, laid), (subst Tidy (sym (h .bits)) (fixed-tidy (rs s)), word c)))
 
 -- there is room for one link more
 room : (l : Loop) → 3 * l .loop .count + 3 ≤ length (l .loop .out)
@@ -86,8 +87,9 @@ add-count c = omega (arith, room (c .before .before .before .before .before))
 
 -- the link is the one that the paper takes at p, whichever rules the bands and the bits are those of
 here : (a : tie.After-link-at Inv-loop μ-loop) (r : List Rule)
-    → Sheet (a .before .before .before .before .before .before .args .n) (a .before .before .before .before .lay .result) (a .before .before .before .of .result) (a .before .before .before .before .before .before .args .width .bits) r
-    → a .link-at .result ≡ linkAt (a .before .before .before .before .before .before .args .width .bits) r (a .before .loop .p)
+    → let s = a .before .before .before .before .before .before in
+    Sheet (s .args .n) (a .before .before .before .before .lay .result) (a .before .before .before .of .result) (s .args .width .bits) r
+    → a .link-at .result ≡ linkAt (s .args .width .bits) r (a .before .loop .p)
 here a r h = a .link-at .ensures ∙ own-link _ _ _ _ r (a .before .before .before .before .before .before .pre .0 .low) h _ (word (a .before))
 
 -- the link starts at p and ends at a word
