@@ -1,26 +1,23 @@
 -- The definition of the batch, a call at a time: a refused opening or rule stops it, and an accepted one leaves what the rest
 -- comes to. Assumes nothing.
-use mathlib.Core.Path.{_≡_, ap}
-use mathlib.Core.List.{List, [], _∷_}
+use mathlib.Core.Path.{_≡_}
+use mathlib.Core.List.{List, _∷_}
 use Prim.Native.Nat.{ℕ, _+_}
 use borrow.Author.Tests.{eq-eqb, ne-eqb}
 use lib.ListN.{length}
 use Rattle.rule.specs.declared.Rule.{Rule}
-use Rattle.sheet.specs.Calls.{add, after, open-at, refusal, written}
-use Rattle.sheet.specs.Page.{Page, no-page, page}
-use Rattle.sheet.proofs.Refusals.{after-accepted}
+use Rattle.sheet.specs.Calls.{add, after, open-at, refusal}
+use Rattle.sheet.specs.Page.{Opening, Page, no-page}
 use Rattle.batch.specs.Batch.{added, batch, stops}
 
-module _ (w : ℕ) (us : List Rule) (m : ℕ) where
-  pub open-goes : refusal no-page (open-at w) ≡ 0 → batch w us m ≡ added (page w []) 0 us m
-  unfolding batch written
-  open-goes e =
-      rw (eq-eqb (refusal no-page (open-at w)) 0 e)
-      (ap (λ (pg : Page). added pg 0 us m) (after-accepted no-page (open-at w) e))
-
-  pub open-stops : (refusal no-page (open-at w) ≡ 0 → ⊥) → batch w us m ≡ stops (refusal no-page (open-at w)) (length us)
+module _ (g : Opening) (us : List Rule) (m : ℕ) where
+  pub open-goes : refusal no-page (open-at g) ≡ 0 → batch g us m ≡ added (after no-page (open-at g)) 0 us m
   unfolding batch
-  open-stops z = rw (ne-eqb (refusal no-page (open-at w)) 0 z)
+  open-goes e = rw (eq-eqb (refusal no-page (open-at g)) 0 e)
+
+  pub open-stops : (refusal no-page (open-at g) ≡ 0 → ⊥) → batch g us m ≡ stops (refusal no-page (open-at g)) (length us)
+  unfolding batch
+  open-stops z = rw (ne-eqb (refusal no-page (open-at g)) 0 z)
 
 module _ (pg : Page) (i : ℕ) (u : Rule) (us : List Rule) (m : ℕ) where
   pub add-goes : refusal pg (add u) ≡ 0 → added pg i (u ∷ us) m ≡ added (after pg (add u)) (i + 1) us m

@@ -9,14 +9,13 @@ use Rattle.chain.specs.Links.{numbersOf}
 use Rattle.sheet.specs.declared.Answer.{Answer}
 use Rattle.sheet.specs.declared.Reply.{Reply}
 use Rattle.sheet.specs.declared.Sheet.{Sheet}
-use Rattle.sheet.specs.Calls.{add, after, open-at, written}
-use Rattle.sheet.specs.Page.{Page, blank, fresh, page}
-use Rattle.sheet.specs.Statements.{Reached, opened, refuses, start, step}
-use Rattle.sheet.proofs.Demand.{after-reached}
-use Rattle.sheet.proofs.Ways.{accepted-open}
+use Rattle.sheet.specs.Calls.{add, after, open-at}
+use Rattle.sheet.specs.Page.{Opening, Page, fresh, no-page}
+use Rattle.sheet.specs.Statements.{Reached, refuses, start}
+use Rattle.sheet.proofs.Demand.{after-reached, outcome-on}
 use Rattle.batch.specs.declared.Batch.{Batch}
 use Rattle.batch.specs.Batch.{Batched, Gives, added, batches}
-use Rattle.batch.specs.OneByOne.{Adding, OneByOne, adds, asks, opens, refused-rule, refused-width}
+use Rattle.batch.specs.OneByOne.{Adding, OneByOne, adds, asks, opens, refused-opening, refused-rule}
 use Rattle.batch.proofs.Added.{add-goes, add-stops, open-goes, open-stops}
 
 adding-gives : {b b′ : List ℕ} {s : Sheet} {i : ℕ} {us : List Rule} {r : Batch} (pg : Page) → Reached pg → s ≡ fresh pg
@@ -26,17 +25,21 @@ adding-gives {b} {i = i} pg h e (asks a) =
     let q = a .on-page pg h e in
     record { answers = ap (λ (r : Reply). batches r i) (q .0); writes = q .1 }
 adding-gives {b} {i = i} pg h e (refused-rule {u = u} {us = us} a p n) =
-    let q = ap (λ (r : Answer). r .number) (p .on-page pg h e) in
+    let q = ap (λ (r : Answer). r .number) (outcome-on pg e h (add u) p) in
     rw (add-stops pg i u us (length b) (λ z. n (q ∙ z)))
     (record { answers = ap (λ (k : ℕ). batches (refuses k) i) q; writes = refl })
 adding-gives {b} {i = i} pg h e (adds {u = u} {us = us} a p z k) =
-    let q = p .on-page pg h e in
+    let q = outcome-on pg e h (add u) p in
     rw (add-goes pg i u us (length b) (sym (ap (λ (r : Answer). r .number) q) ∙ z))
     (adding-gives (after pg (add u)) (after-reached h (add u)) (ap (λ (r : Answer). r .sheet) q) k)
 
-pub one-by-one : {w : ℕ} {us : List Rule} {b b′ : List ℕ} {r : Batch} → OneByOne w us b b′ r → Batched w us b b′ r
-unfolding opened numbersOf written
-one-by-one {w} {us} {b} (refused-width n) = rw (open-stops w us (length b) n) (record { answers = refl; writes = refl })
-one-by-one {w} {us} {b} (opens z k) =
-    rw (open-goes w us (length b) z)
-    (adding-gives (page w []) (step start (open-at w) z) (ap (λ (a : Answer). a .sheet) (sym (accepted-open blank w z))) k)
+pub one-by-one : {g : Opening} {us : List Rule} {b b′ : List ℕ} {r : Batch} → OneByOne g us b b′ r → Batched g us b b′ r
+unfolding fresh numbersOf
+one-by-one {g} {us} {b} (refused-opening a p n) =
+    let q = ap (λ (r : Answer). r .number) (outcome-on no-page refl start (open-at g) p) in
+    rw (open-stops g us (length b) (λ z. n (q ∙ z)))
+    (record { answers = ap (λ (k : ℕ). batches (refuses k) (length us)) q; writes = refl })
+one-by-one {g} {us} {b} (opens a p z k) =
+    let q = outcome-on no-page refl start (open-at g) p in
+    rw (open-goes g us (length b) (sym (ap (λ (r : Answer). r .number) q) ∙ z))
+    (adding-gives (after no-page (open-at g)) (after-reached start (open-at g)) (ap (λ (r : Answer). r .sheet) q) k)

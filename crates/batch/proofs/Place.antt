@@ -8,9 +8,9 @@ use native.Mathlib.Decide.{ℕ-discrete}
 use native.Mathlib.Omega.{arith}
 use lib.ListN.{length}
 use Rattle.rule.specs.declared.Rule.{Rule}
-use Rattle.sheet.specs.Calls.{add, after, ground, grounds, lowest, open-at, refusal}
-use Rattle.sheet.specs.Page.{Page, no-page, page}
-use Rattle.batch.specs.Batch.{Outcome, added, batch}
+use Rattle.sheet.specs.Calls.{add, after, firstThatApplies, ground, grounds, open-at, refusal}
+use Rattle.sheet.specs.Page.{Opening, Page, no-page}
+use Rattle.batch.specs.Batch.{Ending, added, batch}
 use Rattle.batch.proofs.Added.{add-goes, add-stops, open-goes, open-stops}
 
 -- the numbers of an add: not 0, not 2, not 9
@@ -19,22 +19,22 @@ pub record OfAdd (k : ℕ) : Type 0 where
   pub not-2 : k ≡ 2 → ⊥
   pub not-9 : k ≡ 9 → ⊥
 
-pub data Placed (n : ℕ) (o : Outcome) : Type 0 where
+pub data Placed (n : ℕ) (o : Ending) : Type 0 where
   at-length : o .answer .place ≡ n → Placed n o
   at-rule : o .answer .place < n → OfAdd (o .answer .reply .number) → Placed n o
 
-lowest-of : (a b c d e : Bool) {k : ℕ} → lowest (ground 1 a ∷ ground 3 b ∷ ground 4 c ∷ ground 5 d ∷ ground 6 e ∷ []) ≡ k → (k ≡ 0 → ⊥) → OfAdd k
-unfolding lowest
-lowest-of true b c d e q z = record { not-0 = z; not-2 = λ y. omega arith; not-9 = λ y. omega arith }
-lowest-of false true c d e q z = record { not-0 = z; not-2 = λ y. omega arith; not-9 = λ y. omega arith }
-lowest-of false false true d e q z = record { not-0 = z; not-2 = λ y. omega arith; not-9 = λ y. omega arith }
-lowest-of false false false true e q z = record { not-0 = z; not-2 = λ y. omega arith; not-9 = λ y. omega arith }
-lowest-of false false false false true q z = record { not-0 = z; not-2 = λ y. omega arith; not-9 = λ y. omega arith }
-lowest-of false false false false false q z = absurd (z (sym q))
+one-applies : (a b c d e : Bool) {k : ℕ} → firstThatApplies (ground 1 a ∷ ground 3 b ∷ ground 4 c ∷ ground 5 d ∷ ground 6 e ∷ []) ≡ k → (k ≡ 0 → ⊥) → OfAdd k
+unfolding firstThatApplies
+one-applies true b c d e q z = record { not-0 = z; not-2 = λ y. omega arith; not-9 = λ y. omega arith }
+one-applies false true c d e q z = record { not-0 = z; not-2 = λ y. omega arith; not-9 = λ y. omega arith }
+one-applies false false true d e q z = record { not-0 = z; not-2 = λ y. omega arith; not-9 = λ y. omega arith }
+one-applies false false false true e q z = record { not-0 = z; not-2 = λ y. omega arith; not-9 = λ y. omega arith }
+one-applies false false false false true q z = record { not-0 = z; not-2 = λ y. omega arith; not-9 = λ y. omega arith }
+one-applies false false false false false q z = absurd (z (sym q))
 
 of-add : (pg : Page) (u : Rule) → (refusal pg (add u) ≡ 0 → ⊥) → OfAdd (refusal pg (add u))
 unfolding refusal grounds
-of-add pg u z = lowest-of _ _ _ _ _ refl z
+of-add pg u z = one-applies _ _ _ _ _ refl z
 
 added-placed : (pg : Page) (i : ℕ) (us : List Rule) (m : ℕ) → Placed (i + length us) (added pg i us m)
 unfolding added
@@ -45,9 +45,9 @@ added-placed pg i (u ∷ us) m = go (ℕ-discrete (refusal pg (add u)) 0) (added
     go (yes e) p = rw (add-goes pg i u us m e) (subst (λ (n : ℕ). Placed n (added (after pg (add u)) (i + 1) us m)) (omega arith) p)
     go (no z) p = rw (add-stops pg i u us m z) (at-rule (omega arith) (of-add pg u z))
 
-pub placed : (w : ℕ) (us : List Rule) (m : ℕ) → Placed (length us) (batch w us m)
-placed w us m = go (ℕ-discrete (refusal no-page (open-at w)) 0)
+pub placed : (g : Opening) (us : List Rule) (m : ℕ) → Placed (length us) (batch g us m)
+placed g us m = go (ℕ-discrete (refusal no-page (open-at g)) 0)
   where
-    go : Dec (refusal no-page (open-at w) ≡ 0) → Placed (length us) (batch w us m)
-    go (yes e) = rw (open-goes w us m e) (subst (λ (n : ℕ). Placed n (added (page w []) 0 us m)) (omega arith) (added-placed (page w []) 0 us m))
-    go (no z) = rw (open-stops w us m z) (at-length refl)
+    go : Dec (refusal no-page (open-at g) ≡ 0) → Placed (length us) (batch g us m)
+    go (yes e) = rw (open-goes g us m e) (subst (λ (n : ℕ). Placed n (added (after no-page (open-at g)) 0 us m)) (omega arith) (added-placed (after no-page (open-at g)) 0 us m))
+    go (no z) = rw (open-stops g us m z) (at-length refl)

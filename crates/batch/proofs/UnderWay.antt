@@ -16,11 +16,10 @@ use Rattle.word.proofs.Tests.{both-pass}
 use Rattle.rule.specs.declared.Rule.{Rule}
 use Rattle.chain.specs.Links.{numbersOf}
 use Rattle.sheet.specs.declared.Answer.{Answer}
-use Rattle.sheet.specs.Calls.{add, after, open-at, refusal, written}
-use Rattle.sheet.specs.Page.{Page, blank, fresh, noRule, no-page, page}
-use Rattle.sheet.specs.Statements.{Reached, answers, start, step}
-use Rattle.sheet.proofs.Demand.{after-reached}
-use Rattle.sheet.proofs.Ways.{accepted-open, refused-open}
+use Rattle.sheet.specs.Calls.{Call, add, after, open-at, refusal}
+use Rattle.sheet.specs.Page.{Opening, Page, fresh, noRule, no-page}
+use Rattle.sheet.specs.Statements.{Outcome, Reached, answers, start}
+use Rattle.sheet.proofs.Demand.{after-reached, outcome-on}
 use Rattle.batch.specs.declared.Batch.{Batch}
 use Rattle.batch.specs.declared.course.Course.{Course}
 use Rattle.batch.specs.Batch.{Batched, added, batch, stops}
@@ -28,42 +27,47 @@ use Rattle.batch.specs.Course.{Finished, Stepped, begun, goes, onward}
 use Rattle.batch.proofs.Added.{add-goes, add-stops, open-goes, open-stops}
 use Rattle.batch.proofs.Onward.{goes-on, stops-at}
 
-pub data UnderWay (w : ℕ) (us : List Rule) (m : ℕ) (c : Course) : Type 0 where
+pub data UnderWay (g : Opening) (us : List Rule) (m : ℕ) (c : Course) : Type 0 where
   on-page : (pg : Page) → Reached pg → c .number ≡ 0 → c .sheet ≡ fresh pg → c .place ≤ length us
-      → batch w us m ≡ added pg (c .place) (drop (c .place) us) m → UnderWay w us m c
-  stopped : (c .number ≡ 0 → ⊥) → c .place ≤ length us → batch w us m ≡ stops (c .number) (c .place) → UnderWay w us m c
+      → batch g us m ≡ added pg (c .place) (drop (c .place) us) m → UnderWay g us m c
+  stopped : (c .number ≡ 0 → ⊥) → c .place ≤ length us → batch g us m ≡ stops (c .number) (c .place) → UnderWay g us m c
 
 -- what is left to do: nothing once the batch has stopped
 abbrev pub left : (n : ℕ) → Course → ℕ
 left n c = cond (eqb (c .number) 0) (suc (n - c .place)) 0
 
-module _ (w : ℕ) (us : List Rule) (m : ℕ) where
+module _ (g : Opening) (us : List Rule) (m : ℕ) where
   abbrev n : ℕ
   n = length us
 
   abbrev Way : Course → Type 0
-  Way = UnderWay w us m
+  Way = UnderWay g us m
 
   pub place-fits : {c : Course} → Way c → c .place ≤ n
   place-fits (on-page pg h z e p q) = p
   place-fits (stopped z p q) = p
 
+  -- after a call on a page: on at the place q with the rules from there, or stopped at the place p
+  module _ {pg : Page} (h : Reached pg) (c : Call) (p q : ℕ) (p-fits : p ≤ n) (q-fits : refusal pg c ≡ 0 → q ≤ n) where
+    call-way : (refusal pg c ≡ 0 → batch g us m ≡ added (after pg c) q (drop q us) m)
+        → ((refusal pg c ≡ 0 → ⊥) → batch g us m ≡ stops (refusal pg c) p) → {a : Answer}
+        → a ≡ answers (refusal pg c) (fresh (after pg c)) → Way (onward a p q)
+    call-way goes-to stops-with {a} e = subst (λ (b : Answer). Way (onward b p q)) (sym e) (go (ℕ-discrete (refusal pg c) 0))
+      where
+        b : Answer
+        b = answers (refusal pg c) (fresh (after pg c))
+
+        go : Dec (refusal pg c ≡ 0) → Way (onward b p q)
+        go (yes z) = subst Way (goes-on b p q z) (on-page (after pg c) (after-reached h c) z refl (q-fits z) (goes-to z))
+        go (no z) = subst Way (stops-at b p q z) (stopped z p-fits (stops-with z))
+
   -- ---- the opening
 
-  pub begun-way : Way (begun w n)
-  unfolding begun written
-  begun-way = go (ℕ-discrete (refusal no-page (open-at w)) 0)
-    where
-      k : ℕ
-      k = refusal no-page (open-at w)
-
-      go : Dec (k ≡ 0) → Way (begun w n)
-      go (yes e) =
-          subst Way (ap (λ (a : Answer). onward a n 0) (accepted-open blank w e))
-          (on-page (page w []) (step start (open-at w) e) refl refl (omega arith) (open-goes w us m e))
-      go (no z) =
-          subst Way (stops-at (answers k blank) n 0 z ∙ ap (λ (a : Answer). onward a n 0) (refused-open blank w refl z))
-          (stopped z (omega arith) (open-stops w us m z))
+  pub begun-way : Way (begun g n)
+  unfolding begun Outcome fresh
+  begun-way =
+      call-way start (open-at g) n 0 (omega arith) (λ _. omega arith) (open-goes g us m) (open-stops g us m)
+      (outcome-on no-page refl start (open-at g) refl)
 
   -- ---- a step
 
@@ -90,23 +94,13 @@ module _ (w : ℕ) (us : List Rule) (m : ℕ) where
       pub step-way : Way c → Way r
       step-way (stopped z _ q) = absurd (z none-refused)
       step-way (on-page pg h z e _ q) =
-          subst Way (sym (s .follows ∙ ap (λ (a : Answer). onward a p (p + 1)) (s .answered .on-page pg h e)))
-          (go (ℕ-discrete k 0))
+          subst Way (sym (s .follows))
+          (call-way h (add u) p (p + 1) (omega (arith, within)) (λ _. omega (arith, within))
+          (λ f. comes-to ∙ add-goes pg p u _ m f) (λ f. comes-to ∙ add-stops pg p u _ m f)
+          (outcome-on pg e h (add u) (s .answered)))
         where
-          k : ℕ
-          k = refusal pg (add u)
-
-          comes-to : batch w us m ≡ added pg p (u ∷ drop (p + 1) us) m
+          comes-to : batch g us m ≡ added pg p (u ∷ drop (p + 1) us) m
           comes-to = q ∙ ap (λ (vs : List Rule). added pg p vs m) rest-is
-
-          go : Dec (k ≡ 0) → Way (onward (answers k (fresh (after pg (add u)))) p (p + 1))
-          go (yes f) =
-              subst Way (goes-on (answers k (fresh (after pg (add u)))) p (p + 1) f)
-              (on-page (after pg (add u)) (after-reached h (add u)) f refl (omega (arith, within))
-              (comes-to ∙ add-goes pg p u _ m f))
-          go (no f) =
-              subst Way (stops-at (answers k (fresh (after pg (add u)))) p (p + 1) f)
-              (stopped f (omega (arith, within)) (comes-to ∙ add-stops pg p u _ m f))
 
       pub step-less : left n r < left n c
       step-less = rw (s .follows, eq-eqb (c .number) 0 none-refused) (go (ℕ-discrete (s .answer .number) 0))
@@ -117,8 +111,8 @@ module _ (w : ℕ) (us : List Rule) (m : ℕ) where
 
 -- ---- the end
 
-module _ (w : ℕ) (us : List Rule) (c : Course) (b b′ : List ℕ) (r : Batch) (f : Finished c b b′ r) where
-  pub finish-way : UnderWay w us (length b) c → goes c (length us) ≡ false → Batched w us b b′ r
+module _ (g : Opening) (us : List Rule) (c : Course) (b b′ : List ℕ) (r : Batch) (f : Finished c b b′ r) where
+  pub finish-way : UnderWay g us (length b) c → goes c (length us) ≡ false → Batched g us b b′ r
   unfolding added numbersOf goes
   finish-way (stopped z _ q) none-left =
       let h = f .refused z in

@@ -10,18 +10,18 @@ use Rattle.rule.specs.declared.Rule.{Rule}
 use Rattle.chain.specs.declared.Link.{Link}
 use Rattle.chain.specs.Links.{numbersOf}
 use Rattle.sheet.specs.Calls.{add, after, ask, open-at, refusal}
-use Rattle.sheet.specs.Page.{Page, no-page, page}
+use Rattle.sheet.specs.Page.{Opening, Page, no-page}
 use Rattle.sheet.specs.Statements.{chainOn, overlaid, reply}
 use Rattle.batch.specs.declared.Batch.{Batch}
-use Rattle.batch.specs.Batch.{Batched, Outcome, added, batch}
+use Rattle.batch.specs.Batch.{Batched, Ending, added, batch}
 use Rattle.batch.proofs.Added.{add-goes, add-stops, open-goes, open-stops}
 
-pub batched-unique : (w : ℕ) (us : List Rule) {b b₁ b₂ : List ℕ} {r₁ r₂ : Batch} → Batched w us b b₁ r₁ → Batched w us b b₂ r₂
+pub batched-unique : (g : Opening) (us : List Rule) {b b₁ b₂ : List ℕ} {r₁ r₂ : Batch} → Batched g us b b₁ r₁ → Batched g us b b₂ r₂
     → (r₁ ≡ r₂) × (b₁ ≡ b₂)
-batched-unique w us h k = (h .answers ∙ sym (k .answers), h .writes ∙ sym (k .writes))
+batched-unique g us h k = (h .answers ∙ sym (k .answers), h .writes ∙ sym (k .writes))
 
 -- a refusal writes no link
-abbrev Leaves : Outcome → Type 0
+abbrev Leaves : Ending → Type 0
 Leaves o = (o .answer .reply .number ≡ 0 → ⊥) → o .chain ≡ []
 
 asking-leaves : (pg : Page) (m : ℕ) → (reply pg m .number ≡ 0 → ⊥) → chainOn pg m ≡ []
@@ -41,17 +41,17 @@ added-leaves pg i (u ∷ us) m = go (ℕ-discrete (refusal pg (add u)) 0) (added
     go (yes e) rest = subst Leaves (sym (add-goes pg i u us m e)) rest
     go (no k) _ = subst Leaves (sym (add-stops pg i u us m k)) (λ _. refl)
 
-batch-leaves : (w : ℕ) (us : List Rule) (m : ℕ) → Leaves (batch w us m)
-batch-leaves w us m = go (ℕ-discrete (refusal no-page (open-at w)) 0)
+batch-leaves : (g : Opening) (us : List Rule) (m : ℕ) → Leaves (batch g us m)
+batch-leaves g us m = go (ℕ-discrete (refusal no-page (open-at g)) 0)
   where
-    go : Dec (refusal no-page (open-at w) ≡ 0) → Leaves (batch w us m)
-    go (yes e) = subst Leaves (sym (open-goes w us m e)) (added-leaves (page w []) 0 us m)
-    go (no k) = subst Leaves (sym (open-stops w us m k)) (λ _. refl)
+    go : Dec (refusal no-page (open-at g) ≡ 0) → Leaves (batch g us m)
+    go (yes e) = subst Leaves (sym (open-goes g us m e)) (added-leaves (after no-page (open-at g)) 0 us m)
+    go (no k) = subst Leaves (sym (open-stops g us m k)) (λ _. refl)
 
-pub batched-leaves : (w : ℕ) (us : List Rule) {b b′ : List ℕ} {r : Batch} → Batched w us b b′ r → (r .reply .number ≡ 0 → ⊥)
+pub batched-leaves : (g : Opening) (us : List Rule) {b b′ : List ℕ} {r : Batch} → Batched g us b b′ r → (r .reply .number ≡ 0 → ⊥)
     → b′ ≡ b
 unfolding numbersOf
-batched-leaves w us {b} h k =
+batched-leaves g us {b} h k =
     h .writes
     ∙ ap (λ (ls : List Link). overlaid ls b)
-    (batch-leaves w us (length b) (λ e. k (ap (λ (a : Batch). a .reply .number) (h .answers) ∙ e)))
+    (batch-leaves g us (length b) (λ e. k (ap (λ (a : Batch). a .reply .number) (h .answers) ∙ e)))

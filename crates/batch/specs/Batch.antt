@@ -10,7 +10,7 @@ use Rattle.rule.specs.Meaning.{RULES}
 use Rattle.chain.specs.declared.Link.{Link}
 use Rattle.sheet.specs.declared.Reply.{Reply}
 use Rattle.sheet.specs.Calls.{add, after, open-at, refusal}
-use Rattle.sheet.specs.Page.{Page, no-page}
+use Rattle.sheet.specs.Page.{Opening, Page, no-page}
 use Rattle.sheet.specs.Statements.{chainOn, overlaid, refuses, reply}
 use Rattle.batch.specs.declared.Batch.{Batch}
 
@@ -21,37 +21,37 @@ MOST = RULES + 1
 abbrev pub batches : Reply → ℕ → Batch
 batches a i = record { reply = a; place = i }
 
--- what is answered, "at which rule", and the links that are written
-pub record Outcome : Type 0 where
+-- what a batch comes to: what is answered, "at which rule", and the links that are written
+pub record Ending : Type 0 where
   pub answer : Batch
   pub chain : List Link
 
-abbrev pub outcome : Batch → List Link → Outcome
-outcome a ls = record { answer = a; chain = ls }
+abbrev pub ending : Batch → List Link → Ending
+ending a ls = record { answer = a; chain = ls }
 
 -- "stops at the first refusal, and says beside that answer at which rule"
-abbrev pub stops : (number place : ℕ) → Outcome
-stops k i = outcome (batches (refuses k) i) []
+abbrev pub stops : (number place : ℕ) → Ending
+stops k i = ending (batches (refuses k) i) []
 
 -- "adding each rule in order and asking", where i rules stand on the page and m numbers are lent
-unfoldable pub added : Page → (i : ℕ) → List Rule → (m : ℕ) → Outcome
-added pg i [] m = outcome (batches (reply pg m) i) (chainOn pg m)
+unfoldable pub added : Page → (i : ℕ) → List Rule → (m : ℕ) → Ending
+added pg i [] m = ending (batches (reply pg m) i) (chainOn pg m)
 added pg i (u ∷ us) m =
     let k : ℕ = refusal pg (add u) in
     cond (eqb k 0) (added (after pg (add u)) (i + 1) us m) (stops k i)
 
 -- "It answers as opening a sheet, adding each rule in order and asking would"
 -- "(for 2, for 9 and where nothing is refused: the list's length)"
-unfoldable pub batch : (w : ℕ) → List Rule → (m : ℕ) → Outcome
-batch w us m =
-    let k : ℕ = refusal no-page (open-at w) in
-    cond (eqb k 0) (added (after no-page (open-at w)) 0 us m) (stops k (length us))
+unfoldable pub batch : Opening → List Rule → (m : ℕ) → Ending
+batch g us m =
+    let k : ℕ = refusal no-page (open-at g) in
+    cond (eqb k 0) (added (after no-page (open-at g)) 0 us m) (stops k (length us))
 
--- an outcome as the caller sees it: the answer, and the lent buffer, b before and b′ after
-pub record Gives (o : Outcome) (b b′ : List ℕ) (r : Batch) : Type 0 where
-  pub answers : r ≡ o .answer
-  pub writes : b′ ≡ overlaid (o .chain) b
+-- an ending as the caller sees it: the answer, and the lent buffer, b before and b′ after
+pub record Gives (e : Ending) (b b′ : List ℕ) (r : Batch) : Type 0 where
+  pub answers : r ≡ e .answer
+  pub writes : b′ ≡ overlaid (e .chain) b
 
 -- what the batch call promises
-abbrev pub Batched : (w : ℕ) → List Rule → (b b′ : List ℕ) → Batch → Type 0
-Batched w us b b′ r = Gives (batch w us (length b)) b b′ r
+abbrev pub Batched : Opening → List Rule → (b b′ : List ℕ) → Batch → Type 0
+Batched g us b b′ r = Gives (batch g us (length b)) b b′ r

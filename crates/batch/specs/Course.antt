@@ -8,8 +8,8 @@ use lib.Dec.{eqb, ltb}
 use Rattle.rule.specs.declared.Rule.{Rule}
 use Rattle.sheet.specs.declared.Answer.{Answer}
 use Rattle.sheet.specs.Calls.{add}
-use Rattle.sheet.specs.Page.{blank}
-use Rattle.sheet.specs.Statements.{Answers, Asked, opened, refuses}
+use Rattle.sheet.specs.Page.{Opening, blank}
+use Rattle.sheet.specs.Statements.{Asked, Outcome, opened, refuses}
 use Rattle.batch.specs.declared.Batch.{Batch}
 use Rattle.batch.specs.declared.course.Course.{Course}
 use Rattle.batch.specs.Batch.{batches}
@@ -18,8 +18,8 @@ use Rattle.batch.specs.Batch.{batches}
 abbrev pub onward : Answer → (p q : ℕ) → Course
 onward a p q = record { number = a .number; sheet = a .sheet; place = cond (eqb (a .number) 0) q p }
 
-unfoldable pub begun : (w n : ℕ) → Course
-begun w n = onward (opened blank w) n 0
+unfoldable pub begun : Opening → (n : ℕ) → Course
+begun g n = onward (opened blank g) n 0
 
 -- nothing was refused, and a rule is left
 unfoldable pub goes : Course → (n : ℕ) → Bool
@@ -28,7 +28,7 @@ goes c n = eqb (c .number) 0 && ltb 0 (n - c .place)
 -- a rule is added
 pub record Stepped (c : Course) (u : Rule) (r : Course) : Type 0 where
   pub answer : Answer
-  pub answered : Answers (c .sheet) (add u) answer
+  pub answered : Outcome (c .sheet) (add u) answer
   pub follows : r ≡ onward answer (c .place) (c .place + 1)
 
 -- the refusal is answered and the buffer left, or the sheet is asked

@@ -8,22 +8,23 @@ use Rattle.rule.specs.declared.Rule.{Rule}
 use Rattle.sheet.specs.declared.Answer.{Answer}
 use Rattle.sheet.specs.declared.Reply.{Reply}
 use Rattle.sheet.specs.declared.Sheet.{Sheet}
-use Rattle.sheet.specs.Calls.{add}
-use Rattle.sheet.specs.Page.{blank}
-use Rattle.sheet.specs.Statements.{Answers, Asked, opened, refuses}
+use Rattle.sheet.specs.Calls.{add, open-at}
+use Rattle.sheet.specs.Page.{Opening, blank}
+use Rattle.sheet.specs.Statements.{Asked, Outcome, refuses}
 use Rattle.batch.specs.declared.Batch.{Batch}
 use Rattle.batch.specs.Batch.{batches}
 
 -- "adding each rule in order and asking", where i rules were added to the sheet before
 pub data Adding (b : List ℕ) : Sheet → (i : ℕ) → List Rule → List ℕ → Batch → Type 0 where
   asks : {s : Sheet} {i : ℕ} {b′ : List ℕ} {a : Reply} → Asked s b b′ a → Adding b s i [] b′ (batches a i)
-  refused-rule : {s : Sheet} {i : ℕ} {u : Rule} {us : List Rule} (a : Answer) → Answers s (add u) a → (a .number ≡ 0 → ⊥)
+  refused-rule : {s : Sheet} {i : ℕ} {u : Rule} {us : List Rule} (a : Answer) → Outcome s (add u) a → (a .number ≡ 0 → ⊥)
       → Adding b s i (u ∷ us) b (batches (refuses (a .number)) i)
-  adds : {s : Sheet} {i : ℕ} {u : Rule} {us : List Rule} {b′ : List ℕ} {r : Batch} (a : Answer) → Answers s (add u) a
+  adds : {s : Sheet} {i : ℕ} {u : Rule} {us : List Rule} {b′ : List ℕ} {r : Batch} (a : Answer) → Outcome s (add u) a
       → a .number ≡ 0 → Adding b (a .sheet) (i + 1) us b′ r → Adding b s i (u ∷ us) b′ r
 
 -- "opening a sheet", and then that
-pub data OneByOne (w : ℕ) (us : List Rule) (b : List ℕ) : List ℕ → Batch → Type 0 where
-  refused-width : (opened blank w .number ≡ 0 → ⊥) → OneByOne w us b b (batches (refuses (opened blank w .number)) (length us))
-  opens : {b′ : List ℕ} {r : Batch} → opened blank w .number ≡ 0 → Adding b (opened blank w .sheet) 0 us b′ r
-      → OneByOne w us b b′ r
+pub data OneByOne (g : Opening) (us : List Rule) (b : List ℕ) : List ℕ → Batch → Type 0 where
+  refused-opening : (a : Answer) → Outcome blank (open-at g) a → (a .number ≡ 0 → ⊥)
+      → OneByOne g us b b (batches (refuses (a .number)) (length us))
+  opens : {b′ : List ℕ} {r : Batch} (a : Answer) → Outcome blank (open-at g) a → a .number ≡ 0 → Adding b (a .sheet) 0 us b′ r
+      → OneByOne g us b b′ r

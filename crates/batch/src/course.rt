@@ -1,6 +1,7 @@
 // How far a batch has come.
 ghost use mathlib.Core.Path.{_≡_};
 ghost use Prim.Native.Nat.{_+_, _<_, _≤_, _^_};
+ghost use Rattle.sheet.specs.Page.{at-width};
 ghost use Rattle.batch.specs.Batch.{batches};
 ghost use Rattle.batch.specs.Course.{Finished, Stepped, begun, goes};
 use crate::Batch;
@@ -18,7 +19,7 @@ pub struct Course {
 impl Course {
     // Opens the sheet. A refused opening is given the list's length for its place.
     pub fn begin(width: u64, length: usize) -> Course
-        ensures { λ r. ⌜ r ≡ begun width length ⌝ }
+        ensures { λ r. ⌜ r ≡ begun (at-width width) length ⌝ }
     {
         let answer = Sheet::blank().open(width);
         let number = answer.number;

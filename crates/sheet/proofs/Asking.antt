@@ -7,6 +7,7 @@ use Prim.Native.Nat.{ℕ, _*_, _≤_, _<_}
 use native.Mathlib.Omega.{arith}
 use borrow.Author.Tests.{eq-eqb, ne-eqb}
 use lib.ListN.{drop, length, take}
+use Rattle.rule.specs.declared.Rule.{Rule}
 use Rattle.verdict.specs.declared.Kept.{Kept}
 use Rattle.verdict.specs.Kept.{kept}
 use Rattle.chain.specs.declared.Link.{Link}
@@ -86,7 +87,7 @@ module _ {s : Sheet} (p : Standing s) (b : List ℕ) where
   pub short-asking : length b < chainRoom (s .count) → Asked s b b (refuses 9)
   short-asking h =
       let g = known p in
-      refused-on _ (p .reached) (p .gives) b (ask-short _ _ (length b) (subst (λ (n : ℕ). length b < chainRoom n) (g .count) h)) (λ e. omega arith)
+      refused-on _ (p .reached) (p .gives) b (ask-short _ (length b) (subst (λ (n : ℕ). length b < chainRoom n) (g .count) h)) (λ e. omega arith)
 
   -- answered, where the chain that is said is ls
   answered : {b′ : List ℕ} → chainRoom (s .count) ≤ length b → (ls : List Link)
@@ -94,9 +95,11 @@ module _ {s : Sheet} (p : Standing s) (b : List ℕ) where
   unfolding findings widthOf rulesOf entriesOf
   answered h ls q d =
       let g = known p in
-      let k : s .kept ≡ kept (p .width) (rulesOn (p .entries)) = kept-on p ∙ ap₂ kept (g .width) (g .rules) in
-      let f = ask-fits _ _ (length b) (subst (λ (n : ℕ). chainRoom n ≤ length b) (g .count) h) in
-      let c : ls ≡ chainFor (p .width) (rulesOn (p .entries)) (kept (p .width) (rulesOn (p .entries))) =
+      let w : ℕ = p .on .opening .width in
+      let rs : List Rule = rulesOn (p .on .entries) in
+      let k : s .kept ≡ kept w rs = kept-on p ∙ ap₂ kept (g .width) (g .rules) in
+      let f = ask-fits _ (length b) (subst (λ (n : ℕ). chainRoom n ≤ length b) (g .count) h) in
+      let c : ls ≡ chainFor w rs (kept w rs) =
       sym q ∙ (λ i. chainFor (g .width i) (g .rules i) (k i)) in
       asked-on _ (p .reached) (p .gives)
       (ap₂ (λ (u : Kept) (v : List Link). replies 0 u (length v)) k c ∙ accepted-reply _ (length b) f)

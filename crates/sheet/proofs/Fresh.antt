@@ -11,8 +11,8 @@ use Rattle.rule.specs.declared.Rule.{Rule}
 use Rattle.rule.specs.Meaning.{RULES}
 use Rattle.verdict.specs.Kept.{kept}
 use Rattle.sheet.specs.declared.Sheet.{Sheet}
-use Rattle.sheet.specs.Page.{Entry, MARKS, a-mark, a-rule, fresh, marksOn, noRule, padded, page, rulesOn, struck}
-use Rattle.sheet.proofs.Lawful.{LawfulEntries}
+use Rattle.sheet.specs.Page.{Entry, MARKS, OpenPage, a-mark, a-rule, fresh, marksOn, noRule, padded, page, rulesOn, struck, withEntries}
+use Rattle.sheet.proofs.Lawful.{LawfulOpen}
 use Rattle.sheet.proofs.Struck.{count-left, marks-left-length, marks-split, newest, newest-low, rules-left}
 
 -- ---- places not in use
@@ -42,12 +42,12 @@ module _ {A : Type 0} (n : ℕ) (z : A) (xs : List A) where
 
 -- ---- what a sheet's record says of its page
 
-pub record Given (w : ℕ) (es : List Entry) (s : Sheet) : Type 0 where
-  pub width : s .width ≡ w
-  pub rules : take (s .count) (s .rules) ≡ rulesOn es
-  pub count : s .count ≡ length (rulesOn es)
-  pub marks : take (s .marked) (s .marks) ≡ marksOn es
-  pub marked : s .marked ≡ length (marksOn es)
+pub record Given (o : OpenPage) (s : Sheet) : Type 0 where
+  pub width : s .width ≡ o .opening .width
+  pub rules : take (s .count) (s .rules) ≡ rulesOn (o .entries)
+  pub count : s .count ≡ length (rulesOn (o .entries))
+  pub marks : take (s .marked) (s .marks) ≡ marksOn (o .entries)
+  pub marked : s .marked ≡ length (marksOn (o .entries))
   pub rules-length : length (s .rules) ≡ RULES
   pub marks-length : length (s .marks) ≡ MARKS
 
@@ -90,8 +90,14 @@ steppedBack s =
       kept = kept (s .width) (take (leaves s) (s .rules));
     }
 
-module _ (w : ℕ) (es : List Entry) where
-  given-fresh : LawfulEntries w es → Given w es (fresh (page w es))
+module _ (o : OpenPage) where
+  abbrev es : List Entry
+  es = o .entries
+
+  abbrev w : ℕ
+  w = o .opening .width
+
+  given-fresh : LawfulOpen o → Given o (fresh (page o))
   unfolding fresh
   given-fresh l =
       record {
@@ -104,7 +110,7 @@ module _ (w : ℕ) (es : List Entry) where
         marks-length = padded-length MARKS 0 (marksOn es) (l .marks-fit);
       }
 
-  add-fresh : (r : Rule) → length (rulesOn es) < RULES → fresh (page w (a-rule r ∷ es)) ≡ withRule (fresh (page w es)) r
+  add-fresh : (r : Rule) → length (rulesOn es) < RULES → fresh (page (withEntries o (a-rule r ∷ es))) ≡ withRule (fresh (page o)) r
   unfolding fresh rulesOn marksOn
   add-fresh r h =
       let rs : List Rule = rulesOn es in
@@ -121,7 +127,7 @@ module _ (w : ℕ) (es : List Entry) where
         kept = kept w (held i);
       }
 
-  mark-fresh : length (marksOn es) < MARKS → fresh (page w (a-mark ∷ es)) ≡ withMark (fresh (page w es))
+  mark-fresh : length (marksOn es) < MARKS → fresh (page (withEntries o (a-mark ∷ es))) ≡ withMark (fresh (page o))
   unfolding fresh rulesOn marksOn
   mark-fresh h =
       let n : ℕ = length (rulesOn es) in
@@ -136,15 +142,15 @@ module _ (w : ℕ) (es : List Entry) where
       }
 
   module _ (some : 0 < length (marksOn es)) where
-    leaves-newest : leaves (fresh (page w es)) ≡ newest (marksOn es)
+    leaves-newest : leaves (fresh (page o)) ≡ newest (marksOn es)
     unfolding fresh
     leaves-newest = List·getD-append (marksOn es) (replicate (MARKS - length (marksOn es)) 0) 0 (length (marksOn es) - 1) (omega arith)
 
-    leaves-low : leaves (fresh (page w es)) ≤ fresh (page w es) .count
+    leaves-low : leaves (fresh (page o)) ≤ fresh (page o) .count
     unfolding fresh
     leaves-low = omega (arith, leaves-newest, newest-low es some)
 
-    back-fresh : length (marksOn es) ≤ MARKS → fresh (page w (struck es)) ≡ steppedBack (fresh (page w es))
+    back-fresh : length (marksOn es) ≤ MARKS → fresh (page (withEntries o (struck es))) ≡ steppedBack (fresh (page o))
     unfolding fresh
     back-fresh h =
         λ i. record {
@@ -156,14 +162,14 @@ module _ (w : ℕ) (es : List Entry) where
           kept = kept w (left i);
         }
       where
-        n : length (rulesOn (struck es)) ≡ leaves (fresh (page w es))
+        n : length (rulesOn (struck es)) ≡ leaves (fresh (page o))
         n = count-left es some ∙ sym leaves-newest
 
-        left : rulesOn (struck es) ≡ take (leaves (fresh (page w es))) (fresh (page w es) .rules)
+        left : rulesOn (struck es) ≡ take (leaves (fresh (page o))) (fresh (page o) .rules)
         left =
             rules-left es some
             ∙ ap (λ (k : ℕ). take k (rulesOn es)) (sym leaves-newest)
-            ∙ sym (take-append-le (leaves (fresh (page w es))) (rulesOn es) (replicate (RULES - length (rulesOn es)) noRule) leaves-low)
+            ∙ sym (take-append-le (leaves (fresh (page o))) (rulesOn es) (replicate (RULES - length (rulesOn es)) noRule) leaves-low)
 
         zeroed : padded MARKS 0 (marksOn (struck es)) ≡ set (padded MARKS 0 (marksOn es)) (length (marksOn es) - 1) 0
         zeroed =
@@ -172,18 +178,19 @@ module _ (w : ℕ) (es : List Entry) where
 
 -- ---- so of any record that a page gives
 
-module _ (w : ℕ) (es : List Entry) {s : Sheet} (e : s ≡ fresh (page w es)) where
-  pub given : LawfulEntries w es → Given w es s
-  given l = subst (Given w es) (sym e) (given-fresh w es l)
+module _ (o : OpenPage) {s : Sheet} (e : s ≡ fresh (page o)) where
+  pub given : LawfulOpen o → Given o s
+  given l = subst (Given o) (sym e) (given-fresh o l)
 
-  pub after-add : (r : Rule) → length (rulesOn es) < RULES → fresh (page w (a-rule r ∷ es)) ≡ withRule s r
-  after-add r h = add-fresh w es r h ∙ ap (λ (t : Sheet). withRule t r) (sym e)
+  pub after-add : (r : Rule) → length (rulesOn (o .entries)) < RULES → fresh (page (withEntries o (a-rule r ∷ o .entries))) ≡ withRule s r
+  after-add r h = add-fresh o r h ∙ ap (λ (t : Sheet). withRule t r) (sym e)
 
-  pub after-mark : length (marksOn es) < MARKS → fresh (page w (a-mark ∷ es)) ≡ withMark s
-  after-mark h = mark-fresh w es h ∙ ap withMark (sym e)
+  pub after-mark : length (marksOn (o .entries)) < MARKS → fresh (page (withEntries o (a-mark ∷ o .entries))) ≡ withMark s
+  after-mark h = mark-fresh o h ∙ ap withMark (sym e)
 
-  pub after-back : 0 < length (marksOn es) → length (marksOn es) ≤ MARKS → fresh (page w (struck es)) ≡ steppedBack s
-  after-back some h = back-fresh w es some h ∙ ap steppedBack (sym e)
+  module _ (some : 0 < length (marksOn (o .entries))) where
+    pub after-back : length (marksOn (o .entries)) ≤ MARKS → fresh (page (withEntries o (struck (o .entries)))) ≡ steppedBack s
+    after-back h = back-fresh o some h ∙ ap steppedBack (sym e)
 
-  pub back-low : 0 < length (marksOn es) → leaves s ≤ s .count
-  back-low some = subst (λ (t : Sheet). leaves t ≤ t .count) (sym e) (leaves-low w es some)
+    pub back-low : leaves s ≤ s .count
+    back-low = subst (λ (t : Sheet). leaves t ≤ t .count) (sym e) (leaves-low o some)

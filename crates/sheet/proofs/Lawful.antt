@@ -13,8 +13,8 @@ use Rattle.word.specs.Word.{IsWidth, top}
 use Rattle.rule.specs.declared.Rule.{Rule}
 use Rattle.rule.specs.Meaning.{AllLawful, Lawful, RULES}
 use Rattle.accept.specs.Accept.{badConstant, badSense}
-use Rattle.sheet.specs.Calls.{Call, add, ask, back, mark, open-at, refusal, written}
-use Rattle.sheet.specs.Page.{Entry, MARKS, Page, WIDEST, a-mark, a-rule, entriesOf, marksOn, no-page, page, rulesOn, struck, widthOf}
+use Rattle.sheet.specs.Calls.{Call, add, ask, back, changed, mark, open-at, refusal, written}
+use Rattle.sheet.specs.Page.{Entry, MARKS, OpenPage, Page, WIDEST, a-mark, a-rule, marksOn, no-page, page, rulesOn, struck, withEntries}
 use Rattle.sheet.specs.Statements.{Reached, start, step}
 use Rattle.sheet.proofs.Refusals.{Allowed, add-fits, added-rule, blank-add, blank-back, blank-mark, mark-fits, marked-room, open-fits, opened-width}
 
@@ -37,70 +37,73 @@ module _ (w : ℕ) (r : Rule) where
 
 -- ---- pages
 
--- what is asked of a width and the entries below it
-pub record LawfulEntries (w : ℕ) (es : List Entry) : Type 0 where
-  pub low : 1 ≤ w
-  pub high : w ≤ WIDEST
-  pub rules-fit : length (rulesOn es) ≤ RULES
-  pub marks-fit : length (marksOn es) ≤ MARKS
-  pub allowed : AllAllowed w (rulesOn es)
+-- what is asked of an open page
+pub record LawfulOpen (o : OpenPage) : Type 0 where
+  pub low : 1 ≤ o .opening .width
+  pub high : o .opening .width ≤ WIDEST
+  pub rules-fit : length (rulesOn (o .entries)) ≤ RULES
+  pub marks-fit : length (marksOn (o .entries)) ≤ MARKS
+  pub allowed : AllAllowed (o .opening .width) (rulesOn (o .entries))
 
 abbrev pub LawfulPage : Page → Type 0
 LawfulPage no-page = Unit {0}
-LawfulPage (page w es) = LawfulEntries w es
+LawfulPage (page o) = LawfulOpen o
 
-module _ (w : ℕ) (es : List Entry) where
-  under-rule : (r : Rule) → LawfulEntries w (a-rule r ∷ es) → LawfulEntries w es × Allowed w r × (length (rulesOn es) < RULES)
+module _ (o : OpenPage) where
+  abbrev Lawfully : List Entry → Type 0
+  Lawfully es = LawfulOpen (withEntries o es)
+
+  under-rule : (es : List Entry) (r : Rule) → Lawfully (a-rule r ∷ es) → Lawfully es × Allowed (o .opening .width) r × (length (rulesOn es) < RULES)
   unfolding rulesOn marksOn
-  under-rule r l =
+  under-rule es r l =
       let h : length (rulesOn es) < RULES = omega (arith, l .rules-fit, length-append (rulesOn es) (r ∷ [])) in
-      let a = one-less w r (rulesOn es) (l .allowed) in (
+      let a = one-less (o .opening .width) r (rulesOn es) (l .allowed) in (
         record { low = l .low; high = l .high; rules-fit = omega arith; marks-fit = l .marks-fit; allowed = a .0 },
         a .1,
         h,
       )
 
-  under-mark : LawfulEntries w (a-mark ∷ es) → LawfulEntries w es × (length (marksOn es) < MARKS)
+  under-mark : (es : List Entry) → Lawfully (a-mark ∷ es) → Lawfully es × (length (marksOn es) < MARKS)
   unfolding rulesOn marksOn
-  under-mark l =
+  under-mark es l =
       let h : length (marksOn es) < MARKS = omega (arith, l .marks-fit, length-append (marksOn es) (length (rulesOn es) ∷ [])) in
       (record { low = l .low; high = l .high; rules-fit = l .rules-fit; marks-fit = omega arith; allowed = l .allowed }, h)
 
-struck-lawful : (w : ℕ) (es : List Entry) → LawfulEntries w es → LawfulEntries w (struck es)
-unfolding struck
-struck-lawful w [] l = l
-struck-lawful w (a-rule r ∷ es) l = struck-lawful w es (under-rule w es r l .0)
-struck-lawful w (a-mark ∷ es) l = under-mark w es l .0
+  struck-lawful : (es : List Entry) → Lawfully es → Lawfully (struck es)
+  unfolding struck
+  struck-lawful [] l = l
+  struck-lawful (a-rule r ∷ es) l = struck-lawful es (under-rule es r l .0)
+  struck-lawful (a-mark ∷ es) l = under-mark es l .0
 
 -- ---- accepted calls give lawful pages
 
 writes-lawful : (pg : Page) (c : Call) → LawfulPage pg → refusal pg c ≡ 0 → LawfulPage (written pg c)
-unfolding written widthOf entriesOf rulesOn marksOn AllAllowed
-writes-lawful pg (open-at w) l e =
-    let h = opened-width pg w e in
+unfolding written changed rulesOn marksOn AllAllowed
+writes-lawful pg (open-at g) l e =
+    let h = opened-width pg g e in
     record { low = h .0; high = h .1; rules-fit = omega arith; marks-fit = omega arith; allowed = tt }
 writes-lawful no-page (add r) l e = absurd (omega (arith, blank-add r))
-writes-lawful (page w es) (add r) l e =
-    let h = added-rule w es r e in
+writes-lawful (page o) (add r) l e =
+    let h = added-rule o r e in
     record {
       low = l .low;
       high = l .high;
-      rules-fit = omega (arith, length-append (rulesOn es) (r ∷ []));
+      rules-fit = omega (arith, length-append (rulesOn (o .entries)) (r ∷ []));
       marks-fit = l .marks-fit;
-      allowed = one-more w r (rulesOn es) (l .allowed) (h .0);
+      allowed = one-more (o .opening .width) r (rulesOn (o .entries)) (l .allowed) (h .0);
     }
 writes-lawful no-page mark l e = absurd (omega (arith, blank-mark))
-writes-lawful (page w es) mark l e =
-    let h = marked-room w es e in
+writes-lawful (page o) mark l e =
+    let h = marked-room o e in
     record {
       low = l .low;
       high = l .high;
       rules-fit = l .rules-fit;
-      marks-fit = omega (arith, length-append (marksOn es) (length (rulesOn es) ∷ []));
+      marks-fit = omega (arith, length-append (marksOn (o .entries)) (length (rulesOn (o .entries)) ∷ []));
       allowed = l .allowed;
     }
 writes-lawful no-page back l e = absurd (omega (arith, blank-back))
-writes-lawful (page w es) back l e = struck-lawful w es l
+writes-lawful (page o) back l e = struck-lawful o (o .entries) l
 writes-lawful pg (ask m) l e = l
 
 pub reached-lawful : {pg : Page} → Reached pg → LawfulPage pg
@@ -109,17 +112,19 @@ reached-lawful (step {pg} h c e) = writes-lawful pg c (reached-lawful h) e
 
 -- ---- and all of them
 
-page-reached : (w : ℕ) (es : List Entry) → LawfulEntries w es → Reached (page w es)
-unfolding written widthOf entriesOf
-page-reached w [] l = step start (open-at w) (open-fits no-page w (l .low) (l .high))
-page-reached w (a-rule r ∷ es) l =
-    let u = under-rule w es r l in
-    step (page-reached w es (u .0)) (add r) (add-fits w es r (u .1) (u .2))
-page-reached w (a-mark ∷ es) l = let u = under-mark w es l in step (page-reached w es (u .0)) mark (mark-fits w es (u .1))
+module _ (o : OpenPage) where
+  page-reached : (es : List Entry) → Lawfully o es → Reached (page (withEntries o es))
+  unfolding written changed
+  page-reached [] l = step start (open-at (o .opening)) (open-fits no-page (o .opening) (l .low) (l .high))
+  page-reached (a-rule r ∷ es) l =
+      let u = under-rule o es r l in
+      step (page-reached es (u .0)) (add r) (add-fits (withEntries o es) r (u .1) (u .2))
+  page-reached (a-mark ∷ es) l =
+      let u = under-mark o es l in step (page-reached es (u .0)) mark (mark-fits (withEntries o es) (u .1))
 
 pub lawful-reached : (pg : Page) → LawfulPage pg → Reached pg
 lawful-reached no-page l = start
-lawful-reached (page w es) l = page-reached w es l
+lawful-reached (page o) l = page-reached o (o .entries) l
 
 -- ---- what the leaves ask
 
@@ -145,8 +150,9 @@ unfolding AllAllowed AllLawful
 all-lawful w [] h = tt
 all-lawful w (r ∷ rs) h = (rule-lawful w r (h .0), all-lawful w rs (h .1))
 
-pub lawful-rules : {w : ℕ} {es : List Entry} → LawfulPage (page w es) → AllLawful w (rulesOn es)
-lawful-rules {w} {es} l = all-lawful w (rulesOn es) (l .allowed)
+module _ {o : OpenPage} (l : LawfulOpen o) where
+  pub lawful-rules : AllLawful (o .opening .width) (rulesOn (o .entries))
+  lawful-rules = all-lawful (o .opening .width) (rulesOn (o .entries)) (l .allowed)
 
-pub lawful-width : {w : ℕ} {es : List Entry} → LawfulPage (page w es) → IsWidth w
-lawful-width l = record { low = l .low; high = omega (arith, l .high) }
+  pub lawful-width : IsWidth (o .opening .width)
+  lawful-width = record { low = l .low; high = omega (arith, l .high) }

@@ -58,12 +58,13 @@ same-entries (a-mark ∷ es) (a-mark ∷ fs) r m =
 same-page : (pg qg : Page) → LawfulPage pg → LawfulPage qg → fresh pg ≡ fresh qg → pg ≡ qg
 unfolding fresh
 same-page no-page no-page l k e = refl
-same-page no-page (page w es) l k e = absurd (omega (arith, k .low, given w es e k .width))
-same-page (page w es) no-page l k e = absurd (omega (arith, l .low, given w es (sym e) l .width))
-same-page (page w es) (page v fs) l k e =
-    let g = given w es refl l in
-    let h = given v fs e k in
-    ap₂ page (sym (g .width) ∙ h .width) (same-entries es fs (sym (g .rules) ∙ h .rules) (sym (g .marks) ∙ h .marks))
+same-page no-page (page o) l k e = absurd (omega (arith, k .low, given o e k .width))
+same-page (page o) no-page l k e = absurd (omega (arith, l .low, given o (sym e) l .width))
+same-page (page o) (page q) l k e =
+    let g = given o refl l in
+    let h = given q e k in
+    let same = same-entries (o .entries) (q .entries) (sym (g .rules) ∙ h .rules) (sym (g .marks) ∙ h .marks) in
+    λ i. page (record { opening = record { width = (sym (g .width) ∙ h .width) i }; entries = same i })
 
 pub one-page : {pg qg : Page} → Reached pg → Reached qg → fresh pg ≡ fresh qg → pg ≡ qg
 one-page {pg} {qg} r s e = same-page pg qg (reached-lawful r) (reached-lawful s) e

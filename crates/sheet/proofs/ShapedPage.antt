@@ -10,7 +10,7 @@ use Rattle.word.proofs.Tests.{both-pass}
 use Rattle.rule.specs.declared.Rule.{Rule}
 use Rattle.rule.specs.Meaning.{RULES}
 use Rattle.accept.specs.Accept.{badConstant, badForm, badSense, acceptable, allAcceptable}
-use Rattle.sheet.specs.Page.{Entry, MARKS, Page, WIDEST, marksOn, no-page, page, rulesOn}
+use Rattle.sheet.specs.Page.{MARKS, OpenPage, Page, WIDEST, marksOn, no-page, page, rulesOn}
 use Rattle.sheet.specs.Statements.{Reached}
 use Rattle.sheet.proofs.Lawful.{AllAllowed, LawfulPage, lawful-reached, reached-lawful}
 use Rattle.sheet.proofs.Refusals.{Allowed}
@@ -21,12 +21,12 @@ pub record ShapedLists (w : ℕ) (rs : List Rule) (ms : List ℕ) : Type 0 where
   pub few-marks : length ms ≤ MARKS
   pub good-rules : allAcceptable w rs ≡ true
 
-abbrev pub ShapedEntries : ℕ → List Entry → Type 0
-ShapedEntries w es = ShapedLists w (rulesOn es) (marksOn es)
+abbrev pub ShapedOpen : OpenPage → Type 0
+ShapedOpen o = ShapedLists (o .opening .width) (rulesOn (o .entries)) (marksOn (o .entries))
 
 pub data ShapedPage : Page → Type 0 where
   none-yet : ShapedPage no-page
-  with-width : {w : ℕ} {es : List Entry} → 1 ≤ w → w ≤ WIDEST → ShapedEntries w es → ShapedPage (page w es)
+  with-width : {o : OpenPage} → 1 ≤ o .opening .width → o .opening .width ≤ WIDEST → ShapedOpen o → ShapedPage (page o)
 
 module _ (w : ℕ) where
   allowed-passes : (r : Rule) → Allowed w r → acceptable w r ≡ true
@@ -54,20 +54,20 @@ module _ (w : ℕ) where
 
 lawful-shaped : (pg : Page) → LawfulPage pg → ShapedPage pg
 lawful-shaped no-page l = none-yet
-lawful-shaped (page w es) l =
+lawful-shaped (page o) l =
     with-width (l .low) (l .high)
-    (record { few-rules = l .rules-fit; few-marks = l .marks-fit; good-rules = all-pass w (rulesOn es) (l .allowed) })
+    (record { few-rules = l .rules-fit; few-marks = l .marks-fit; good-rules = all-pass (o .opening .width) (rulesOn (o .entries)) (l .allowed) })
 
 pub shaped-if-reached : {pg : Page} → Reached pg → ShapedPage pg
 shaped-if-reached {pg} h = lawful-shaped pg (reached-lawful h)
 
-pub shaped-is-reached : (w : ℕ) (es : List Entry) → 1 ≤ w → w ≤ WIDEST → ShapedEntries w es → Reached (page w es)
-shaped-is-reached w es l u h =
-    lawful-reached (page w es)
+pub shaped-is-reached : (o : OpenPage) → 1 ≤ o .opening .width → o .opening .width ≤ WIDEST → ShapedOpen o → Reached (page o)
+shaped-is-reached o l u h =
+    lawful-reached (page o)
     (record {
       low = l;
       high = u;
       rules-fit = h .few-rules;
       marks-fit = h .few-marks;
-      allowed = all-allowed w (rulesOn es) (h .good-rules);
+      allowed = all-allowed (o .opening .width) (rulesOn (o .entries)) (h .good-rules);
     })

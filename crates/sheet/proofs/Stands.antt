@@ -9,14 +9,14 @@ use Rattle.word.specs.Word.{IsWidth}
 use Rattle.rule.specs.declared.Rule.{Rule}
 use Rattle.rule.specs.Meaning.{AllLawful}
 use Rattle.sheet.specs.declared.Sheet.{Sheet}
-use Rattle.sheet.specs.Calls.{Call, add, back, refusal, written}
-use Rattle.sheet.specs.Page.{Page, a-rule, entriesOf, fresh, marksOn, no-page, page, struck, widthOf}
+use Rattle.sheet.specs.Calls.{Call, add, back, changed, refusal, written}
+use Rattle.sheet.specs.Page.{Page, a-rule, fresh, marksOn, no-page, page, struck, withEntries}
 use Rattle.sheet.specs.Stands.{RuleSeen, Standing, Stands, before-table, blank-sheet, by-table, no-sheet, on-page}
-use Rattle.sheet.specs.Statements.{Answers, IsSheet, Reached, answers, start, step}
+use Rattle.sheet.specs.Statements.{IsSheet, Reached, Reads, answers, start, step}
 use Rattle.sheet.proofs.Fresh.{Given, after-add, after-back, given, steppedBack, withRule}
 use Rattle.sheet.proofs.Lawful.{lawful-rules, lawful-width, reached-lawful}
 use Rattle.sheet.proofs.Refusals.{added-rule, back-fits, blank-add}
-use Rattle.sheet.proofs.Ways.{refused-answers}
+use Rattle.sheet.proofs.Ways.{refused-reads}
 
 pub is-blank : {s : Sheet} → IsSheet s → s .width ≡ 0 → Stands s 1
 unfolding fresh
@@ -24,9 +24,9 @@ is-blank {s} i z = go (i .on) (i .reached) (i .gives)
   where
     go : (pg : Page) → Reached pg → s ≡ fresh pg → Stands s 1
     go no-page h e = blank-sheet e
-    go (page w es) h e =
+    go (page o) h e =
         let l = reached-lawful h .low in
-        let q : s .width ≡ w = ap (λ (t : Sheet). t .width) e in
+        let q : s .width ≡ o .opening .width = ap (λ (t : Sheet). t .width) e in
         absurd (omega arith)
 
 pub has-width : {s : Sheet} → IsSheet s → (s .width ≡ 0 → ⊥) → Stands s 0
@@ -35,12 +35,12 @@ has-width {s} i z = go (i .on) (i .reached) (i .gives)
   where
     go : (pg : Page) → Reached pg → s ≡ fresh pg → Stands s 0
     go no-page h e = absurd (z (ap (λ (t : Sheet). t .width) e))
-    go (page w es) h e = on-page (record { width = w; entries = es; reached = h; gives = e })
+    go (page o) h e = on-page (record { on = o; reached = h; gives = e })
 
-pub refused-standing : {s : Sheet} {n : ℕ} → Stands s n → (n ≡ 0 → ⊥) → (c : Call) → refusal no-page c ≡ 1 → Answers s c (answers n s)
+pub refused-standing : {s : Sheet} {n : ℕ} → Stands s n → (n ≡ 0 → ⊥) → (c : Call) → refusal no-page c ≡ 1 → Reads s c (answers n s)
 refused-standing (no-sheet i) z c q =
     record { no-sheet = λ n. refl; on-page = λ pg h e. absurd (i (record { on = pg; reached = h; gives = e })) }
-refused-standing (blank-sheet e) z c q = refused-answers no-page start e c q z
+refused-standing (blank-sheet e) z c q = refused-reads no-page start e c q z
 refused-standing (on-page p) z c q = absurd (z refl)
 
 -- what is not refused so has a page
@@ -50,18 +50,18 @@ has-page (blank-sheet e) z = absurd (omega arith)
 has-page (on-page p) z = p
 
 -- a rule that is refused, and one that is not
-pub refused-rule : {s : Sheet} {r : Rule} {n : ℕ} → RuleSeen s r n → (n ≡ 0 → ⊥) → Answers s (add r) (answers n s)
+pub refused-rule : {s : Sheet} {r : Rule} {n : ℕ} → RuleSeen s r n → (n ≡ 0 → ⊥) → Reads s (add r) (answers n s)
 refused-rule {r = r} (before-table t z) d = refused-standing t d (add r) (blank-add r)
-refused-rule {r = r} (by-table p) d = refused-answers (page (p .width) (p .entries)) (p .reached) (p .gives) (add r) refl d
+refused-rule {r = r} (by-table p) d = refused-reads (page (p .on)) (p .reached) (p .gives) (add r) refl d
 
 pub accepted-rule : {s : Sheet} {r : Rule} {n : ℕ} → RuleSeen s r n → n ≡ 0
-    → (p : Standing s) × (refusal (page (p .width) (p .entries)) (add r) ≡ 0)
+    → (p : Standing s) × (refusal (page (p .on)) (add r) ≡ 0)
 accepted-rule (before-table t z) e = absurd (z e)
 accepted-rule (by-table p) e = (p, e)
 
 -- what is known of the record by its page
-pub known : {s : Sheet} (p : Standing s) → Given (p .width) (p .entries) s
-known p = given _ _ (p .gives) (reached-lawful (p .reached))
+pub known : {s : Sheet} (p : Standing s) → Given (p .on) s
+known p = given _ (p .gives) (reached-lawful (p .reached))
 
 pub width-of : {s : Sheet} → Standing s → IsWidth (s .width)
 width-of p = subst IsWidth (sym (known p .width)) (lawful-width (reached-lawful (p .reached)))
@@ -72,22 +72,20 @@ rules-lawful p =
     subst₂ AllLawful (sym (g .width)) (sym (g .rules)) (lawful-rules (reached-lawful (p .reached)))
 
 -- the record with one rule more, and the one after a step back, stand too
-pub with-rule : {s : Sheet} (r : Rule) (p : Standing s) → refusal (page (p .width) (p .entries)) (add r) ≡ 0 → Standing (withRule s r)
-unfolding written widthOf entriesOf
+pub with-rule : {s : Sheet} (r : Rule) (p : Standing s) → refusal (page (p .on)) (add r) ≡ 0 → Standing (withRule s r)
+unfolding written changed
 with-rule r p q =
     record {
-      width = p .width;
-      entries = a-rule r ∷ p .entries;
+      on = withEntries (p .on) (a-rule r ∷ p .on .entries);
       reached = step (p .reached) (add r) q;
-      gives = sym (after-add (p .width) (p .entries) (p .gives) r (added-rule _ _ _ q .1));
+      gives = sym (after-add _ (p .gives) r (added-rule _ _ q .1));
     }
 
-pub stepped-back : {s : Sheet} (p : Standing s) → 0 < length (marksOn (p .entries)) → Standing (steppedBack s)
-unfolding written widthOf entriesOf
+pub stepped-back : {s : Sheet} (p : Standing s) → 0 < length (marksOn (p .on .entries)) → Standing (steppedBack s)
+unfolding written changed
 stepped-back p some =
     record {
-      width = p .width;
-      entries = struck (p .entries);
-      reached = step (p .reached) back (back-fits _ _ some);
-      gives = sym (after-back (p .width) (p .entries) (p .gives) some (reached-lawful (p .reached) .marks-fit));
+      on = withEntries (p .on) (struck (p .on .entries));
+      reached = step (p .reached) back (back-fits _ some);
+      gives = sym (after-back _ (p .gives) some (reached-lawful (p .reached) .marks-fit));
     }

@@ -17,7 +17,7 @@ use Rattle.accept.specs.Accept.{allAcceptable, allNoRule, isNoRule}
 use Rattle.verdict.specs.declared.Kept.{Kept}
 use Rattle.verdict.specs.Kept.{keeps, kept}
 use Rattle.sheet.specs.declared.Sheet.{Sheet}
-use Rattle.sheet.specs.Page.{MARKS, Page, WIDEST, fresh, marksOn, no-page, noRule, padded, page, rulesOn}
+use Rattle.sheet.specs.Page.{Entry, MARKS, OpenPage, Page, WIDEST, at-width, fresh, marksOn, newPage, no-page, noRule, padded, page, rulesOn, withEntries}
 use Rattle.sheet.specs.Shape.{allZero, isSheet, marksShaped, rising, rulesShaped, sameKept, wellShaped}
 use Rattle.sheet.specs.Statements.{IsSheet}
 use Rattle.sheet.specs.Statements.Reached.{start}
@@ -46,7 +46,9 @@ passes-same k l e =
 fresh-passes : {pg : Page} → ShapedPage pg → isSheet (fresh pg) ≡ true
 unfolding isSheet fresh wellShaped rulesShaped marksShaped allAcceptable allNoRule isNoRule allZero rising sameKept
 fresh-passes none-yet = refl
-fresh-passes (with-width {w} {es} l u h) =
+fresh-passes (with-width {o} l u h) =
+    let w : ℕ = o .opening .width in
+    let es : List Entry = o .entries in
     ap₂ _&&_ (shaped-filled w (rulesOn es) (marksOn es) (kept w (rulesOn es)) h (shaped-marks-rise es))
     (rw (ne-eqb w 0 (omega arith), take-append-seam (rulesOn es)) (ap₂ _&&_ (le-leb w WIDEST u) (same-passes (kept w (rulesOn es)))))
 
@@ -76,9 +78,10 @@ passes-opened s h z e =
     let t = both-pass (leb w WIDEST) _ (rw (ne-eqb w 0 z) at (both-pass (wellShaped s) _ e .1)) in
     let b = shaped-entered (rulesIn s) (marksIn s) (h .rise) in
     let k : s .kept ≡ kept w (rulesIn s) = passes-same (s .kept) (kept w (rulesIn s)) (t .1) in
+    let o : OpenPage = withEntries (newPage (at-width w)) (b .on) in
     record {
-      on = page w (b .on);
-      reached = shaped-is-reached w (b .on) (omega arith) (leb-true w WIDEST (t .0)) (rw (b .rules, b .marks) (h .lists));
+      on = page o;
+      reached = shaped-is-reached o (omega arith) (leb-true w WIDEST (t .0)) (rw (b .rules, b .marks) (h .lists));
       gives = h .places
           ∙ (λ i. filled w (rulesIn s) (marksIn s) (k i))
           ∙ (λ i. filled w (sym (b .rules) i) (sym (b .marks) i) (kept w (sym (b .rules) i)));
@@ -103,8 +106,8 @@ padded-length n z l h = simp (length-append, length-replicate) (omega arith)
 places : {pg : Page} → ShapedPage pg → (length (fresh pg .rules) ≡ RULES) × (length (fresh pg .marks) ≡ MARKS)
 unfolding fresh
 places none-yet = (refl, refl)
-places (with-width {es = es} l u h) =
-    (padded-length RULES noRule (rulesOn es) (h .few-rules), padded-length MARKS 0 (marksOn es) (h .few-marks))
+places (with-width {o} l u h) =
+    (padded-length RULES noRule (rulesOn (o .entries)) (h .few-rules), padded-length MARKS 0 (marksOn (o .entries)) (h .few-marks))
 
 pub sheet-dec : (s : Sheet) → Dec (IsSheet s)
 sheet-dec s = go (ℕ-discrete (length (s .rules)) RULES) (ℕ-discrete (length (s .marks)) MARKS) (isSheet s) refl

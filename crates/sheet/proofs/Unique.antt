@@ -11,18 +11,26 @@ use Rattle.chain.specs.Links.{numbersOf}
 use Rattle.sheet.specs.declared.Answer.{Answer}
 use Rattle.sheet.specs.declared.Reply.{Reply}
 use Rattle.sheet.specs.declared.Sheet.{Sheet}
-use Rattle.sheet.specs.Calls.{Call, ask, open-at, refusal}
-use Rattle.sheet.specs.Page.{Page, fresh, no-page}
-use Rattle.sheet.specs.Statements.{Answers, Asked, IsSheet, chainOn, opened, overlaid, reply}
+use Rattle.sheet.specs.Calls.{Call, add, ask, back, mark, open-at, refusal}
+use Rattle.sheet.specs.Page.{Opening, Page, fresh, no-page}
+use Rattle.sheet.specs.Statements.{Asked, IsSheet, Outcome, Reads, chainOn, opened, overlaid, reply}
 use Rattle.sheet.proofs.Refusals.{after-refused}
 use Rattle.sheet.proofs.Tested.{sheet-dec}
 
-pub answers-unique : {s : Sheet} {c : Call} {r r′ : Answer} → Answers s c r → Answers s c r′ → r ≡ r′
-answers-unique {s} {c} {r} {r′} a a′ = go (sheet-dec s)
+reads-unique : {s : Sheet} {c : Call} {r r′ : Answer} → Reads s c r → Reads s c r′ → r ≡ r′
+reads-unique {s} {c} {r} {r′} a a′ = go (sheet-dec s)
   where
     go : Dec (IsSheet s) → r ≡ r′
     go (yes h) = a .on-page (h .on) (h .reached) (h .gives) ∙ sym (a′ .on-page (h .on) (h .reached) (h .gives))
     go (no n) = a .no-sheet n ∙ sym (a′ .no-sheet n)
+
+pub outcome-unique : (s : Sheet) (c : Call) {r r′ : Answer} → Outcome s c r → Outcome s c r′ → r ≡ r′
+unfolding Outcome
+outcome-unique s (open-at g) a a′ = a ∙ sym a′
+outcome-unique s (add u) a a′ = reads-unique a a′
+outcome-unique s mark a a′ = reads-unique a a′
+outcome-unique s back a a′ = reads-unique a a′
+outcome-unique s (ask m) a a′ = absurd a
 
 pub asked-unique : {s : Sheet} {b b₁ b₂ : List ℕ} {r₁ r₂ : Reply} → Asked s b b₁ r₁ → Asked s b b₂ r₂
     → (r₁ ≡ r₂) × (b₁ ≡ b₂)
@@ -35,12 +43,12 @@ asked-unique {s} {b} {b₁} {b₂} {r₁} {r₂} a a′ = go (sheet-dec s)
         (p .0 ∙ sym (q .0), p .1 ∙ sym (q .1))
     go (no n) = let p = a .no-sheet n in let q = a′ .no-sheet n in (p .0 ∙ sym (q .0), p .1 ∙ sym (q .1))
 
-pub opened-leaves : (s : Sheet) (w : ℕ) → (opened s w .number ≡ 0 → ⊥) → opened s w .sheet ≡ s
+opened-leaves : (s : Sheet) (g : Opening) → (opened s g .number ≡ 0 → ⊥) → opened s g .sheet ≡ s
 unfolding opened
-opened-leaves s w n = rw (ne-eqb (refusal no-page (open-at w)) 0 n)
+opened-leaves s g n = rw (ne-eqb (refusal no-page (open-at g)) 0 n)
 
-pub answers-leaves : {s : Sheet} {c : Call} {r : Answer} → Answers s c r → (r .number ≡ 0 → ⊥) → r .sheet ≡ s
-answers-leaves {s} {c} {r} a k = go (sheet-dec s)
+reads-leaves : {s : Sheet} {c : Call} {r : Answer} → Reads s c r → (r .number ≡ 0 → ⊥) → r .sheet ≡ s
+reads-leaves {s} {c} {r} a k = go (sheet-dec s)
   where
     go : Dec (IsSheet s) → r .sheet ≡ s
     go (yes h) =
@@ -49,6 +57,15 @@ answers-leaves {s} {c} {r} a k = go (sheet-dec s)
         ∙ ap fresh (after-refused (h .on) c (λ q. k (ap (λ (t : Answer). t .number) e ∙ q)))
         ∙ sym (h .gives)
     go (no n) = ap (λ (t : Answer). t .sheet) (a .no-sheet n)
+
+pub outcome-leaves : {s : Sheet} (c : Call) (r : Answer) → Outcome s c r → (r .number ≡ 0 → ⊥) → r .sheet ≡ s
+unfolding Outcome
+outcome-leaves {s} (open-at g) r a k =
+    ap (λ (t : Answer). t .sheet) a ∙ opened-leaves s g (λ q. k (ap (λ (t : Answer). t .number) a ∙ q))
+outcome-leaves (add u) r a k = reads-leaves a k
+outcome-leaves mark r a k = reads-leaves a k
+outcome-leaves back r a k = reads-leaves a k
+outcome-leaves (ask m) r a k = absurd a
 
 -- no link is written where asking is refused
 reply-leaves : (pg : Page) (b : List ℕ) → (reply pg (length b) .number ≡ 0 → ⊥) → overlaid (chainOn pg (length b)) b ≡ b

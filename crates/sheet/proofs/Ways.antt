@@ -2,39 +2,38 @@
 -- record has one page, so what holds of that page is all that the call's statement asks. Assumes nothing.
 use mathlib.Core.Path.{_≡_, sym, ap, ap₂, _∙_, subst}
 use mathlib.Core.Bool.{Bool, cond}
-use mathlib.Core.List.{[]}
 use Prim.Native.Nat.{ℕ}
 use borrow.Author.Tests.{eq-eqb, ne-eqb}
 use Rattle.sheet.specs.declared.Answer.{Answer}
 use Rattle.sheet.specs.declared.Sheet.{Sheet}
 use Rattle.sheet.specs.Calls.{Call, after, open-at, refusal, written}
-use Rattle.sheet.specs.Page.{Page, fresh, no-page, page}
-use Rattle.sheet.specs.Statements.{Answers, Reached, answers, opened}
+use Rattle.sheet.specs.Page.{Opening, Page, fresh, newPage, no-page, page}
+use Rattle.sheet.specs.Statements.{Reached, Reads, answers, opened}
 use Rattle.sheet.proofs.Refusals.{after-accepted, after-refused}
 use Rattle.sheet.proofs.OnePage.{one-page}
 
 module _ (pg : Page) (h : Reached pg) {s : Sheet} (e : s ≡ fresh pg) (c : Call) where
-  sheet-answers : {r : Answer} → r ≡ answers (refusal pg c) (fresh (after pg c)) → Answers s c r
-  sheet-answers {r} q =
+  sheet-reads : {r : Answer} → r ≡ answers (refusal pg c) (fresh (after pg c)) → Reads s c r
+  sheet-reads {r} q =
       record {
         no-sheet = λ n. absurd (n (record { on = pg; reached = h; gives = e }));
         on-page = λ qg k d. subst (λ (p : Page). r ≡ answers (refusal p c) (fresh (after p c))) (one-page h k (sym e ∙ d)) q;
       }
 
-  pub refused-answers : {n : ℕ} → refusal pg c ≡ n → (n ≡ 0 → ⊥) → Answers s c (answers n s)
-  refused-answers q z =
-      sheet-answers (ap₂ answers (sym q) (e ∙ ap fresh (sym (after-refused pg c (λ t. z (sym q ∙ t))))))
+  pub refused-reads : {n : ℕ} → refusal pg c ≡ n → (n ≡ 0 → ⊥) → Reads s c (answers n s)
+  refused-reads q z =
+      sheet-reads (ap₂ answers (sym q) (e ∙ ap fresh (sym (after-refused pg c (λ t. z (sym q ∙ t))))))
 
-  pub accepted-answers : {t : Sheet} → refusal pg c ≡ 0 → fresh (written pg c) ≡ t → Answers s c (answers 0 t)
-  accepted-answers q d = sheet-answers (ap₂ answers (sym q) (sym d ∙ ap fresh (sym (after-accepted pg c q))))
+  pub accepted-reads : {t : Sheet} → refusal pg c ≡ 0 → fresh (written pg c) ≡ t → Reads s c (answers 0 t)
+  accepted-reads q d = sheet-reads (ap₂ answers (sym q) (sym d ∙ ap fresh (sym (after-accepted pg c q))))
 
 -- an opening reads no page
-module _ (s : Sheet) (w : ℕ) where
-  pub refused-open : {n : ℕ} → refusal no-page (open-at w) ≡ n → (n ≡ 0 → ⊥) → answers n s ≡ opened s w
+module _ (s : Sheet) (g : Opening) where
+  pub refused-open : {n : ℕ} → refusal no-page (open-at g) ≡ n → (n ≡ 0 → ⊥) → answers n s ≡ opened s g
   unfolding opened
   refused-open {n} q z =
-      ap₂ (λ (k : ℕ) (b : Bool). answers k (cond b (fresh (page w [])) s)) (sym q) (sym (ne-eqb _ 0 (λ t. z (sym q ∙ t))))
+      ap₂ (λ (k : ℕ) (b : Bool). answers k (cond b (fresh (page (newPage g))) s)) (sym q) (sym (ne-eqb _ 0 (λ t. z (sym q ∙ t))))
 
-  pub accepted-open : refusal no-page (open-at w) ≡ 0 → answers 0 (fresh (page w [])) ≡ opened s w
+  pub accepted-open : refusal no-page (open-at g) ≡ 0 → answers 0 (fresh (page (newPage g))) ≡ opened s g
   unfolding opened
-  accepted-open q = ap₂ (λ (k : ℕ) (b : Bool). answers k (cond b (fresh (page w [])) s)) (sym q) (sym (eq-eqb _ 0 q))
+  accepted-open q = ap₂ (λ (k : ℕ) (b : Bool). answers k (cond b (fresh (page (newPage g))) s)) (sym q) (sym (eq-eqb _ 0 q))

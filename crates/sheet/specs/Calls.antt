@@ -8,11 +8,11 @@ use Rattle.rule.specs.declared.Rule.{Rule}
 use Rattle.rule.specs.Meaning.{RULES}
 use Rattle.accept.specs.Accept.{badConstant, badForm, badSense}
 use Rattle.chain.specs.Links.{chainRoom}
-use Rattle.sheet.specs.Page.{MARKS, Page, WIDEST, a-mark, a-rule, entriesOf, marksOn, no-page, page, rulesOn, struck, widthOf}
+use Rattle.sheet.specs.Page.{Entry, MARKS, Opening, Page, WIDEST, a-mark, a-rule, entriesOf, marksOn, newPage, no-page, page, rulesOn, struck, widthOf, withEntries}
 
 -- a call with what it is handed: of the buffer, only its length counts
 pub data Call : Type 0 where
-  open-at : (width : ℕ) → Call
+  open-at : Opening → Call
   add : Rule → Call
   mark : Call
   back : Call
@@ -26,14 +26,14 @@ pub record Ground : Type 0 where
 abbrev pub ground : ℕ → Bool → Ground
 ground n b = record { number = n; applies = b }
 
--- "where several apply, the lowest number is given"; 0 where none does
-unfoldable pub lowest : List Ground → ℕ
-lowest [] = 0
-lowest (g ∷ gs) = elim (g .applies) [ true ↦ g .number | false ↦ lowest gs ]
+-- "where several apply, the lowest number is given": rows stand in the order of their numbers, and 0 is given where none applies
+unfoldable pub firstThatApplies : List Ground → ℕ
+firstThatApplies [] = 0
+firstThatApplies (g ∷ gs) = elim (g .applies) [ true ↦ g .number | false ↦ firstThatApplies gs ]
 
 unfoldable pub isBlank : Page → Bool
 isBlank no-page = true
-isBlank (page w es) = false
+isBlank (page o) = false
 
 -- the rules and the marks in force
 unfoldable pub rulesOf : Page → List Rule
@@ -44,7 +44,7 @@ marksOf pg = marksOn (entriesOf pg)
 
 -- the table, a row for each number, of a call on the sheet that a page gives
 unfoldable pub grounds : Page → Call → List Ground
-grounds pg (open-at w) = ground 2 (not (leb 1 w && leb w WIDEST)) ∷ []
+grounds pg (open-at g) = ground 2 (not (leb 1 (g .width) && leb (g .width) WIDEST)) ∷ []
 grounds pg (add r) =
     ground 1 (isBlank pg)
     ∷ ground 3 (badForm r)
@@ -58,14 +58,19 @@ grounds pg (ask m) = ground 1 (isBlank pg) ∷ ground 9 (ltb m (chainRoom (lengt
 
 -- the number that is given, 0 where the call is accepted
 unfoldable pub refusal : Page → Call → ℕ
-refusal pg c = lowest (grounds pg c)
+refusal pg c = firstThatApplies (grounds pg c)
+
+-- a page whose entries the clerk changes so
+unfoldable pub changed : Page → (List Entry → List Entry) → Page
+changed no-page f = no-page
+changed (page o) f = page (withEntries o (f (o .entries)))
 
 -- what the clerk does at an accepted call: a new page, one entry more, the strikes of a step back, or nothing
 unfoldable pub written : Page → Call → Page
-written pg (open-at w) = page w []
-written pg (add r) = page (widthOf pg) (a-rule r ∷ entriesOf pg)
-written pg mark = page (widthOf pg) (a-mark ∷ entriesOf pg)
-written pg back = page (widthOf pg) (struck (entriesOf pg))
+written pg (open-at g) = page (newPage g)
+written pg (add r) = changed pg (λ es. a-rule r ∷ es)
+written pg mark = changed pg (λ es. a-mark ∷ es)
+written pg back = changed pg struck
 written pg (ask m) = pg
 
 -- the page after a call, accepted or refused

@@ -19,18 +19,37 @@ pub data Entry : Type 0 where
   a-rule : Rule → Entry
   a-mark : Entry
 
--- the page: none before the first accepted opening, then the width and the entries that stand, the newest first
+-- what an opening is given
+pub record Opening : Type 0 where
+  pub width : ℕ
+
+abbrev pub at-width : ℕ → Opening
+at-width w = record { width = w }
+
+-- what an open page has: how it was opened, and the entries that stand, the newest first
+pub record OpenPage : Type 0 where
+  pub opening : Opening
+  pub entries : List Entry
+
+-- the page of an accepted opening, and a page with other entries on it
+abbrev pub newPage : Opening → OpenPage
+newPage g = record { opening = g; entries = [] }
+
+abbrev pub withEntries : OpenPage → List Entry → OpenPage
+withEntries o es = record { opening = o .opening; entries = es }
+
+-- the page: none before the first accepted opening
 pub data Page : Type 0 where
   no-page : Page
-  page : (width : ℕ) → List Entry → Page
+  page : OpenPage → Page
 
 unfoldable pub widthOf : Page → ℕ
 widthOf no-page = 0
-widthOf (page w es) = w
+widthOf (page o) = o .opening .width
 
 unfoldable pub entriesOf : Page → List Entry
 entriesOf no-page = []
-entriesOf (page w es) = es
+entriesOf (page o) = o .entries
 
 -- the rules that stand, "numbered from 0 in the order added"
 unfoldable pub rulesOn : List Entry → List Rule
@@ -72,12 +91,14 @@ blank =
 -- the record that a page gives: what stands on it, zeros in the other places, and what is kept of its rules
 unfoldable pub fresh : Page → Sheet
 fresh no-page = blank
-fresh (page w es) =
+fresh (page o) =
+    let rs : List Rule = rulesOn (o .entries) in
+    let ms : List ℕ = marksOn (o .entries) in
     record {
-      width = w;
-      rules = padded RULES noRule (rulesOn es);
-      count = length (rulesOn es);
-      marks = padded MARKS 0 (marksOn es);
-      marked = length (marksOn es);
-      kept = kept w (rulesOn es);
+      width = o .opening .width;
+      rules = padded RULES noRule rs;
+      count = length rs;
+      marks = padded MARKS 0 ms;
+      marked = length ms;
+      kept = kept (o .opening .width) rs;
     }

@@ -1,19 +1,17 @@
 -- What a record is found to be before a call looks at anything else.
 use mathlib.Core.Path.{_≡_}
-use mathlib.Core.List.{List}
 use Prim.Native.Nat.{ℕ}
 use Rattle.rule.specs.declared.Rule.{Rule}
 use Rattle.sheet.specs.declared.Sheet.{Sheet}
 use Rattle.sheet.specs.Calls.{add, refusal}
-use Rattle.sheet.specs.Page.{Entry, fresh, no-page, page}
+use Rattle.sheet.specs.Page.{OpenPage, fresh, no-page, page}
 use Rattle.sheet.specs.Statements.{IsSheet, Reached}
 
 -- a sheet that is not blank, with its page
 pub record Standing (s : Sheet) : Type 0 where
-  pub width : ℕ
-  pub entries : List Entry
-  pub reached : Reached (page width entries)
-  pub gives : s ≡ fresh (page width entries)
+  pub on : OpenPage
+  pub reached : Reached (page on)
+  pub gives : s ≡ fresh (page on)
 
 -- "17 comes before all others": no sheet; then 1, the blank sheet; else a sheet with a page
 pub data Stands (s : Sheet) : ℕ → Type 0 where
@@ -24,4 +22,4 @@ pub data Stands (s : Sheet) : ℕ → Type 0 where
 -- the number with which a rule is refused, or 0: one of those, else what the table says
 pub data RuleSeen (s : Sheet) (r : Rule) : ℕ → Type 0 where
   before-table : {n : ℕ} → Stands s n → (n ≡ 0 → ⊥) → RuleSeen s r n
-  by-table : (p : Standing s) → RuleSeen s r (refusal (page (p .width) (p .entries)) (add r))
+  by-table : (p : Standing s) → RuleSeen s r (refusal (page (p .on)) (add r))

@@ -5,7 +5,6 @@ use mathlib.Core.List.{List, [], _∷_, _++_}
 use Prim.Native.Nat.{ℕ, _*_}
 use lib.Dec.{eqb}
 use lib.ListN.{drop, length}
-use Rattle.rule.specs.declared.Rule.{Rule}
 use Rattle.verdict.specs.declared.Kept.{Kept}
 use Rattle.verdict.specs.Kept.{keeps}
 use Rattle.chain.specs.declared.Link.{Link}
@@ -15,7 +14,7 @@ use Rattle.sheet.specs.declared.Answer.{Answer}
 use Rattle.sheet.specs.declared.Reply.{Reply}
 use Rattle.sheet.specs.declared.Sheet.{Sheet}
 use Rattle.sheet.specs.Calls.{Call, add, after, ask, back, mark, open-at, refusal, rulesOf, written}
-use Rattle.sheet.specs.Page.{Page, fresh, no-page, page, widthOf}
+use Rattle.sheet.specs.Page.{Opening, Page, fresh, newPage, no-page, page, widthOf}
 
 -- the pages that accepted calls give
 pub data Reached : Page → Type 0 where
@@ -32,16 +31,24 @@ abbrev pub answers : ℕ → Sheet → Answer
 answers n s = record { number = n; sheet = s }
 
 -- "Opening doesn't read the old record." "A refused opening keeps the old sheet; an accepted one discards it."
-unfoldable pub opened : Sheet → ℕ → Answer
-opened s w =
-    let k : ℕ = refusal no-page (open-at w) in
-    answers k (cond (eqb k 0) (fresh (page w [])) s)
+unfoldable pub opened : Sheet → Opening → Answer
+opened s g =
+    let k : ℕ = refusal no-page (open-at g) in
+    answers k (cond (eqb k 0) (fresh (page (newPage g))) s)
 
--- What an add, a mark or a step back answers, whatever record it is handed: 17 where that is no sheet, else the number of
--- the table, with the sheet of the page after the call. A refused call leaves the page, and so the sheet.
-pub record Answers (s : Sheet) (c : Call) (r : Answer) : Type 0 where
+-- What a call that reads the record answers, whatever record it is handed: 17 where that is no sheet, else the number of the
+-- table, with the sheet of the page after the call. A refused call leaves the page, and so the sheet.
+pub record Reads (s : Sheet) (c : Call) (r : Answer) : Type 0 where
   pub no-sheet : (IsSheet s → ⊥) → r ≡ answers 17 s
   pub on-page : (pg : Page) → Reached pg → s ≡ fresh pg → r ≡ answers (refusal pg c) (fresh (after pg c))
+
+-- What each call answers: an opening reads no record, the others do. Asking gives a reply (`Asked`).
+unfoldable pub Outcome : Sheet → Call → Answer → Type 0
+Outcome s (open-at g) r = r ≡ opened s g
+Outcome s (add u) r = Reads s (add u) r
+Outcome s mark r = Reads s mark r
+Outcome s back r = Reads s back r
+Outcome s (ask m) r = ⊥
 
 abbrev pub replies : ℕ → Kept → ℕ → Reply
 replies n k l = record { number = n; kept = k; links = l }
@@ -70,10 +77,7 @@ pub record Asked (s : Sheet) (b b′ : List ℕ) (r : Reply) : Type 0 where
   pub on-page : (pg : Page) → Reached pg → s ≡ fresh pg → (r ≡ reply pg (length b)) × (b′ ≡ overlaid (chainOn pg (length b)) b)
 
 -- Calls one after another, refused ones among them, each with any outcome that satisfies its statement.
-pub data Run : Sheet → List Call → Sheet → Type 0 where
-  done : {s : Sheet} → Run s [] s
-  then-open : {s t : Sheet} {cs : List Call} (w : ℕ) → Run (opened s w .sheet) cs t → Run s (open-at w ∷ cs) t
-  then-add : {s t : Sheet} {cs : List Call} (u : Rule) (r : Answer) → Answers s (add u) r → Run (r .sheet) cs t → Run s (add u ∷ cs) t
-  then-mark : {s t : Sheet} {cs : List Call} (r : Answer) → Answers s mark r → Run (r .sheet) cs t → Run s (mark ∷ cs) t
-  then-back : {s t : Sheet} {cs : List Call} (r : Answer) → Answers s back r → Run (r .sheet) cs t → Run s (back ∷ cs) t
-  then-ask : {s t : Sheet} {cs : List Call} (b b′ : List ℕ) (r : Reply) → Asked s b b′ r → Run s cs t → Run s (ask (length b) ∷ cs) t
+pub data Sequence : Sheet → List Call → Sheet → Type 0 where
+  done : {s : Sheet} → Sequence s [] s
+  calls : {s t : Sheet} {cs : List Call} (c : Call) (r : Answer) → Outcome s c r → Sequence (r .sheet) cs t → Sequence s (c ∷ cs) t
+  asks : {s t : Sheet} {cs : List Call} (b b′ : List ℕ) (r : Reply) → Asked s b b′ r → Sequence s cs t → Sequence s (ask (length b) ∷ cs) t

@@ -5,9 +5,9 @@ ghost use mathlib.Core.List.{_++_};
 ghost use Prim.Native.Nat.{_-_, _≤_};
 ghost use lib.ListN.{replicate, take};
 ghost use Rattle.rule.specs.Meaning.{RULES};
-ghost use Rattle.sheet.specs.Calls.{add, back, mark};
-ghost use Rattle.sheet.specs.Page.{blank, noRule};
-ghost use Rattle.sheet.specs.Statements.{Answers, Asked, answers, opened, refuses};
+ghost use Rattle.sheet.specs.Calls.{add, back, mark, open-at};
+ghost use Rattle.sheet.specs.Page.{at-width, blank, noRule};
+ghost use Rattle.sheet.specs.Statements.{Asked, Outcome, answers, refuses};
 ghost use Rattle.sheet.specs.Stands.{RuleSeen, Stands};
 use crate::Answer;
 use crate::Reply;
@@ -45,7 +45,7 @@ impl Sheet {
 
     // Opens a new sheet. The old record is kept where the width is refused, and is not read.
     pub fn open(self, width: u64) -> Answer
-        ensures { λ r. ⌜ r ≡ opened self width ⌝ }
+        ensures { λ r. ⌜ Outcome self (open-at (at-width width)) r ⌝ }
     {
         if width < 1 {
             return self.refused(2);
@@ -63,7 +63,7 @@ impl Sheet {
 
     // Adds a rule.
     pub fn add(self, rule: Rule) -> Answer
-        ensures { λ r. ⌜ Answers self (add rule) r ⌝ }
+        ensures { λ r. ⌜ Outcome self (add rule) r ⌝ }
     {
         let number = self.refuses_rule(rule);
         if number != 0 {
@@ -81,7 +81,7 @@ impl Sheet {
 
     // Sets a mark.
     pub fn mark(self) -> Answer
-        ensures { λ r. ⌜ Answers self mark r ⌝ }
+        ensures { λ r. ⌜ Outcome self mark r ⌝ }
     {
         let number = self.standing();
         if number != 0 {
@@ -99,7 +99,7 @@ impl Sheet {
 
     // Goes back to the newest mark: strikes it and the rules added after it.
     pub fn back(self) -> Answer
-        ensures { λ r. ⌜ Answers self back r ⌝ }
+        ensures { λ r. ⌜ Outcome self back r ⌝ }
     {
         let number = self.standing();
         if number != 0 {

@@ -53,6 +53,7 @@ use denote.Signature.Array.{arrayOf}
 use Rattle.rule.specs.declared.Rule.{Rule}
 use Rattle.rule.proofs.Rule as R
 use Rattle.rule.proofs.Rule.Laws as R′
+use Rattle.sheet.specs.Page.{at-width}
 use Rattle.batch.specs.declared.Batch.{Batch}
 use Rattle.batch.specs.Batch.{Batched}
 use Rattle.batch.proofs.Batch as B
@@ -187,7 +188,7 @@ module _ {M : Type 1} (𝓤 : URA M) (H : Heap 𝓤) (A : Atoms 𝓤) (W : Given
   abbrev OwnOut : Fml
   OwnOut = MutSlice (named 0) κ u64 .own out (sliceVal (b, o) m ∷ [])
 
-  exits : (r : Batch) (v : Val) (zs : List ℕ) → Batched w vs ys zs r → length zs ≡ m
+  exits : (r : Batch) (v : Val) (zs : List ℕ) → Batched (at-width w) vs ys zs r → length zs ≡ m
       → ent 𝓤 (⋆ 𝓤 H A (‵ (B.the-row .own r (v ∷ [])) ∷ (‵ (flft κ q) ⊛ ‵ ftrue) ∷ ‵ (finally u64 γ zs) ∷ [])) (Post v)
   exits r v zs e l =
       qed W (‵ (B.the-row .own r (v ∷ [])) ∷ (‵ (flft κ q) ⊛ ‵ ftrue) ∷ ‵ (finally u64 γ zs) ∷ []) ∵
@@ -288,8 +289,8 @@ module _ {M : Type 1} (𝓤 : URA M) (H : Heap 𝓤) (A : Atoms 𝓤) (W : Given
         split ! $ move ! (1 ∷ []) $ use1 W
         (some (λ (zs : Unit {0} × (Unit {0} × (List ℕ × Unit {0}))). ‵
         (lasts run′.ended (α ∷ [], (κ, tt)) (w, (rules α l₅ γ₁, (out, tt))) zs)
-        ⊛ raw (fact 𝓤 (Batched w vs ys (zs .1 .1 .0) r)))) (id⊢ 𝓤 _) $ pick ! (λ zs.
-        split ! $ move ! (1 ∷ []) $ heard ! (Batched w vs ys (zs .1 .1 .0) r) (λ e.
+        ⊛ raw (fact 𝓤 (Batched (at-width w) vs ys (zs .1 .1 .0) r)))) (id⊢ 𝓤 _) $ pick ! (λ zs.
+        split ! $ move ! (1 ∷ []) $ heard ! (Batched (at-width w) vs ys (zs .1 .1 .0) r) (λ e.
         fsplit ! $ drop ! $ fsplit ! $ drop ! $ fsplit ! $ fsplit ! $ move ! (1 ∷ []) $ feqL ! (λ l.
         -- the lifetime is over, and the rules come back: [the list; the token 1; the result; the last list; …; _9 7; _8; _7;
         -- _6; …; _4 16; _3; _2; _1; _0]

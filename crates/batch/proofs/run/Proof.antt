@@ -50,7 +50,7 @@ use denote.Signature.{plain}
 use Rattle.rule.specs.declared.Rule.{Rule}
 use Rattle.rule.proofs.Rule as R
 use Rattle.rule.proofs.Rule.Laws as R′
-use Rattle.sheet.specs.Page.{noRule}
+use Rattle.sheet.specs.Page.{at-width, noRule}
 use Rattle.batch.specs.declared.Batch.{Batch}
 use Rattle.batch.specs.declared.course.Course.{Course}
 use Rattle.batch.specs.Course.{Finished, Stepped, begun, goes}
@@ -102,7 +102,7 @@ lentTy = sliceTy lentRef
 -- where a turn of the loop begins: a course that is under way, with its machine value
 record Turn (x : Called) : Type 0 where
   course : Course
-  way : UnderWay (x .w) (now (x .rules)) (length (now (x .out))) course
+  way : UnderWay (at-width (x .w)) (now (x .rules)) (length (now (x .out))) course
   is : IsCourse course (courseVal course)
 
 -- what is known of the functions called
@@ -196,7 +196,7 @@ module _ {M : Type 1} (𝓤 : URA M) (H : Heap 𝓤) (A : Atoms 𝓤) (W : Given
         → Sq W (I t) (runs C Λ E (seq (call #goes (copy (place 5 []) ∷ copy (place 4 []) ∷ []) (place 7 [])) rest) Q)
     tested t z so k =
         use0 W (raw (Goes 𝓤 H A mem run .pre (Asks.to-goes 𝓤 H A W mem run x c)))
-        (Asks.asks-goes 𝓤 H A W mem run x c (t .is) (place-fits (x .w) us m (t .way))) $
+        (Asks.asks-goes 𝓤 H A W mem run x c (t .is) (place-fits (at-width (x .w)) us m (t .way))) $
         calls-at ! fm (Goes 𝓤 H A mem run) (known .tests) (Asks.to-goes 𝓤 H A W mem run x c)
         (and-then ! (load ! (from ! (stop !)) (look ! 1 refl)) (and-then ! (load ! (from ! (stop !)) (look ! 10 refl))
         (no-more !)))
@@ -250,8 +250,8 @@ module _ {M : Type 1} (𝓤 : URA M) (H : Heap 𝓤) (A : Atoms 𝓤) (W : Given
         rewrite ! 2 (λ (y : Val). ‵ (fat fullShare T′.mir l₅ 0 y)) (course-tells r v is) refl $
         forget ! 3 refl $ forget ! 4 refl $ forget ! 5 refl $ forget ! 6 refl $ forget ! 7 refl $
         move ! (2 ∷ 3 ∷ 4 ∷ 5 ∷ 6 ∷ 7 ∷ 1 ∷ 0 ∷ []) $
-        again ! Less I t (record { course = r; way = step-way (x .w) us m c more r e (t .way); is = spelled r v is })
-        (step-less (x .w) us m c more r e))))))
+        again ! Less I t (record { course = r; way = step-way (at-width (x .w)) us m c more r e (t .way); is = spelled r v is })
+        (step-less (at-width (x .w)) us m c more r e))))))
       where
         c : Course
         c = t .course
@@ -263,7 +263,7 @@ module _ {M : Type 1} (𝓤 : URA M) (H : Heap 𝓤) (A : Atoms 𝓤) (W : Given
         u = getD us p noRule
 
         inside : p < n
-        inside = within (x .w) us m c more
+        inside = within (at-width (x .w)) us m c more
 
         place-small : p < 2 ^ 64
         place-small = omega (arith, inside, x .room .0)
@@ -315,7 +315,7 @@ module _ {M : Type 1} (𝓤 : URA M) (H : Heap 𝓤) (A : Atoms 𝓤) (W : Given
         move ! (6 ∷ 15 ∷ []) $ free1 ! $ move ! (5 ∷ 14 ∷ []) $ free1 ! $ move ! (5 ∷ 13 ∷ []) $ free1 ! $
         move ! (5 ∷ 12 ∷ []) $ free1 ! $ move ! (5 ∷ 11 ∷ []) $ free1 ! $ move ! (7 ∷ 10 ∷ []) $ free1 ! $
         move ! (7 ∷ 9 ∷ []) $ free1 ! $ free0 ! $ keep ! (6 ∷ 1 ∷ 7 ∷ 3 ∷ 0 ∷ []) $
-        by ! (Asks.exits 𝓤 H A W mem run x r v (zs .1 .0) (finish-way (x .w) us c ys (zs .1 .0) r f (t .way) none-left) l))))))))
+        by ! (Asks.exits 𝓤 H A W mem run x r v (zs .1 .0) (finish-way (at-width (x .w)) us c ys (zs .1 .0) r f (t .way) none-left) l))))))))
       where
         c : Course
         c = t .course
@@ -357,7 +357,7 @@ module _ {M : Type 1} (𝓤 : URA M) (H : Heap 𝓤) (A : Atoms 𝓤) (W : Given
         use1 W
         (later (some (λ (r : Course). (‵ ftrue ⊛ ‵ (T.the-row .own r (v ∷ [])))
         ⊛ raw (ensured 𝓤 H A begin.ended (begin.clauses 𝓤 H A mem run) tt (x .w, (n, tt)) tt r)))) (id⊢ 𝓤 _) $
-        answered ! tt T.the-row v _ (λ r. r ≡ begun (x .w) n) (begin-says 𝓤 H A mem run (x .w) n) (λ r e is.
+        answered ! tt T.the-row v _ (λ r. r ≡ begun (at-width (x .w)) n) (begin-says 𝓤 H A mem run (x .w) n) (λ r e is.
         land ! (from ! (stop !)) (init ! 14 refl (LL.lawful T.the-type T′.the-laws 𝓤 H A W .typed r _ is .0)) $
         rewrite ! 14 (λ (y : Val). ‵ (fat fullShare T′.mir l₅ 0 y)) (course-tells r v is) refl $
         -- of what rules owns one copy is kept for the exit, and of the other the borrow
@@ -370,7 +370,7 @@ module _ {M : Type 1} (𝓤 : URA M) (H : Heap 𝓤) (A : Atoms 𝓤) (W : Given
         first ! $ blocks ! $
         keep ! (21 ∷ 17 ∷ 19 ∷ 15 ∷ 13 ∷ 11 ∷ 5 ∷ 2 ∷ 27 ∷ 23 ∷ 29 ∷ 25 ∷ 31 ∷ 9 ∷ 7 ∷ 6 ∷ 3 ∷ 0
         ∷ 32 ∷ 30 ∷ 28 ∷ 26 ∷ 24 ∷ 22 ∷ 20 ∷ 18 ∷ 16 ∷ 14 ∷ 12 ∷ 10 ∷ 8 ∷ []) $
-        looped (record { course = r; way = subst (UnderWay (x .w) us m) (sym e) (begun-way (x .w) us m); is = spelled r v is })))
+        looped (record { course = r; way = subst (UnderWay (at-width (x .w)) us m) (sym e) (begun-way (at-width (x .w)) us m); is = spelled r v is })))
 
   walk : (𝓣 : Tables 𝓤 H) → Known 𝓤 H A mem run 𝓣
       → ent 𝓤

@@ -34,6 +34,7 @@ use denote.Signature.{plain}
 use Rattle.rule.specs.declared.Rule.{Rule}
 use Rattle.rule.proofs.Rule as R
 use Rattle.rule.proofs.Rule.Laws as R′
+use Rattle.sheet.specs.Page.{at-width}
 use Rattle.batch.specs.declared.Batch.{Batch}
 use Rattle.batch.specs.declared.course.Course.{Course}
 use Rattle.batch.specs.Batch.{Batched}
@@ -94,9 +95,9 @@ module _ {M : Type 1} (𝓤 : URA M) (H : Heap 𝓤) (A : Atoms 𝓤) (mem : Mem
 
   -- of the first three callees' `ensured`, the clause alone: none has a last value
   pub begin-says : (w n : ℕ) (r : Course)
-      → ent 𝓤 (ensured 𝓤 H A begin.ended (begin.clauses 𝓤 H A mem run) tt (w, (n, tt)) tt r) (fact 𝓤 (r ≡ begun w n))
+      → ent 𝓤 (ensured 𝓤 H A begin.ended (begin.clauses 𝓤 H A mem run) tt (w, (n, tt)) tt r) (fact 𝓤 (r ≡ begun (at-width w) n))
   begin-says w n r =
-      exE 𝓤 _ (λ ws. snd∗ 𝓤 (sem 𝓤 H A (lasts begin.ended tt (w, (n, tt)) ws)) (fact 𝓤 (r ≡ begun w n)))
+      exE 𝓤 _ (λ ws. snd∗ 𝓤 (sem 𝓤 H A (lasts begin.ended tt (w, (n, tt)) ws)) (fact 𝓤 (r ≡ begun (at-width w) n)))
 
   pub goes-says : (c : Course) (n : ℕ) (r : Bool)
       → ent 𝓤 (ensured 𝓤 H A goes′.ended (goes′.clauses 𝓤 H A mem run) tt (c, (n, tt)) tt r) (fact 𝓤 (r ≡ goes c n))
@@ -176,7 +177,7 @@ module _ {M : Type 1} (𝓤 : URA M) (H : Heap 𝓤) (A : Atoms 𝓤) (W : Given
       ∷ ‵ (B.the-row .own r (v ∷ []))
       ∷ []
 
-  pub exits : (r : Batch) (v : Val) (zs : List ℕ) → Batched (x .w) (now (x .rules)) (now (x .out)) zs r
+  pub exits : (r : Batch) (v : Val) (zs : List ℕ) → Batched (at-width (x .w)) (now (x .rules)) (now (x .out)) zs r
       → length zs ≡ length (now (x .out)) → ent 𝓤 (⋆ 𝓤 H A (Had r v zs)) (Post v)
   exits r v zs e l =
       qed W (Had r v zs) ∵

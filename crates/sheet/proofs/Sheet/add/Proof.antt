@@ -6,14 +6,14 @@ use borrow.Author.Needs.{needs}
 use Rattle.rule.specs.Meaning.{RULES}
 use Rattle.verdict.specs.declared.Kept.{Kept}
 use Rattle.sheet.specs.declared.Sheet.{Sheet}
-use Rattle.sheet.specs.Calls.{add, refusal, written}
-use Rattle.sheet.specs.Page.{entriesOf, page, widthOf}
+use Rattle.sheet.specs.Calls.{add, changed, refusal, written}
+use Rattle.sheet.specs.Page.{page}
 use Rattle.sheet.specs.Stands.{Standing}
-use Rattle.sheet.specs.Statements.{Answers}
+use Rattle.sheet.specs.Statements.{Outcome, Reads}
 use Rattle.sheet.proofs.Fresh.{after-add, withRule}
 use Rattle.sheet.proofs.Refusals.{added-rule}
 use Rattle.sheet.proofs.Stands.{accepted-rule, known, refused-rule, rules-lawful, width-of, with-rule}
-use Rattle.sheet.proofs.Ways.{accepted-answers}
+use Rattle.sheet.proofs.Ways.{accepted-reads}
 use Rattle.sheet.proofs.Sheet.add.Statement.{statement}
 use Rattle.sheet.proofs.Sheet.add.Tie as tie
 
@@ -21,14 +21,14 @@ abbrev keeping : Sheet → Kept → Sheet
 keeping s k = record { width = s .width; rules = s .rules; count = s .count; marks = s .marks; marked = s .marked; kept = k }
 
 -- the page, which takes the rule
-on : (a : tie.Else1) → (p : Standing (a .before .before .args .self)) × (refusal (page (p .width) (p .entries)) (add (a .before .before .args .rule)) ≡ 0)
+on : (a : tie.Else1) → (p : Standing (a .before .before .args .self)) × (refusal (page (p .on)) (add (a .before .before .args .rule)) ≡ 0)
 on a = accepted-rule (a .before .refuses-rule .ensures) (a .if1 .left)
 
 room : (a : tie.Else1) → a .before .before .args .self .count < RULES
 room a =
     let p = on a in
     let g = known (p .0) in
-    omega (arith, added-rule _ _ _ (p .1) .1)
+    omega (arith, added-rule _ _ (p .1) .1)
 
 refuses-rule-requires : tie.Need-refuses-rule-requires
 refuses-rule-requires c κs = search needs
@@ -37,7 +37,8 @@ refused-requires : tie.Need-refused-requires
 refused-requires c κs = search needs
 
 returns : tie.Need-returns
-returns c = subst (Answers _ _) (sym (c .refused .ensures)) (refused-rule (c .before .before .refuses-rule .ensures) (c .before .if1 .taken))
+unfolding Outcome
+returns c = subst (Reads _ _) (sym (c .refused .ensures)) (refused-rule (c .before .before .refuses-rule .ensures) (c .before .if1 .taken))
 
 mul-rule : tie.Need-mul-rule
 mul-rule c = omega (arith, room c)
@@ -58,12 +59,12 @@ solve-requires c κs =
     (width-of q, (omega (arith, room (c .before)), rules-lawful q))
 
 returns-2 : tie.Need-returns-2
-unfolding written widthOf entriesOf
+unfolding Outcome written changed
 returns-2 c =
     let p = on (c .before .before) in
     let s = c .before .before .before .before .args .self in
-    accepted-answers _ (p .0 .reached) (p .0 .gives) _ (p .1)
-    (after-add (p .0 .width) (p .0 .entries) (p .0 .gives) _ (added-rule _ _ _ (p .1) .1) ∙ ap (keeping (withRule s (c .before .before .before .before .args .rule))) (sym (c .solve .ensures)))
+    accepted-reads _ (p .0 .reached) (p .0 .gives) _ (p .1)
+    (after-add _ (p .0 .gives) _ (added-rule _ _ (p .1) .1) ∙ ap (keeping (withRule s (c .before .before .before .before .args .rule))) (sym (c .solve .ensures)))
 
 pub add-spec : {M : Type 1} → statement M
 add-spec =

@@ -11,22 +11,22 @@ use Rattle.rule.specs.declared.Rule.{Rule}
 use Rattle.rule.specs.Meaning.{AllLawful, RULES}
 use Rattle.verdict.specs.Kept.{kept}
 use Rattle.sheet.specs.declared.Sheet.{Sheet}
-use Rattle.sheet.specs.Calls.{back, written}
-use Rattle.sheet.specs.Page.{entriesOf, marksOn, widthOf}
+use Rattle.sheet.specs.Calls.{back, changed, written}
+use Rattle.sheet.specs.Page.{marksOn}
 use Rattle.sheet.specs.Stands.{Standing}
-use Rattle.sheet.specs.Statements.{Answers}
+use Rattle.sheet.specs.Statements.{Outcome, Reads}
 use Rattle.sheet.proofs.Fresh.{after-back, back-low, leaves}
 use Rattle.sheet.proofs.Lawful.{reached-lawful}
 use Rattle.sheet.proofs.Refusals.{back-fits, back-none, blank-back}
 use Rattle.sheet.proofs.Stands.{has-page, known, refused-standing, rules-lawful, stepped-back, width-of}
-use Rattle.sheet.proofs.Ways.{accepted-answers, refused-answers}
+use Rattle.sheet.proofs.Ways.{accepted-reads, refused-reads}
 use Rattle.sheet.proofs.Sheet.back.Statement.{statement}
 use Rattle.sheet.proofs.Sheet.back.Tie as tie
 
 on : (a : tie.Else1) → Standing (a .before .before .args .self)
 on a = has-page (a .before .standing .ensures) (a .if1 .left)
 
-some : (a : tie.Else2) → 0 < length (marksOn (on (a .before) .entries))
+some : (a : tie.Else2) → 0 < length (marksOn (on (a .before) .on .entries))
 some a = let g = known (on (a .before)) in omega arith
 
 -- what stays is no more than there was
@@ -34,7 +34,7 @@ low : (a : tie.Else2) → leaves (a .before .before .before .args .self) ≤ RUL
 low a =
     let p = on (a .before) in
     let g = known p in
-    omega (arith, back-low (p .width) (p .entries) (p .gives) (some a), reached-lawful (p .reached) .rules-fit)
+    omega (arith, back-low _ (p .gives) (some a), reached-lawful (p .reached) .rules-fit)
 
 few : (a : tie.Else2) → a .before .before .before .args .self .marked - 1 < 16
 few a = let p = on (a .before) in let g = known p in omega (arith, reached-lawful (p .reached) .marks-fit, some a)
@@ -46,17 +46,19 @@ refused-requires : tie.Need-refused-requires
 refused-requires c κs = search needs
 
 returns : tie.Need-returns
-returns c = subst (Answers _ back) (sym (c .refused .ensures)) (refused-standing (c .before .before .standing .ensures) (c .before .if1 .taken) back blank-back)
+unfolding Outcome
+returns c = subst (Reads _ back) (sym (c .refused .ensures)) (refused-standing (c .before .before .standing .ensures) (c .before .if1 .taken) back blank-back)
 
 refused-requires-2 : tie.Need-refused-requires-2
 refused-requires-2 c κs = search needs
 
 returns-2 : tie.Need-returns-2
+unfolding Outcome
 returns-2 c =
     let p = on (c .before .before) in
     let g = known p in
-    subst (Answers _ back) (sym (c .refused2 .ensures))
-    (refused-answers _ (p .reached) (p .gives) back (back-none _ _ (omega arith)) (λ e. omega arith))
+    subst (Reads _ back) (sym (c .refused2 .ensures))
+    (refused-reads _ (p .reached) (p .gives) back (back-none _ (omega arith)) (λ e. omega arith))
 
 sub-at : tie.Need-sub-at
 sub-at c = search needs
@@ -97,13 +99,13 @@ front-rules c =
     ∙ take-at (take (leaves s) (s .rules)) _ (leaves s) (length-take-le (leaves s) (s .rules) (omega (arith, low a)))
 
 returns-3 : tie.Need-returns-3
-unfolding written widthOf entriesOf
+unfolding Outcome written changed
 returns-3 c =
     let a = c .before .before .before .before in
     let s = a .before .before .before .args .self in
     let p = on (a .before) in
-    accepted-answers _ (p .reached) (p .gives) back (back-fits _ _ (some a))
-    (after-back (p .width) (p .entries) (p .gives) (some a) (reached-lawful (p .reached) .marks-fit)
+    accepted-reads _ (p .reached) (p .gives) back (back-fits _ (some a))
+    (after-back _ (p .gives) (some a) (reached-lawful (p .reached) .marks-fit)
     ∙ (λ i.
     record {
       width = s .width;

@@ -2,15 +2,14 @@
 use mathlib.Core.Path.{sym, subst}
 use native.Mathlib.Omega.{arith}
 use borrow.Author.Needs.{needs}
-use Rattle.sheet.specs.Calls.{mark, written}
-use Rattle.sheet.specs.Page.{entriesOf, widthOf}
+use Rattle.sheet.specs.Calls.{changed, mark, written}
 use Rattle.sheet.specs.Stands.{Standing}
-use Rattle.sheet.specs.Statements.{Answers}
+use Rattle.sheet.specs.Statements.{Outcome, Reads}
 use Rattle.sheet.proofs.Fresh.{after-mark, given}
 use Rattle.sheet.proofs.Lawful.{reached-lawful}
 use Rattle.sheet.proofs.Refusals.{blank-mark, mark-fits, mark-full}
 use Rattle.sheet.proofs.Stands.{has-page, refused-standing}
-use Rattle.sheet.proofs.Ways.{accepted-answers, refused-answers}
+use Rattle.sheet.proofs.Ways.{accepted-reads, refused-reads}
 use Rattle.sheet.proofs.Sheet.mark.Statement.{statement}
 use Rattle.sheet.proofs.Sheet.mark.Tie as tie
 
@@ -24,17 +23,19 @@ refused-requires : tie.Need-refused-requires
 refused-requires c κs = search needs
 
 returns : tie.Need-returns
-returns c = subst (Answers _ mark) (sym (c .refused .ensures)) (refused-standing (c .before .before .standing .ensures) (c .before .if1 .taken) mark blank-mark)
+unfolding Outcome
+returns c = subst (Reads _ mark) (sym (c .refused .ensures)) (refused-standing (c .before .before .standing .ensures) (c .before .if1 .taken) mark blank-mark)
 
 refused-requires-2 : tie.Need-refused-requires-2
 refused-requires-2 c κs = search needs
 
 returns-2 : tie.Need-returns-2
+unfolding Outcome
 returns-2 c =
     let p = on (c .before .before) in
-    let g = given _ _ (p .gives) (reached-lawful (p .reached)) in
-    subst (Answers _ mark) (sym (c .refused2 .ensures))
-    (refused-answers _ (p .reached) (p .gives) mark (mark-full _ _ (omega arith)) (λ e. omega arith))
+    let g = given _ (p .gives) (reached-lawful (p .reached)) in
+    subst (Reads _ mark) (sym (c .refused2 .ensures))
+    (refused-reads _ (p .reached) (p .gives) mark (mark-full _ (omega arith)) (λ e. omega arith))
 
 mul-sheet : tie.Need-mul-sheet
 mul-sheet c = search needs
@@ -46,11 +47,11 @@ add-sheet : tie.Need-add-sheet
 add-sheet c = search needs
 
 returns-3 : tie.Need-returns-3
-unfolding written widthOf entriesOf
+unfolding Outcome written changed
 returns-3 c =
     let p = on (c .before) in
-    let g = given _ _ (p .gives) (reached-lawful (p .reached)) in
-    accepted-answers _ (p .reached) (p .gives) mark (mark-fits _ _ (omega arith)) (after-mark _ _ (p .gives) (omega arith))
+    let g = given _ (p .gives) (reached-lawful (p .reached)) in
+    accepted-reads _ (p .reached) (p .gives) mark (mark-fits _ (omega arith)) (after-mark _ (p .gives) (omega arith))
 
 pub mark-spec : {M : Type 1} → statement M
 mark-spec =

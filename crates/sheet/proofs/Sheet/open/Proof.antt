@@ -5,6 +5,7 @@ use native.Mathlib.Omega.{arith}
 use borrow.Author.Needs.{needs}
 use Rattle.rule.specs.Meaning.{AllLawful}
 use Rattle.sheet.specs.Page.{fresh, marksOn, no-page, rulesOn}
+use Rattle.sheet.specs.Statements.{Outcome}
 use Rattle.sheet.proofs.Refusals.{open-fits, open-narrow, open-wide}
 use Rattle.sheet.proofs.Ways.{accepted-open, refused-open}
 use Rattle.sheet.proofs.Sheet.open.Statement.{statement}
@@ -14,12 +15,14 @@ refused-requires : tie.Need-refused-requires
 refused-requires c κs = search needs
 
 returns : tie.Need-returns
+unfolding Outcome
 returns c = c .refused .ensures ∙ refused-open _ _ (open-narrow no-page _ (c .before .if1 .taken)) (λ e. omega arith)
 
 refused-requires-2 : tie.Need-refused-requires-2
 refused-requires-2 c κs = search needs
 
 returns-2 : tie.Need-returns-2
+unfolding Outcome
 returns-2 c = c .refused2 .ensures ∙ refused-open _ _ (open-wide no-page _ (c .before .if2 .taken)) (λ e. omega arith)
 
 blank-requires : tie.Need-blank-requires
@@ -30,7 +33,7 @@ unfolding AllLawful
 solve-requires c κs = (record { low = omega arith; high = omega arith }, (omega arith, tt))
 
 returns-3 : tie.Need-returns-3
-unfolding fresh rulesOn marksOn
+unfolding Outcome fresh rulesOn marksOn
 returns-3 c =
     let s = c .before .before .before .before .before in
     let p = c .before .before .blank .ensures in

@@ -19,7 +19,7 @@ on : (a : tie.Else1) → Standing (a .before .before .args .self)
 on a = has-page (a .before .standing .ensures) (a .if1 .left)
 
 -- what the table says is what the page's number is
-seen : {s : Sheet} {r : Rule} {n : ℕ} (p : Standing s) → refusal (page (p .width) (p .entries)) (add r) ≡ n → RuleSeen s r n
+seen : {s : Sheet} {r : Rule} {n : ℕ} (p : Standing s) → refusal (page (p .on)) (add r) ≡ n → RuleSeen s r n
 seen {s} {r} p q = subst (RuleSeen s r) q (by-table p)
 
 standing-requires : tie.Need-standing-requires
@@ -34,7 +34,7 @@ bad-form-requires c κs = search needs
 returns-2 : tie.Need-returns-2
 returns-2 c =
     let p = on (c .before .before) in
-    seen p (add-form _ _ _ (sym (c .before .bad-form .ensures) ∙ c .if2 .taken))
+    seen p (add-form _ _ (sym (c .before .bad-form .ensures) ∙ c .if2 .taken))
 
 bad-sense-requires : tie.Need-bad-sense-requires
 bad-sense-requires c κs = search needs
@@ -46,7 +46,7 @@ returns-3 : tie.Need-returns-3
 returns-3 c =
     let e = c .before .before in
     let p = on (e .before .before) in
-    seen p (add-sense _ _ _ (good-form e) (sym (c .before .bad-sense .ensures) ∙ c .if3 .taken))
+    seen p (add-sense _ _ (good-form e) (sym (c .before .bad-sense .ensures) ∙ c .if3 .taken))
 
 good-sense : (c : tie.Else3) → badSense (c .before .before .before .before .before .before .args .rule) ≡ false
 good-sense c = sym (c .before .bad-sense .ensures) ∙ c .if3 .left
@@ -59,10 +59,10 @@ returns-4 c =
     let e = c .before .before in
     let p = on (e .before .before .before .before) in
     seen p
-    (add-constant _ _ _ (good-form (e .before .before)) (good-sense e)
+    (add-constant _ _ (good-form (e .before .before)) (good-sense e)
     (subst (λ (w : ℕ). badConstant w (e .before .before .before .before .before .before .args .rule) ≡ true) (known p .width) (sym (c .before .bad-constant .ensures) ∙ c .if4 .taken)))
 
-allowed : (c : tie.Else4) → Allowed (on (c .before .before .before .before .before .before) .width) (c .before .before .before .before .before .before .before .before .args .rule)
+allowed : (c : tie.Else4) → Allowed (on (c .before .before .before .before .before .before) .on .opening .width) (c .before .before .before .before .before .before .before .before .args .rule)
 allowed c =
     let e = c .before .before in
     let p = on (e .before .before .before .before) in
@@ -77,14 +77,14 @@ returns-5 c =
     let e = c .before .before in
     let p = on (e .before .before .before .before .before .before) in
     let g = known p in
-    seen p (add-full _ _ _ (allowed e) (omega arith))
+    seen p (add-full _ _ (allowed e) (omega arith))
 
 returns-6 : tie.Need-returns-6
 returns-6 c =
     let e = c .before .before in
     let p = on (e .before .before .before .before .before .before) in
     let g = known p in
-    seen p (add-fits _ _ _ (allowed e) (omega arith))
+    seen p (add-fits _ _ (allowed e) (omega arith))
 
 pub refuses-rule-spec : {M : Type 1} → statement M
 refuses-rule-spec =

@@ -3,16 +3,17 @@ use mathlib.Core.Path.{_≡_, ap, _∙_}
 use borrow.Author.Needs.{needs}
 use Rattle.sheet.specs.declared.Answer.{Answer}
 use Rattle.sheet.specs.declared.Sheet.{Sheet}
-use Rattle.sheet.specs.Page.{blank}
-use Rattle.sheet.specs.Statements.{opened}
+use Rattle.sheet.specs.Page.{at-width, blank}
+use Rattle.sheet.specs.Statements.{Outcome, opened}
 use Rattle.batch.specs.Course.{begun, onward}
 use Rattle.batch.proofs.Onward.{goes-on, stops-at}
 use Rattle.batch.proofs.course.Course.begin.Statement.{statement}
 use Rattle.batch.proofs.course.Course.begin.Tie as tie
 
 -- the sheet that is opened is the blank one
-opened-blank : (c : tie.After-open) → c .«open» .result ≡ opened blank (c .before .before .args .width)
-opened-blank c = c .«open» .ensures ∙ ap (λ (s : Sheet). opened s (c .before .before .args .width)) (c .before .blank .ensures)
+opened-blank : (c : tie.After-open) → c .«open» .result ≡ opened blank (at-width (c .before .before .args .width))
+unfolding Outcome
+opened-blank c = c .«open» .ensures ∙ ap (λ (s : Sheet). opened s (at-width (c .before .before .args .width))) (c .before .blank .ensures)
 
 blank-requires : tie.Need-blank-requires
 blank-requires c κs = search needs
