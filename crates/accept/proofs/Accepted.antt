@@ -4,13 +4,14 @@ use mathlib.Core.Bool.{Bool, true, false, true≢false, not, _&&_, _||_}
 use mathlib.Core.List.{List, [], _∷_}
 use Prim.Native.Nat.{ℕ, _≤_}
 use native.Mathlib.Omega.{arith}
-use borrow.Author.Tests.{eq-eqb, eqb-false, ltb-false, not-true}
+use borrow.Author.Tests.{eq-eqb, eqb-false, eqb-true, ltb-false}
 use lib.Dec.{eqb, leb, ltb}
 use Rattle.word.specs.Word.{top}
 use Rattle.word.proofs.Tests.{both-pass}
 use Rattle.rule.specs.declared.Rule.{Rule}
 use Rattle.rule.specs.Meaning.{AllLawful, Lawful}
-use Rattle.accept.specs.Accept.{badConstant, badForm, badSense, acceptable, allAcceptable}
+use Rattle.accept.specs.Accept.{acceptable, badConstant, badSense, every, refusalOf, ruleGrounds}
+use Rattle.accept.proofs.Grounds.{none-given}
 
 both-fail : (a b : Bool) → (a || b) ≡ false → (a ≡ false) × (b ≡ false)
 both-fail true b e = absurd (true≢false e)
@@ -36,15 +37,15 @@ words w r e =
     (ltb-false _ _ (p .0), ltb-false _ _ (p .1))
 
 lawful : (w : ℕ) (r : Rule) → acceptable w r ≡ true → Lawful w r
-unfolding acceptable
+unfolding acceptable refusalOf ruleGrounds
 lawful w r e =
-    let s = both-pass (not (badForm r)) (not (badSense r) && not (badConstant w r)) e in
-    let p = both-pass (not (badSense r)) (not (badConstant w r)) (s .1) in
-    let q = words w r (not-true _ (p .1)) in
-    record { c1-word = q .0; c2-word = q .1; plain = plain-sense r (not-true _ (p .0)) }
+    let form = none-given 2 _ _ (eqb-true (refusalOf w r) 0 e) in
+    let sense = none-given 3 _ _ (form .1) in
+    let q = words w r (none-given 4 _ _ (sense .1) .0) in
+    record { c1-word = q .0; c2-word = q .1; plain = plain-sense r (sense .0) }
 
-pub all-lawful : (w : ℕ) (rs : List Rule) → allAcceptable w rs ≡ true → AllLawful w rs
-unfolding allAcceptable AllLawful
+pub all-lawful : (w : ℕ) (rs : List Rule) → every (acceptable w) rs ≡ true → AllLawful w rs
+unfolding every AllLawful
 all-lawful w [] e = tt
 all-lawful w (r ∷ rs) e =
-    let p = both-pass (acceptable w r) (allAcceptable w rs) e in (lawful w r (p .0), all-lawful w rs (p .1))
+    let p = both-pass (acceptable w r) (every (acceptable w) rs) e in (lawful w r (p .0), all-lawful w rs (p .1))

@@ -1,3 +1,4 @@
 pub mod Accepted
 pub mod Choices
 pub mod Every
+pub mod Grounds

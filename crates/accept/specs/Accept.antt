@@ -5,6 +5,7 @@ use Prim.Native.Nat.{ℕ}
 use lib.Dec.{eqb, leb, ltb}
 use Rattle.word.specs.Word.{top}
 use Rattle.rule.specs.declared.Rule.{Rule}
+use Rattle.accept.specs.Grounds.{Ground, firstThatApplies, ground}
 
 -- "form outside 1 to 8"
 unfoldable pub badForm : Rule → Bool
@@ -21,18 +22,22 @@ badConstant w r =
     || ltb (top w) (r .c2)
     || not (eqb (r .c2) 0) && (leb 4 (r .form) && leb (r .form) 6)
 
--- the rule would not be refused with 3, 4 or 5
-unfoldable pub acceptable : ℕ → Rule → Bool
-acceptable w r = not (badForm r) && (not (badSense r) && not (badConstant w r))
+-- the rows of the table that look at the rule alone
+unfoldable pub ruleGrounds : ℕ → Rule → List Ground
+ruleGrounds w r = ground 3 (badForm r) ∷ ground 4 (badSense r) ∷ ground 5 (badConstant w r) ∷ []
 
-unfoldable pub allAcceptable : ℕ → List Rule → Bool
-allAcceptable w [] = true
-allAcceptable w (r ∷ rs) = acceptable w r && allAcceptable w rs
+-- the number that they give, 0 where the rule is acceptable
+unfoldable pub refusalOf : ℕ → Rule → ℕ
+refusalOf w r = firstThatApplies (ruleGrounds w r)
+
+unfoldable pub acceptable : ℕ → Rule → Bool
+acceptable w r = eqb (refusalOf w r) 0
 
 -- a place that no rule has taken
 unfoldable pub isNoRule : Rule → Bool
 isNoRule r = eqb (r .form) 0 && (eqb (r .sense) 0 && (eqb (r .c1) 0 && eqb (r .c2) 0))
 
-unfoldable pub allNoRule : List Rule → Bool
-allNoRule [] = true
-allNoRule (r ∷ rs) = isNoRule r && allNoRule rs
+-- each element passes the test
+unfoldable pub every : {A : Type 0} → (A → Bool) → List A → Bool
+every f [] = true
+every f (x ∷ xs) = f x && every f xs

@@ -4,7 +4,7 @@ ghost use Prim.Native.Nat.{_≤_};
 ghost use lib.ListN.{drop, length, take};
 ghost use Rattle.word.specs.Word.{IsWidth};
 ghost use Rattle.rule.specs.Meaning.{RULES};
-ghost use Rattle.accept.specs.Accept.{acceptable, allAcceptable, allNoRule, badConstant, badForm, badSense, isNoRule};
+ghost use Rattle.accept.specs.Accept.{acceptable, badConstant, badForm, badSense, every, isNoRule, refusalOf};
 use rule::Rule;
 use word::Width;
 
@@ -12,10 +12,10 @@ use word::Width;
 pub fn all_acceptable(rules: [Rule; Rule::LIMIT], n: usize, width: Width) -> bool
     requires { ⌜ IsWidth (width .bits) ⌝ }
     requires { ⌜ n ≤ RULES ⌝ }
-    ensures { λ r. ⌜ r ≡ allAcceptable (width .bits) (take n rules) ⌝ }
+    ensures { λ r. ⌜ r ≡ every (acceptable (width .bits)) (take n rules) ⌝ }
 {
     for i in 0..n {
-        if !is_acceptable(rules[i], width) {
+        if refusal_of(rules[i], width) != 0 {
             return false;
         }
     }
@@ -25,7 +25,7 @@ pub fn all_acceptable(rules: [Rule; Rule::LIMIT], n: usize, width: Width) -> boo
 // Whether there is no rule from place n on.
 pub fn all_no_rule(rules: [Rule; Rule::LIMIT], n: usize) -> bool
     requires { ⌜ n ≤ RULES ⌝ }
-    ensures { λ r. ⌜ (r ≡ allNoRule (drop n rules)) × (length rules ≡ RULES) ⌝ }
+    ensures { λ r. ⌜ (r ≡ every isNoRule (drop n rules)) × (length rules ≡ RULES) ⌝ }
 {
     for i in n..Rule::LIMIT {
         if !is_no_rule(rules[i]) {
@@ -35,21 +35,25 @@ pub fn all_no_rule(rules: [Rule; Rule::LIMIT], n: usize) -> bool
     true
 }
 
-fn is_acceptable(rule: Rule, width: Width) -> bool
+// The number with which a rule is refused at a width, or 0: 3 before 4, and 4 before 5.
+pub fn refusal_of(rule: Rule, width: Width) -> u64
     requires { ⌜ IsWidth (width .bits) ⌝ }
-    ensures { λ r. ⌜ r ≡ acceptable (width .bits) rule ⌝ }
+    ensures { λ r. ⌜ r ≡ refusalOf (width .bits) rule ⌝ }
 {
     if bad_form(rule) {
-        return false;
+        return 3;
     }
     if bad_sense(rule) {
-        return false;
+        return 4;
     }
-    !bad_constant(rule, width)
+    if bad_constant(rule, width) {
+        return 5;
+    }
+    0
 }
 
 // A form outside 1 to 8.
-pub fn bad_form(rule: Rule) -> bool
+fn bad_form(rule: Rule) -> bool
     ensures { λ r. ⌜ r ≡ badForm rule ⌝ }
 {
     let form = rule.form;
@@ -60,7 +64,7 @@ pub fn bad_form(rule: Rule) -> bool
 }
 
 // A sense above 1, or sense 1 with form 7.
-pub fn bad_sense(rule: Rule) -> bool
+fn bad_sense(rule: Rule) -> bool
     ensures { λ r. ⌜ r ≡ badSense rule ⌝ }
 {
     let form = rule.form;
@@ -75,7 +79,7 @@ pub fn bad_sense(rule: Rule) -> bool
 }
 
 // A constant above the top word, or c2 not zero in forms 4, 5, 6.
-pub fn bad_constant(rule: Rule, width: Width) -> bool
+fn bad_constant(rule: Rule, width: Width) -> bool
     requires { ⌜ IsWidth (width .bits) ⌝ }
     ensures { λ r. ⌜ r ≡ badConstant (width .bits) rule ⌝ }
 {

@@ -8,6 +8,7 @@ use native.Mathlib.Decide.{ℕ-discrete}
 use native.Mathlib.Omega.{arith}
 use lib.ListN.{length}
 use Rattle.rule.specs.declared.Rule.{Rule}
+use Rattle.accept.specs.Accept.{ruleGrounds}
 use Rattle.sheet.specs.Calls.{add, after, firstThatApplies, ground, grounds, open-at, refusal}
 use Rattle.sheet.specs.Page.{Opening, Page, no-page}
 use Rattle.batch.specs.Batch.{Ending, added, batch}
@@ -33,7 +34,7 @@ one-applies false false false false true q z = record { not-0 = z; not-2 = λ y.
 one-applies false false false false false q z = absurd (z (sym q))
 
 of-add : (pg : Page) (u : Rule) → (refusal pg (add u) ≡ 0 → ⊥) → OfAdd (refusal pg (add u))
-unfolding refusal grounds
+unfolding refusal grounds ruleGrounds
 of-add pg u z = one-applies _ _ _ _ _ refl z
 
 added-placed : (pg : Page) (i : ℕ) (us : List Rule) (m : ℕ) → Placed (i + length us) (added pg i us m)

@@ -5,11 +5,12 @@ use Prim.Native.Nat.{_<_}
 use native.Mathlib.Omega.{arith}
 use lib.ListN.{length}
 use Rattle.rule.specs.declared.Rule.{Rule}
+use Rattle.accept.specs.Accept.{refusalOf}
 use Rattle.sheet.specs.Calls.{add, back, changed, mark, refusal, written}
 use Rattle.sheet.specs.Page.{OpenPage, marksOn, page, rulesOn, struck, withEntries}
 use Rattle.sheet.specs.Statements.{Reached}
 use Rattle.sheet.proofs.Lawful.{reached-lawful}
-use Rattle.sheet.proofs.Refusals.{Allowed, add-fits, mark-fits}
+use Rattle.sheet.proofs.Refusals.{add-fits, mark-fits}
 use Rattle.sheet.proofs.Struck.{marks-left-length}
 
 module _ (o : OpenPage) (reached : Reached (page o)) (some : 0 < length (marksOn (o .entries))) where
@@ -19,7 +20,7 @@ module _ (o : OpenPage) (reached : Reached (page o)) (some : 0 < length (marksOn
       let l = reached-lawful reached in
       mark-fits (withEntries o (struck (o .entries))) (omega (arith, marks-left-length (o .entries) some, l .marks-fit))
 
-  pub rule-freed : length (rulesOn (struck (o .entries))) < length (rulesOn (o .entries)) → (r : Rule) → Allowed (o .opening .width) r → refusal (written (page o) back) (add r) ≡ 0
+  pub rule-freed : length (rulesOn (struck (o .entries))) < length (rulesOn (o .entries)) → (r : Rule) → refusalOf (o .opening .width) r ≡ 0 → refusal (written (page o) back) (add r) ≡ 0
   unfolding written changed
   rule-freed fewer r allowed =
       let l = reached-lawful reached in

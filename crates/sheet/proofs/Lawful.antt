@@ -1,39 +1,24 @@
 -- Which pages accepted calls give: those with a width from 1 to 32, at most so many rules and marks, and no rule that
 -- would be refused. Each accepted call keeps that, a step back because less is left, and such a page is got by opening and
 -- writing its entries in order. Assumes nothing.
-use mathlib.Core.Path.{_≡_, refl, sym, ap₂, _∙_}
-use mathlib.Core.Bool.{Bool, true, false, _&&_, _||_, false≢true}
-use mathlib.Core.List.{List, [], _∷_, _++_}
-use Prim.Native.Nat.{ℕ, _≤_, _<_}
+use mathlib.Core.Path.{_≡_, refl, ap₂}
+use mathlib.Core.Bool.{true, _&&_}
+use mathlib.Core.List.{List, [], _∷_}
+use Prim.Native.Nat.{_≤_, _<_}
 use native.Mathlib.Omega.{arith}
-use borrow.Author.Tests.{eq-eqb, ltb-false}
-use lib.Dec.{ltb}
+use borrow.Author.Tests.{eq-eqb, eqb-true}
 use lib.ListN.{length, length-append}
-use Rattle.word.specs.Word.{IsWidth, top}
+use Rattle.word.specs.Word.{IsWidth}
+use Rattle.word.proofs.Tests.{both-pass}
 use Rattle.rule.specs.declared.Rule.{Rule}
-use Rattle.rule.specs.Meaning.{AllLawful, Lawful, RULES}
-use Rattle.accept.specs.Accept.{badConstant, badSense}
+use Rattle.rule.specs.Meaning.{AllLawful, RULES}
+use Rattle.accept.specs.Accept.{acceptable, every, refusalOf}
+use Rattle.accept.proofs.Accepted.{all-lawful}
+use Rattle.accept.proofs.Every.{every-append}
 use Rattle.sheet.specs.Calls.{Call, add, ask, back, changed, mark, open-at, refusal, written}
 use Rattle.sheet.specs.Page.{Entry, MARKS, OpenPage, Page, WIDEST, a-mark, a-rule, marksOn, no-page, page, rulesOn, struck, withEntries}
 use Rattle.sheet.specs.Statements.{Reached, start, step}
-use Rattle.sheet.proofs.Refusals.{Allowed, add-fits, added-rule, blank-add, blank-back, blank-mark, mark-fits, marked-room, open-fits, opened-width}
-
--- ---- rules that are allowed
-
-unfoldable pub AllAllowed : ℕ → List Rule → Type 0
-AllAllowed w [] = Unit {0}
-AllAllowed w (r ∷ rs) = Allowed w r × AllAllowed w rs
-
-module _ (w : ℕ) (r : Rule) where
-  one-more : (rs : List Rule) → AllAllowed w rs → Allowed w r → AllAllowed w (rs ++ r ∷ [])
-  unfolding AllAllowed
-  one-more [] h a = (a, tt)
-  one-more (s ∷ rs) h a = (h .0, one-more rs (h .1) a)
-
-  one-less : (rs : List Rule) → AllAllowed w (rs ++ r ∷ []) → AllAllowed w rs × Allowed w r
-  unfolding AllAllowed
-  one-less [] h = (tt, h .0)
-  one-less (s ∷ rs) h = let l = one-less rs (h .1) in ((h .0, l .0), l .1)
+use Rattle.sheet.proofs.Refusals.{add-fits, added-rule, blank-add, blank-back, blank-mark, mark-fits, marked-room, open-fits, opened-width}
 
 -- ---- pages
 
@@ -43,7 +28,7 @@ pub record LawfulOpen (o : OpenPage) : Type 0 where
   pub high : o .opening .width ≤ WIDEST
   pub rules-fit : length (rulesOn (o .entries)) ≤ RULES
   pub marks-fit : length (marksOn (o .entries)) ≤ MARKS
-  pub allowed : AllAllowed (o .opening .width) (rulesOn (o .entries))
+  pub allowed : every (acceptable (o .opening .width)) (rulesOn (o .entries)) ≡ true
 
 abbrev pub LawfulPage : Page → Type 0
 LawfulPage no-page = Unit {0}
@@ -53,13 +38,13 @@ module _ (o : OpenPage) where
   abbrev Lawfully : List Entry → Type 0
   Lawfully es = LawfulOpen (withEntries o es)
 
-  under-rule : (es : List Entry) (r : Rule) → Lawfully (a-rule r ∷ es) → Lawfully es × Allowed (o .opening .width) r × (length (rulesOn es) < RULES)
-  unfolding rulesOn marksOn
+  under-rule : (es : List Entry) (r : Rule) → Lawfully (a-rule r ∷ es) → Lawfully es × (refusalOf (o .opening .width) r ≡ 0) × (length (rulesOn es) < RULES)
+  unfolding rulesOn marksOn every acceptable
   under-rule es r l =
       let h : length (rulesOn es) < RULES = omega (arith, l .rules-fit, length-append (rulesOn es) (r ∷ [])) in
-      let a = one-less (o .opening .width) r (rulesOn es) (l .allowed) in (
+      let a = both-pass _ _ (rw every-append at (l .allowed)) in (
         record { low = l .low; high = l .high; rules-fit = omega arith; marks-fit = l .marks-fit; allowed = a .0 },
-        a .1,
+        eqb-true _ 0 (both-pass _ true (a .1) .0),
         h,
       )
 
@@ -78,10 +63,10 @@ module _ (o : OpenPage) where
 -- ---- accepted calls give lawful pages
 
 writes-lawful : (pg : Page) (c : Call) → LawfulPage pg → refusal pg c ≡ 0 → LawfulPage (written pg c)
-unfolding written changed rulesOn marksOn AllAllowed
+unfolding written changed rulesOn marksOn every acceptable
 writes-lawful pg (open-at g) l e =
     let h = opened-width pg g e in
-    record { low = h .0; high = h .1; rules-fit = omega arith; marks-fit = omega arith; allowed = tt }
+    record { low = h .0; high = h .1; rules-fit = omega arith; marks-fit = omega arith; allowed = refl }
 writes-lawful no-page (add r) l e = absurd (omega (arith, blank-add r))
 writes-lawful (page o) (add r) l e =
     let h = added-rule o r e in
@@ -90,7 +75,7 @@ writes-lawful (page o) (add r) l e =
       high = l .high;
       rules-fit = omega (arith, length-append (rulesOn (o .entries)) (r ∷ []));
       marks-fit = l .marks-fit;
-      allowed = one-more (o .opening .width) r (rulesOn (o .entries)) (l .allowed) (h .0);
+      allowed = rw every-append (ap₂ _&&_ (l .allowed) (rw (eq-eqb _ 0 (h .0))));
     }
 writes-lawful no-page mark l e = absurd (omega (arith, blank-mark))
 writes-lawful (page o) mark l e =
@@ -127,28 +112,6 @@ lawful-reached no-page l = start
 lawful-reached (page o) l = page-reached o (o .entries) l
 
 -- ---- what the leaves ask
-
-neither : (a b : Bool) → (a || b) ≡ false → (a ≡ false) × (b ≡ false)
-neither true b e = absurd (false≢true (sym e))
-neither false b e = (refl, e)
-
-rule-lawful : (w : ℕ) (r : Rule) → Allowed w r → Lawful w r
-unfolding badSense badConstant
-rule-lawful w r a =
-    let c = neither _ _ (neither _ _ (a .constant) .0) in
-    let s = neither (ltb 1 (r .sense)) _ (a .sense) in
-    record {
-      c1-word = ltb-false (top w) (r .c1) (c .0);
-      c2-word = ltb-false (top w) (r .c2) (c .1);
-      plain = λ f.
-          let n : r .sense ≡ 1 → ⊥ = λ q. false≢true (sym (s .1) ∙ ap₂ _&&_ (eq-eqb (r .sense) 1 q) (eq-eqb (r .form) 7 f)) in
-          omega (arith, ltb-false 1 (r .sense) (s .0));
-    }
-
-all-lawful : (w : ℕ) (rs : List Rule) → AllAllowed w rs → AllLawful w rs
-unfolding AllAllowed AllLawful
-all-lawful w [] h = tt
-all-lawful w (r ∷ rs) h = (rule-lawful w r (h .0), all-lawful w rs (h .1))
 
 module _ {o : OpenPage} (l : LawfulOpen o) where
   pub lawful-rules : AllLawful (o .opening .width) (rulesOn (o .entries))

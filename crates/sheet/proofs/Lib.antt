@@ -7,7 +7,6 @@ pub mod OnePage
 pub mod Padded
 pub mod Refusals
 pub mod ShapedMarks
-pub mod ShapedPage
 pub mod ShapedRecord
 pub mod Stands
 pub mod Struck

@@ -1,27 +1,23 @@
 -- The number that a call is given, computed from the table's tests down to the first that passes, and what the tests have
 -- said where no number is given; and the page after a call, which is the clerk's or, where it is refused, the one before.
 -- Assumes nothing.
-use mathlib.Core.Path.{_≡_, refl}
-use mathlib.Core.Bool.{Bool, true, false, _&&_, and-false}
-use mathlib.Core.List.{List, _∷_}
-use Prim.Native.Nat.{ℕ, suc, _≤_, _<_}
+use mathlib.Core.Path.{_≡_, refl, sym, _∙_}
+use mathlib.Core.Bool.{Bool, _&&_, and-false, cond}
+use mathlib.Core.List.{[], _∷_}
+use Prim.Native.Nat.{ℕ, _≤_, _<_}
+use native.Mathlib.Decide.{ℕ-discrete}
 use native.Mathlib.Omega.{arith}
 use borrow.Author.Tests.{eq-eqb, le-leb, le-ltb, leb-false, leb-true, lt-leb, lt-ltb, ne-eqb, not-false}
-use lib.Dec.{leb}
+use lib.Dec.{eqb, leb}
 use lib.ListN.{length}
 use Rattle.word.proofs.Tests.{both-pass}
 use Rattle.rule.specs.declared.Rule.{Rule}
 use Rattle.rule.specs.Meaning.{RULES}
-use Rattle.accept.specs.Accept.{badConstant, badForm, badSense}
+use Rattle.accept.specs.Accept.{refusalOf}
+use Rattle.accept.proofs.Grounds.{none-given, rule-first}
 use Rattle.chain.specs.Links.{chainRoom}
-use Rattle.sheet.specs.Calls.{Call, Ground, add, after, ask, back, firstThatApplies, ground, grounds, isBlank, mark, marksOf, open-at, refusal, rulesOf, written}
+use Rattle.sheet.specs.Calls.{Call, add, after, ask, back, firstThatApplies, ground, grounds, isBlank, mark, marksOf, open-at, refusal, rulesOf, written}
 use Rattle.sheet.specs.Page.{MARKS, OpenPage, Opening, Page, WIDEST, entriesOf, marksOn, no-page, page, rulesOn, widthOf}
-
--- where no number is given, the first test has failed, and the rest gives none
-none-given : (n : ℕ) (b : Bool) (gs : List Ground) → firstThatApplies (ground (suc n) b ∷ gs) ≡ 0 → (b ≡ false) × (firstThatApplies gs ≡ 0)
-unfolding firstThatApplies
-none-given n true gs e = absurd (omega arith)
-none-given n false gs e = (refl, e)
 
 -- ---- opening
 
@@ -65,42 +61,38 @@ blank-ask m = refl
 
 -- ---- a page
 
--- a rule that is not refused with 3, 4 or 5
-pub record Allowed (w : ℕ) (r : Rule) : Type 0 where
-  pub form : badForm r ≡ false
-  pub sense : badSense r ≡ false
-  pub constant : badConstant w r ≡ false
-
 module _ (o : OpenPage) where
   module _ (r : Rule) where
-    pub add-form : badForm r ≡ true → refusal (page o) (add r) ≡ 3
-    unfolding refusal grounds firstThatApplies isBlank
-    add-form f = rw f
+    -- the number that the rule has by itself, and whether there is no place for it
+    abbrev own : ℕ
+    own = refusalOf (o .opening .width) r
 
-    pub add-sense : badForm r ≡ false → badSense r ≡ true → refusal (page o) (add r) ≡ 4
-    unfolding refusal grounds firstThatApplies isBlank
-    add-sense f s = rw (f, s)
+    abbrev full : Bool
+    full = leb RULES (length (rulesOn (o .entries)))
 
-    pub add-constant : badForm r ≡ false → badSense r ≡ false → badConstant (o .opening .width) r ≡ true → refusal (page o) (add r) ≡ 5
-    unfolding refusal grounds firstThatApplies isBlank widthOf
-    add-constant f s c = rw (f, s, c)
-
-    pub add-full : Allowed (o .opening .width) r → RULES ≤ length (rulesOn (o .entries)) → refusal (page o) (add r) ≡ 6
+    add-first : refusal (page o) (add r) ≡ cond (eqb own 0) (firstThatApplies (ground 6 full ∷ [])) own
     unfolding refusal grounds firstThatApplies isBlank widthOf rulesOf entriesOf
-    add-full a h = rw (a .form, a .sense, a .constant, le-leb RULES (length (rulesOn (o .entries))) h)
+    add-first = rule-first (o .opening .width) r (ground 6 full ∷ [])
 
-    pub add-fits : Allowed (o .opening .width) r → length (rulesOn (o .entries)) < RULES → refusal (page o) (add r) ≡ 0
-    unfolding refusal grounds firstThatApplies isBlank widthOf rulesOf entriesOf
-    add-fits a h = rw (a .form, a .sense, a .constant, lt-leb RULES (length (rulesOn (o .entries))) h)
+    pub add-bad : (own ≡ 0 → ⊥) → refusal (page o) (add r) ≡ own
+    add-bad z = rw (add-first, ne-eqb own 0 z)
 
-    pub added-rule : refusal (page o) (add r) ≡ 0 → Allowed (o .opening .width) r × (length (rulesOn (o .entries)) < RULES)
-    unfolding refusal grounds isBlank widthOf rulesOf entriesOf
-    added-rule e =
-        let f = none-given 2 _ _ (none-given 0 _ _ e .1) in
-        let s = none-given 3 _ _ (f .1) in
-        let c = none-given 4 _ _ (s .1) in
-        let n = none-given 5 _ _ (c .1) in
-        (record { form = f .0; sense = s .0; constant = c .0 }, leb-false RULES (length (rulesOn (o .entries))) (n .0))
+    pub add-full : own ≡ 0 → RULES ≤ length (rulesOn (o .entries)) → refusal (page o) (add r) ≡ 6
+    unfolding firstThatApplies
+    add-full z h = rw (add-first, eq-eqb own 0 z, le-leb RULES (length (rulesOn (o .entries))) h)
+
+    pub add-fits : own ≡ 0 → length (rulesOn (o .entries)) < RULES → refusal (page o) (add r) ≡ 0
+    unfolding firstThatApplies
+    add-fits z h = rw (add-first, eq-eqb own 0 z, lt-leb RULES (length (rulesOn (o .entries))) h)
+
+    pub added-rule : refusal (page o) (add r) ≡ 0 → (own ≡ 0) × (length (rulesOn (o .entries)) < RULES)
+    added-rule e = go (ℕ-discrete own 0)
+      where
+        go : Dec (own ≡ 0) → (own ≡ 0) × (length (rulesOn (o .entries)) < RULES)
+        go (yes z) =
+            let q : firstThatApplies (ground 6 full ∷ []) ≡ 0 = rw (add-first, eq-eqb own 0 z) at e in
+            (z, leb-false RULES (length (rulesOn (o .entries))) (none-given 5 full [] q .0))
+        go (no z) = absurd (z (sym (add-bad z) ∙ e))
 
   pub mark-full : MARKS ≤ length (marksOn (o .entries)) → refusal (page o) mark ≡ 7
   unfolding refusal grounds firstThatApplies isBlank marksOf entriesOf

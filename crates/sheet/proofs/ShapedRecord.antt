@@ -2,8 +2,8 @@
 -- up to them, and its other places hold zeros: each test says that of its part. Assumes nothing.
 use mathlib.Core.Path.{_≡_, refl, sym, ap, ap₂, _∙_}
 use mathlib.Core.Bool.{true, _&&_}
-use mathlib.Core.List.{List, [], _∷_, _++_}
-use Prim.Native.Nat.{ℕ, zero, suc, _-_, _≤_}
+use mathlib.Core.List.{List, _++_}
+use Prim.Native.Nat.{ℕ, _-_, _≤_}
 use native.Mathlib.Omega.{arith}
 use borrow.Author.Tests.{eqb-true, le-leb, leb-true}
 use lib.Dec.{eqb, leb}
@@ -12,12 +12,12 @@ use lib.Seq.{drop-append-seam, length-take-le, take-append-seam}
 use Rattle.word.proofs.Tests.{both-pass}
 use Rattle.rule.specs.declared.Rule.{Rule}
 use Rattle.rule.specs.Meaning.{RULES}
-use Rattle.accept.specs.Accept.{allAcceptable, allNoRule, isNoRule}
+use Rattle.accept.specs.Accept.{acceptable, every, isNoRule}
+use Rattle.accept.proofs.Every.{even-every, every-even}
 use Rattle.verdict.specs.declared.Kept.{Kept}
 use Rattle.sheet.specs.declared.Sheet.{Sheet}
 use Rattle.sheet.specs.Page.{MARKS, noRule, padded}
-use Rattle.sheet.specs.Shape.{allZero, marksShaped, rising, rulesShaped, wellShaped}
-use Rattle.sheet.proofs.ShapedPage.{ShapedLists}
+use Rattle.sheet.specs.Shape.{isZero, marksShaped, rising, rulesShaped, wellShaped}
 
 -- the record with these rules and marks, and zeros in the other places
 abbrev pub filled : (w : ℕ) → List Rule → List ℕ → Kept → Sheet
@@ -30,16 +30,6 @@ filled w rs ms k =
       marked = length ms;
       kept = k;
     }
-
-no-rules : (n : ℕ) → allNoRule (replicate n noRule) ≡ true
-unfolding allNoRule isNoRule
-no-rules zero = refl
-no-rules (suc n) = no-rules n
-
-zeros : (n : ℕ) → allZero (replicate n 0) ≡ true
-unfolding allZero
-zeros zero = refl
-zeros (suc n) = zeros n
 
 no-rule : (r : Rule) → isNoRule r ≡ true → r ≡ noRule
 unfolding isNoRule
@@ -54,16 +44,6 @@ no-rule r e =
       c2 = eqb-true (r .c2) 0 (constants .1) i;
     }
 
-all-no-rule : (rs : List Rule) → allNoRule rs ≡ true → rs ≡ replicate (length rs) noRule
-unfolding allNoRule
-all-no-rule [] e = refl
-all-no-rule (r ∷ rs) e = let t = both-pass (isNoRule r) (allNoRule rs) e in ap₂ _∷_ (no-rule r (t .0)) (all-no-rule rs (t .1))
-
-all-zero : (ms : List ℕ) → allZero ms ≡ true → ms ≡ replicate (length ms) 0
-unfolding allZero
-all-zero [] e = refl
-all-zero (m ∷ ms) e = let t = both-pass (eqb m 0) (allZero ms) e in ap₂ _∷_ (eqb-true m 0 (t .0)) (all-zero ms (t .1))
-
 -- n places, of which those from k on hold z
 all-padded : {A : Type 0} (n : ℕ) (z : A) (l : List A) (k : ℕ) → length l ≡ n → k ≤ n
     → drop k l ≡ replicate (length (drop k l)) z → l ≡ padded n z (take k l)
@@ -71,14 +51,14 @@ all-padded {A} n z l k e h d =
     let j : length (drop k l) ≡ n - length (take k l) = omega (arith, length-drop k l, length-take-le k l (omega arith)) in
     sym (take-append-drop k l) ∙ ap (λ (t : List A). take k l ++ t) (rw j at d)
 
-pub shaped-filled : (w : ℕ) (rs : List Rule) (ms : List ℕ) (k : Kept) → ShapedLists w rs ms → rising 0 ms (length rs) ≡ true
-    → wellShaped (filled w rs ms k) ≡ true
-unfolding wellShaped rulesShaped marksShaped
-shaped-filled w rs ms k h r =
+pub shaped-filled : (w : ℕ) (rs : List Rule) (ms : List ℕ) (k : Kept) → length rs ≤ RULES → length ms ≤ MARKS
+    → every (acceptable w) rs ≡ true → rising 0 ms (length rs) ≡ true → wellShaped (filled w rs ms k) ≡ true
+unfolding wellShaped rulesShaped marksShaped isNoRule
+shaped-filled w rs ms k few low good rise =
     rw (take-append-seam rs, drop-append-seam rs, take-append-seam ms, drop-append-seam ms)
-    (ap₂ _&&_ (le-leb _ _ (h .few-rules))
-    (ap₂ _&&_ (le-leb _ _ (h .few-marks))
-    (ap₂ _&&_ (ap₂ _&&_ (h .good-rules) (no-rules (RULES - length rs))) (ap₂ _&&_ r (zeros (MARKS - length ms))))))
+    (ap₂ _&&_ (le-leb _ _ few)
+    (ap₂ _&&_ (le-leb _ _ low)
+    (ap₂ _&&_ (ap₂ _&&_ good (every-even isNoRule noRule refl (RULES - length rs))) (ap₂ _&&_ rise (every-even isZero 0 refl (MARKS - length ms))))))
 
 -- the rules and the marks in force that a record notes
 abbrev pub rulesIn : Sheet → List Rule
@@ -88,7 +68,9 @@ abbrev pub marksIn : Sheet → List ℕ
 marksIn s = take (s .marked) (s .marks)
 
 pub record ShapedSheet (s : Sheet) : Type 0 where
-  pub lists : ShapedLists (s .width) (rulesIn s) (marksIn s)
+  pub few-rules : length (rulesIn s) ≤ RULES
+  pub few-marks : length (marksIn s) ≤ MARKS
+  pub good-rules : every (acceptable (s .width)) (rulesIn s) ≡ true
   pub rise : rising 0 (marksIn s) (length (rulesIn s)) ≡ true
   pub places : s ≡ filled (s .width) (rulesIn s) (marksIn s) (s .kept)
 
@@ -98,20 +80,22 @@ shaped-sheet s a b e =
     let few = both-pass (leb (s .count) RULES) _ e in
     let low = both-pass (leb (s .marked) MARKS) _ (few .1) in
     let lists = both-pass (rulesShaped (s .width) (s .count) (s .rules)) _ (low .1) in
-    let rules = both-pass (allAcceptable (s .width) (rulesIn s)) _ (lists .0) in
+    let rules = both-pass (every (acceptable (s .width)) (rulesIn s)) _ (lists .0) in
     let marks = both-pass (rising 0 (marksIn s) (s .count)) _ (lists .1) in
     let n : s .count ≤ RULES = leb-true (s .count) RULES (few .0) in
     let m : s .marked ≤ MARKS = leb-true (s .marked) MARKS (low .0) in
     let c : length (rulesIn s) ≡ s .count = length-take-le _ _ (omega arith) in
     let d : length (marksIn s) ≡ s .marked = length-take-le _ _ (omega arith) in
     record {
-      lists = record { few-rules = omega arith; few-marks = omega arith; good-rules = rules .0 };
+      few-rules = omega arith;
+      few-marks = omega arith;
+      good-rules = rules .0;
       rise = rw c (marks .0);
       places = λ i. record {
         width = s .width;
-        rules = all-padded RULES noRule (s .rules) (s .count) a n (all-no-rule _ (rules .1)) i;
+        rules = all-padded RULES noRule (s .rules) (s .count) a n (even-every isNoRule noRule no-rule _ (rules .1)) i;
         count = sym c i;
-        marks = all-padded MARKS 0 (s .marks) (s .marked) b m (all-zero _ (marks .1)) i;
+        marks = all-padded MARKS 0 (s .marks) (s .marked) b m (even-every isZero 0 (λ m. eqb-true m 0) _ (marks .1)) i;
         marked = sym d i;
         kept = s .kept;
       };

@@ -4,26 +4,27 @@
 use mathlib.Core.Path.{_≡_, refl, sym, ap₂, _∙_}
 use mathlib.Core.Bool.{Bool, true, false, false≢true, _&&_}
 use mathlib.Core.List.{List}
-use Prim.Native.Nat.{ℕ, _≤_}
+use Prim.Native.Nat.{ℕ}
 use native.Mathlib.Decide.{ℕ-discrete}
 use native.Mathlib.Omega.{arith}
 use borrow.Author.Tests.{eq-eqb, eqb-true, le-leb, leb-true, ne-eqb}
 use lib.Dec.{eqb, leb}
-use lib.ListN.{length, length-append, length-replicate, take}
+use lib.ListN.{length, take}
 use lib.Seq.{take-append-seam}
 use Rattle.word.proofs.Tests.{both-pass}
+use Rattle.rule.specs.declared.Rule.{Rule}
 use Rattle.rule.specs.Meaning.{RULES}
-use Rattle.accept.specs.Accept.{allAcceptable, allNoRule, isNoRule}
+use Rattle.accept.specs.Accept.{every, isNoRule}
 use Rattle.verdict.specs.declared.Kept.{Kept}
 use Rattle.verdict.specs.Kept.{keeps, kept}
 use Rattle.sheet.specs.declared.Sheet.{Sheet}
-use Rattle.sheet.specs.Page.{Entry, MARKS, OpenPage, Page, WIDEST, at-width, fresh, marksOn, newPage, no-page, noRule, padded, page, rulesOn, withEntries}
-use Rattle.sheet.specs.Shape.{allZero, isSheet, marksShaped, rising, rulesShaped, sameKept, wellShaped}
+use Rattle.sheet.specs.Page.{MARKS, OpenPage, Page, WIDEST, at-width, fresh, marksOn, newPage, no-page, page, rulesOn, withEntries}
+use Rattle.sheet.specs.Shape.{isSheet, marksShaped, rising, rulesShaped, sameKept, wellShaped}
 use Rattle.sheet.specs.Statements.{IsSheet}
 use Rattle.sheet.specs.Statements.Reached.{start}
+use Rattle.sheet.proofs.Fresh.{given}
+use Rattle.sheet.proofs.Lawful.{LawfulPage, lawful-reached, reached-lawful}
 use Rattle.sheet.proofs.ShapedMarks.{shaped-entered, shaped-marks-rise}
-use Rattle.sheet.proofs.ShapedPage.{ShapedPage, shaped-if-reached, shaped-is-reached}
-use Rattle.sheet.proofs.ShapedPage.ShapedPage.{none-yet, with-width}
 use Rattle.sheet.proofs.ShapedRecord.{ShapedSheet, filled, marksIn, rulesIn, shaped-filled, shaped-sheet}
 
 same-passes : (k : Kept) → sameKept k k ≡ true
@@ -43,17 +44,18 @@ passes-same k l e =
 
 -- ---- what a page gives passes
 
-fresh-passes : {pg : Page} → ShapedPage pg → isSheet (fresh pg) ≡ true
-unfolding isSheet fresh wellShaped rulesShaped marksShaped allAcceptable allNoRule isNoRule allZero rising sameKept
-fresh-passes none-yet = refl
-fresh-passes (with-width {o} l u h) =
+fresh-passes : (pg : Page) → LawfulPage pg → isSheet (fresh pg) ≡ true
+unfolding isSheet fresh wellShaped rulesShaped marksShaped every isNoRule rising sameKept
+fresh-passes no-page l = refl
+fresh-passes (page o) l =
     let w : ℕ = o .opening .width in
-    let es : List Entry = o .entries in
-    ap₂ _&&_ (shaped-filled w (rulesOn es) (marksOn es) (kept w (rulesOn es)) h (shaped-marks-rise es))
-    (rw (ne-eqb w 0 (omega arith), take-append-seam (rulesOn es)) (ap₂ _&&_ (le-leb w WIDEST u) (same-passes (kept w (rulesOn es)))))
+    let rs : List Rule = rulesOn (o .entries) in
+    ap₂ _&&_
+    (shaped-filled w rs (marksOn (o .entries)) (kept w rs) (l .rules-fit) (l .marks-fit) (l .allowed) (shaped-marks-rise (o .entries)))
+    (rw (ne-eqb w 0 (omega arith), take-append-seam rs) (ap₂ _&&_ (le-leb w WIDEST (l .high)) (same-passes (kept w rs))))
 
 pub sheet-passes : (s : Sheet) → IsSheet s → isSheet s ≡ true
-sheet-passes s h = rw (h .gives) (fresh-passes (shaped-if-reached (h .reached)))
+sheet-passes s h = rw (h .gives) (fresh-passes (h .on) (reached-lawful (h .reached)))
 
 -- ---- what passes, a page gives
 
@@ -81,7 +83,14 @@ passes-opened s h z e =
     let o : OpenPage = withEntries (newPage (at-width w)) (b .on) in
     record {
       on = page o;
-      reached = shaped-is-reached o (omega arith) (leb-true w WIDEST (t .0)) (rw (b .rules, b .marks) (h .lists));
+      reached = lawful-reached (page o)
+          (record {
+            low = omega arith;
+            high = leb-true w WIDEST (t .0);
+            rules-fit = rw (b .rules) (h .few-rules);
+            marks-fit = rw (b .marks) (h .few-marks);
+            allowed = rw (b .rules) (h .good-rules);
+          });
       gives = h .places
           ∙ (λ i. filled w (rulesIn s) (marksIn s) (k i))
           ∙ (λ i. filled w (sym (b .rules) i) (sym (b .marks) i) (kept w (sym (b .rules) i)));
@@ -100,20 +109,16 @@ passes-sheet s a b e = go (ℕ-discrete (s .width) 0)
 
 -- ---- so it can be told
 
-padded-length : {A : Type 0} (n : ℕ) (z : A) (l : List A) → length l ≤ n → length (padded n z l) ≡ n
-padded-length n z l h = simp (length-append, length-replicate) (omega arith)
-
-places : {pg : Page} → ShapedPage pg → (length (fresh pg .rules) ≡ RULES) × (length (fresh pg .marks) ≡ MARKS)
+places : (pg : Page) → LawfulPage pg → (length (fresh pg .rules) ≡ RULES) × (length (fresh pg .marks) ≡ MARKS)
 unfolding fresh
-places none-yet = (refl, refl)
-places (with-width {o} l u h) =
-    (padded-length RULES noRule (rulesOn (o .entries)) (h .few-rules), padded-length MARKS 0 (marksOn (o .entries)) (h .few-marks))
+places no-page l = (refl, refl)
+places (page o) l = let g = given o refl l in (g .rules-length, g .marks-length)
 
 pub sheet-dec : (s : Sheet) → Dec (IsSheet s)
 sheet-dec s = go (ℕ-discrete (length (s .rules)) RULES) (ℕ-discrete (length (s .marks)) MARKS) (isSheet s) refl
   where
     sized : IsSheet s → (length (s .rules) ≡ RULES) × (length (s .marks) ≡ MARKS)
-    sized h = rw (h .gives) (places (shaped-if-reached (h .reached)))
+    sized h = rw (h .gives) (places (h .on) (reached-lawful (h .reached)))
 
     go : Dec (length (s .rules) ≡ RULES) → Dec (length (s .marks) ≡ MARKS) → (t : Bool) → isSheet s ≡ t → Dec (IsSheet s)
     go (no a) b t e = no (λ h. a (sized h .0))

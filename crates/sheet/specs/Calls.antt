@@ -1,12 +1,14 @@
 -- The calls, when each is refused, and what the clerk then writes (01, "When the desk says no").
 use mathlib.Core.Bool.{Bool, true, false, not, _&&_}
-use mathlib.Core.List.{List, [], _∷_}
+use mathlib.Core.List.{List, [], _∷_, _++_}
 use Prim.Native.Nat.{ℕ}
 use lib.Dec.{eqb, leb, ltb}
 use lib.ListN.{length}
 use Rattle.rule.specs.declared.Rule.{Rule}
 use Rattle.rule.specs.Meaning.{RULES}
-use Rattle.accept.specs.Accept.{badConstant, badForm, badSense}
+use Rattle.accept.specs.Accept.{ruleGrounds}
+pub use Rattle.accept.specs.Grounds.{Ground, ground}
+unfoldable pub use Rattle.accept.specs.Grounds.{firstThatApplies}
 use Rattle.chain.specs.Links.{chainRoom}
 use Rattle.sheet.specs.Page.{Entry, MARKS, Opening, Page, WIDEST, a-mark, a-rule, entriesOf, marksOn, newPage, no-page, page, rulesOn, struck, widthOf, withEntries}
 
@@ -17,19 +19,6 @@ pub data Call : Type 0 where
   mark : Call
   back : Call
   ask : (room : ℕ) → Call
-
--- a number, and whether it applies
-pub record Ground : Type 0 where
-  pub number : ℕ
-  pub applies : Bool
-
-abbrev pub ground : ℕ → Bool → Ground
-ground n b = record { number = n; applies = b }
-
--- "where several apply, the lowest number is given": rows stand in the order of their numbers, and 0 is given where none applies
-unfoldable pub firstThatApplies : List Ground → ℕ
-firstThatApplies [] = 0
-firstThatApplies (g ∷ gs) = elim (g .applies) [ true ↦ g .number | false ↦ firstThatApplies gs ]
 
 unfoldable pub isBlank : Page → Bool
 isBlank no-page = true
@@ -42,16 +31,11 @@ rulesOf pg = rulesOn (entriesOf pg)
 unfoldable pub marksOf : Page → List ℕ
 marksOf pg = marksOn (entriesOf pg)
 
--- the table, a row for each number, of a call on the sheet that a page gives
+-- the table, a row for each number, of a call on the sheet that a page gives (3, 4 and 5: `ruleGrounds`)
 unfoldable pub grounds : Page → Call → List Ground
 grounds pg (open-at g) = ground 2 (not (leb 1 (g .width) && leb (g .width) WIDEST)) ∷ []
 grounds pg (add r) =
-    ground 1 (isBlank pg)
-    ∷ ground 3 (badForm r)
-    ∷ ground 4 (badSense r)
-    ∷ ground 5 (badConstant (widthOf pg) r)
-    ∷ ground 6 (leb RULES (length (rulesOf pg)))
-    ∷ []
+    ground 1 (isBlank pg) ∷ (ruleGrounds (widthOf pg) r ++ ground 6 (leb RULES (length (rulesOf pg))) ∷ [])
 grounds pg mark = ground 1 (isBlank pg) ∷ ground 7 (leb MARKS (length (marksOf pg))) ∷ []
 grounds pg back = ground 1 (isBlank pg) ∷ ground 8 (eqb (length (marksOf pg)) 0) ∷ []
 grounds pg (ask m) = ground 1 (isBlank pg) ∷ ground 9 (ltb m (chainRoom (length (rulesOf pg)))) ∷ []

@@ -2,14 +2,14 @@
 -- (proofs/Tested.antt). What it looks at: the width, that each rule in force would be accepted, that the marks rise up to
 -- the rules in force, that the other places hold zeros, and what is kept.
 use mathlib.Core.Path.{_≡_}
-use mathlib.Core.Bool.{Bool, true, _&&_, cond}
+use mathlib.Core.Bool.{Bool, _&&_, cond}
 use mathlib.Core.List.{List, [], _∷_}
 use Prim.Native.Nat.{ℕ}
 use lib.Dec.{eqb, leb}
 use lib.ListN.{drop, length, take}
 use Rattle.rule.specs.declared.Rule.{Rule}
 use Rattle.rule.specs.Meaning.{RULES}
-use Rattle.accept.specs.Accept.{allAcceptable, allNoRule}
+use Rattle.accept.specs.Accept.{acceptable, every, isNoRule}
 use Rattle.verdict.specs.declared.Kept.{Kept}
 use Rattle.verdict.specs.Kept.{keeps, kept}
 use Rattle.sheet.specs.declared.Sheet.{Sheet}
@@ -22,20 +22,19 @@ pub record Whole (rs : List Rule) (ms : List ℕ) : Type 0 where
 
 -- n acceptable rules, and no rule after them
 unfoldable pub rulesShaped : (w n : ℕ) → List Rule → Bool
-rulesShaped w n rs = allAcceptable w (take n rs) && allNoRule (drop n rs)
+rulesShaped w n rs = every (acceptable w) (take n rs) && every isNoRule (drop n rs)
 
 -- the numbers rise, from low on and up to high
 unfoldable pub rising : (low : ℕ) → List ℕ → (high : ℕ) → Bool
 rising low [] high = leb low high
 rising low (m ∷ ms) high = leb low m && rising m ms high
 
-unfoldable pub allZero : List ℕ → Bool
-allZero [] = true
-allZero (m ∷ ms) = eqb m 0 && allZero ms
+abbrev pub isZero : ℕ → Bool
+isZero n = eqb n 0
 
 -- m marks that rise up to n rules, and zeros after them
 unfoldable pub marksShaped : (n m : ℕ) → List ℕ → Bool
-marksShaped n m ms = rising 0 (take m ms) n && allZero (drop m ms)
+marksShaped n m ms = rising 0 (take m ms) n && every isZero (drop m ms)
 
 unfoldable pub sameKept : Kept → Kept → Bool
 sameKept k l =

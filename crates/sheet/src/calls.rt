@@ -5,6 +5,7 @@ ghost use mathlib.Core.List.{_++_};
 ghost use Prim.Native.Nat.{_-_, _≤_};
 ghost use lib.ListN.{replicate, take};
 ghost use Rattle.rule.specs.Meaning.{RULES};
+ghost use Rattle.chain.specs.Links.{chainRoom};
 ghost use Rattle.sheet.specs.Calls.{add, back, mark, open-at};
 ghost use Rattle.sheet.specs.Page.{at-width, blank, noRule};
 ghost use Rattle.sheet.specs.Statements.{Asked, Outcome, answers, refuses};
@@ -132,7 +133,7 @@ impl Sheet {
             return refusal(number);
         }
         let count = self.count;
-        if out.len() < 3 * (4 * count + 1) {
+        if out.len() < room(count) {
             return refusal(9);
         }
         let kept = self.kept;
@@ -173,14 +174,9 @@ impl Sheet {
         if number != 0 {
             return number;
         }
-        if accept::bad_form(rule) {
-            return 3;
-        }
-        if accept::bad_sense(rule) {
-            return 4;
-        }
-        if accept::bad_constant(rule, Width { bits: self.width }) {
-            return 5;
+        let bad = accept::refusal_of(rule, Width { bits: self.width });
+        if bad != 0 {
+            return bad;
         }
         if Rule::LIMIT <= self.count {
             return 6;
@@ -211,6 +207,14 @@ pub fn refusal(number: u64) -> Reply
         },
         links: 0,
     }
+}
+
+// What asking wants for so many rules.
+fn room(count: usize) -> usize
+    requires { ⌜ count ≤ RULES ⌝ }
+    ensures { λ r. ⌜ r ≡ chainRoom count ⌝ }
+{
+    Sheet::LINK * (Sheet::LINKS * count + 1)
 }
 
 // The first n rules, and zeros after them.

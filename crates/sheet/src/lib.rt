@@ -35,6 +35,11 @@ impl Sheet {
     // The most marks that may be in force.
     pub const MARKS: usize = 16;
 
+    // The numbers that a link takes, and the most links that a rule adds to the first one.
+    const LINK: usize = 3;
+
+    const LINKS: usize = 4;
+
     // What asking wants of a full sheet: three numbers for each of up to 4n + 1 links.
-    pub const LENT: usize = 3 * (4 * Rule::LIMIT + 1);
+    pub const LENT: usize = Sheet::LINK * (Sheet::LINKS * Rule::LIMIT + 1);
 }

@@ -5,10 +5,10 @@ ghost use Prim.Native.Nat.{_≤_};
 ghost use lib.Dec.{eqb};
 ghost use lib.ListN.{drop, length, take};
 ghost use Rattle.rule.specs.Meaning.{RULES};
-ghost use Rattle.accept.specs.Accept.{allNoRule};
+ghost use Rattle.accept.specs.Accept.{every, isNoRule};
 ghost use Rattle.verdict.specs.Kept.{keeps};
 ghost use Rattle.sheet.specs.Page.{MARKS};
-ghost use Rattle.sheet.specs.Shape.{Whole, allZero, isSheet, marksShaped, rising, rulesShaped, sameKept};
+ghost use Rattle.sheet.specs.Shape.{Whole, isSheet, isZero, marksShaped, rising, rulesShaped, sameKept};
 use crate::Sheet;
 use rule::Rule;
 use verdict::Kept;
@@ -88,7 +88,7 @@ fn none_after(
     marked: usize,
 ) -> bool
     requires { ⌜ (count ≤ RULES) × (marked ≤ MARKS) ⌝ }
-    ensures { λ r. ⌜ r ≡ (allNoRule (drop count rules) && marksShaped count marked marks) ⌝ }
+    ensures { λ r. ⌜ r ≡ (every isNoRule (drop count rules) && marksShaped count marked marks) ⌝ }
     ensures { λ r. ⌜ (r ≡ true → Whole rules marks) ⌝ }
 {
     if !accept::all_no_rule(rules, count) {
@@ -118,7 +118,7 @@ fn rising(marks: [usize; Sheet::MARKS], m: usize, n: usize) -> bool
 // Whether there are zeros from place m on.
 fn all_zero(marks: [usize; Sheet::MARKS], m: usize) -> bool
     requires { ⌜ m ≤ MARKS ⌝ }
-    ensures { λ r. ⌜ (r ≡ allZero (drop m marks)) × (length marks ≡ MARKS) ⌝ }
+    ensures { λ r. ⌜ (r ≡ every isZero (drop m marks)) × (length marks ≡ MARKS) ⌝ }
 {
     for i in m..Sheet::MARKS {
         if marks[i] != 0 {

@@ -6,21 +6,17 @@ use native.Mathlib.Omega.{arith}
 use borrow.Author.Needs.{needs}
 use lib.ListN.{drop}
 use Rattle.rule.specs.Meaning.{RULES}
-use Rattle.accept.specs.Accept.{allNoRule, isNoRule}
+use Rattle.accept.specs.Accept.{every, isNoRule}
 use Rattle.accept.proofs.Choices.{failed, passed}
-use Rattle.accept.proofs.Every.{Opens, ends, goes, stops}
+use Rattle.accept.proofs.Every.{ends, every-opens, goes, stops}
 use Rattle.accept.proofs.all_no_rule.Statement.{statement}
 use Rattle.accept.proofs.all_no_rule.Tie as tie
 
 abbrev Inv-loop : tie.InvT-loop
-Inv-loop n rules i₀ i = (i ≤ RULES) × (allNoRule (drop n rules) ≡ allNoRule (drop i rules))
+Inv-loop n rules i₀ i = (i ≤ RULES) × (every isNoRule (drop n rules) ≡ every isNoRule (drop i rules))
 
 abbrev μ-loop : tie.MeasureT-loop
 μ-loop n rules i₀ i = RULES - i
-
-opens : Opens isNoRule allNoRule (λ r rs. allNoRule rs)
-unfolding allNoRule
-opens = record { opens = λ r rs. refl }
 
 loop-holds : tie.Need-loop-holds Inv-loop μ-loop
 loop-holds c = (omega arith, refl)
@@ -37,7 +33,7 @@ is-no-rule-requires c κs = search needs
 returns : tie.Need-returns Inv-loop μ-loop
 returns c =
     let l = c .before .before .before .before in
-    (sym (l .loop .inv .1 ∙ stops opens (l .before .args .t1) _ _ (omega arith) (failed (c .before .is-no-rule .ensures) (c .if1 .taken))), omega arith)
+    (sym (l .loop .inv .1 ∙ stops (every-opens isNoRule) (l .before .args .t1) _ _ (omega arith) (failed (c .before .is-no-rule .ensures) (c .if1 .taken))), omega arith)
 
 add-i : tie.Need-add-i Inv-loop μ-loop
 add-i c = search needs
@@ -49,12 +45,12 @@ loop-again : tie.Need-loop-again Inv-loop μ-loop
 loop-again c =
     let l = c .before .before .before .before in (
       omega arith,
-      l .loop .inv .1 ∙ goes opens (l .before .args .t1) _ _ (omega arith) (passed (c .before .is-no-rule .ensures) (c .if1 .left)),
+      l .loop .inv .1 ∙ goes (every-opens isNoRule) (l .before .args .t1) _ _ (omega arith) (passed (c .before .is-no-rule .ensures) (c .if1 .left)),
     )
 
 returns-2 : tie.Need-returns-2 Inv-loop μ-loop
-unfolding allNoRule
-returns-2 c = (sym (c .before .loop .inv .1 ∙ ends allNoRule (c .before .before .args .t1) (c .before .loop .i) (omega arith)), omega arith)
+unfolding every
+returns-2 c = (sym (c .before .loop .inv .1 ∙ ends (every isNoRule) (c .before .before .args .t1) (c .before .loop .i) (omega arith)), omega arith)
 
 pub all-no-rule-spec : {M : Type 1} → statement M
 all-no-rule-spec =

@@ -29,32 +29,29 @@ refusal-requires c κs = search needs
 returns : tie.Need-returns
 returns c = subst (Asked _ _ _) (sym (c .refusal .ensures)) (refused-asking (c .before .before .standing .ensures) (c .before .if1 .taken) _)
 
-mul-if2 : tie.Need-mul-if2
-mul-if2 c = omega (arith, few c)
-
-add-if2 : tie.Need-add-if2
-add-if2 c = omega (arith, few c)
-
-mul-if2-2 : tie.Need-mul-if2-2
-mul-if2-2 c = omega (arith, few c)
+room-requires : tie.Need-room-requires
+room-requires c κs = few c
 
 refusal-requires-2 : tie.Need-refusal-requires-2
 refusal-requires-2 c κs = search needs
 
 returns-2 : tie.Need-returns-2
-returns-2 c = subst (Asked _ _ _) (sym (c .refusal2 .ensures)) (short-asking (on (c .before .before)) _ (c .before .if2 .taken))
+returns-2 c = subst (Asked _ _ _) (sym (c .refusal2 .ensures)) (short-asking (on (c .before .before .before)) _ (omega (arith, c .before .before .room .ensures, c .before .if2 .taken)))
 
 returns-3 : tie.Need-returns-3
-returns-3 c = kept-asking (on (c .before .before .before .before)) _ (c .before .before .before .if2 .left) (c .if3 .taken)
+returns-3 c =
+    let e = c .before .before .before in
+    kept-asking (on (e .before .before)) _ (omega (arith, e .before .room .ensures, e .if2 .left)) (c .if3 .taken)
 
 write-requires : tie.Need-write-requires
 write-requires c κs =
-    let a = c .before .before .before .before .before .before in
+    let e = c .before .before .before .before .before in
+    let a = e .before .before in
     let p = on a in (
       width-of p,
       (
         (few a, rules-lawful p),
-        (sym (ap (λ (k : Kept). k .verdict) (kept-on p)) ∙ c .before .before .if3 .left, c .before .before .before .before .before .if2 .left),
+        (sym (ap (λ (k : Kept). k .verdict) (kept-on p)) ∙ c .before .before .if3 .left, omega (arith, e .before .room .ensures, e .if2 .left)),
       ),
     )
 
@@ -64,8 +61,8 @@ same-length c = search needs
 returns-4 : tie.Need-returns-4
 returns-4 c =
     let e = c .before .before .before .before .before in
-    let p = on (e .before .before .before .before) in
-    chain-asking p _ (e .before .before .before .if2 .left) (e .if3 .left) (c .before .before .write .ensures .0) (c .before .before .write .ensures .1)
+    let d = e .before .before .before in
+    chain-asking (on (d .before .before)) _ (omega (arith, d .before .room .ensures, d .if2 .left)) (e .if3 .left) (c .before .before .write .ensures .0) (c .before .before .write .ensures .1)
 
 pub ask-spec : {M : Type 1} → statement M
 ask-spec =
@@ -74,9 +71,7 @@ ask-spec =
     standing-requires
     refusal-requires
     returns
-    mul-if2
-    add-if2
-    mul-if2-2
+    room-requires
     refusal-requires-2
     returns-2
     returns-3

@@ -5,23 +5,19 @@ use Prim.Native.Nat.{_-_, _≤_}
 use native.Mathlib.Omega.{arith}
 use borrow.Author.Needs.{needs}
 use borrow.Author.Tests.{eq-eqb, ne-eqb}
-use lib.Dec.{eqb}
 use lib.ListN.{drop}
-use Rattle.accept.proofs.Every.{Opens, ends, goes, stops}
+use Rattle.accept.specs.Accept.{every}
+use Rattle.accept.proofs.Every.{ends, every-opens, goes, stops}
 use Rattle.sheet.specs.Page.{MARKS}
-use Rattle.sheet.specs.Shape.{allZero}
+use Rattle.sheet.specs.Shape.{isZero}
 use Rattle.sheet.proofs.shape.all_zero.Statement.{statement}
 use Rattle.sheet.proofs.shape.all_zero.Tie as tie
 
 abbrev Inv-loop : tie.InvT-loop
-Inv-loop m marks i₀ i = (i ≤ MARKS) × (allZero (drop m marks) ≡ allZero (drop i marks))
+Inv-loop m marks i₀ i = (i ≤ MARKS) × (every isZero (drop m marks) ≡ every isZero (drop i marks))
 
 abbrev μ-loop : tie.MeasureT-loop
 μ-loop m marks i₀ i = MARKS - i
-
-opens : Opens (λ m. eqb m 0) allZero (λ m ms. allZero ms)
-unfolding allZero
-opens = record { opens = λ m ms. refl }
 
 loop-holds : tie.Need-loop-holds Inv-loop μ-loop
 loop-holds c = (omega arith, refl)
@@ -35,7 +31,7 @@ array-read-if1 c = search needs
 returns : tie.Need-returns Inv-loop μ-loop
 returns c =
     let l = c .before .before in
-    (sym (l .loop .inv .1 ∙ stops opens (l .before .args .t1) _ _ (omega arith) (ne-eqb _ _ (c .if1 .taken))), omega arith)
+    (sym (l .loop .inv .1 ∙ stops (every-opens isZero) (l .before .args .t1) _ _ (omega arith) (ne-eqb _ _ (c .if1 .taken))), omega arith)
 
 add-i : tie.Need-add-i Inv-loop μ-loop
 add-i c = search needs
@@ -47,12 +43,12 @@ loop-again : tie.Need-loop-again Inv-loop μ-loop
 loop-again c =
     let l = c .before .before in (
       omega arith,
-      l .loop .inv .1 ∙ goes opens (l .before .args .t1) _ _ (omega arith) (eq-eqb _ _ (c .if1 .left)),
+      l .loop .inv .1 ∙ goes (every-opens isZero) (l .before .args .t1) _ _ (omega arith) (eq-eqb _ _ (c .if1 .left)),
     )
 
 returns-2 : tie.Need-returns-2 Inv-loop μ-loop
-unfolding allZero
-returns-2 c = (sym (c .before .loop .inv .1 ∙ ends allZero (c .before .before .args .t1) (c .before .loop .i) (omega arith)), omega arith)
+unfolding every
+returns-2 c = (sym (c .before .loop .inv .1 ∙ ends (every isZero) (c .before .before .args .t1) (c .before .loop .i) (omega arith)), omega arith)
 
 pub all-zero-spec : {M : Type 1} → statement M
 all-zero-spec =

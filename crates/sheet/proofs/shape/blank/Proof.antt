@@ -3,7 +3,7 @@
 use mathlib.Core.Bool.{and-false}
 use borrow.Author.Needs.{needs}
 use borrow.Author.Tests.{ne-eqb}
-use Rattle.accept.specs.Accept.{allAcceptable}
+use Rattle.accept.specs.Accept.{every}
 use Rattle.accept.proofs.Choices.{failed, never, passed}
 use Rattle.sheet.specs.Shape.{marksShaped, rising, rulesShaped}
 use Rattle.sheet.proofs.shape.blank.Statement.{statement}
@@ -19,7 +19,7 @@ all-no-rule-requires : tie.Need-all-no-rule-requires
 all-no-rule-requires c κs = search needs
 
 returns-3 : tie.Need-returns-3
-unfolding rulesShaped marksShaped allAcceptable rising
+unfolding rulesShaped marksShaped every rising
 returns-3 c =
     let b = c .before .before in
     (simp (b .before .if1 .left, b .if2 .left, failed (c .before .all-no-rule .ensures .0) (c .if3 .taken)), never)
@@ -28,7 +28,7 @@ all-zero-requires : tie.Need-all-zero-requires
 all-zero-requires c κs = search needs
 
 returns-4 : tie.Need-returns-4
-unfolding rulesShaped marksShaped allAcceptable rising
+unfolding rulesShaped marksShaped every rising
 returns-4 c =
     let a = c .before .before in
     let b = a .before .before in
@@ -38,7 +38,7 @@ same-kept-requires : tie.Need-same-kept-requires
 same-kept-requires c κs = search needs
 
 returns-5 : tie.Need-returns-5
-unfolding rulesShaped marksShaped allAcceptable rising
+unfolding rulesShaped marksShaped every rising
 returns-5 c =
     let a = c .before .before .before in
     let b = a .before .before in
