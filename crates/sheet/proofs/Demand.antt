@@ -1,33 +1,36 @@
 -- Demand 3: any outcome of a call that satisfies its statement has the record of the clerk's page after the call, and that
--- page is again one of accepted calls; so by induction any outcome of calls has the record of the clerk's page after them.
--- Demand 2 of a page's record is that of what is kept. Assumes nothing.
-use mathlib.Core.Path.{_≡_, refl, ap, _∙_}
-use mathlib.Core.List.{List}
-use native.Mathlib.Decide.{ℕ-discrete}
-use borrow.Author.Tests.{eq-eqb, ne-eqb}
-use lib.ListN.{length}
+-- page is again one of accepted calls; so by induction any outcome of calls has the record of the clerk's page after them, and
+-- so has any outcome of that page replayed. Demand 2 of a page's record is that of what is kept. Assumes nothing.
+use mathlib.Core.Path.{_≡_, refl, sym, ap, _∙_, subst}
+use mathlib.Core.Bool.{true}
+use mathlib.Core.Logic.{_⊎_, inl, inr}
+use mathlib.Core.List.{List, [], _∷_}
 use Prim.Native.Nat.{ℕ}
+use native.Mathlib.Decide.{ℕ-discrete}
+use borrow.Author.Tests.{eq-eqb, eqb-true, ne-eqb}
+use lib.Dec.{eqb}
+use lib.ListN.{length, length-replicate, replicate}
+use Rattle.word.proofs.Tests.{both-pass}
 use Rattle.verdict.specs.Demand.{Right}
 use Rattle.verdict.proofs.Right.{kept-right}
 use Rattle.sheet.specs.declared.Answer.{Answer}
+use Rattle.sheet.specs.declared.Reply.{Reply}
 use Rattle.sheet.specs.declared.Sheet.{Sheet}
-use Rattle.sheet.specs.Calls.{Call, add, after, ask, back, clerk, grounds, mark, open-at, refusal, written}
+use Rattle.sheet.specs.Calls.{Call, accepts, add, after, ask, back, clerk, grounds, mark, open-at, refusal, replay, written}
+use Rattle.sheet.specs.Demands.{FreshlyGiven}
 use Rattle.sheet.specs.Page.{OpenPage, Opening, Page, blank, fresh, no-page, page, rulesOn}
-use Rattle.sheet.specs.Statements.{Outcome, Reached, Sequence, answers, asks, calls, done, opened, start, step}
+use Rattle.sheet.specs.Statements.{AllAccepted, Outcome, Reached, Sequence, answers, asks, calls, done, opened, start}
+use Rattle.sheet.proofs.WaysOfAsking.{accepted-reply, asked-on}
+use Rattle.sheet.proofs.Lawful.{clerk-reached, lawful-replays, reached-lawful}
+pub use Rattle.sheet.proofs.Lawful.{after-reached}
 use Rattle.sheet.proofs.Refusals.{after-accepted, after-refused}
+use Rattle.sheet.proofs.Ways.{sheet-reads}
 
 pub kept-is : (o : OpenPage) → Right (o .opening .width) (rulesOn (o .entries)) (fresh (page o) .kept)
 unfolding fresh
 kept-is o = kept-right (o .opening .width) (rulesOn (o .entries))
 
 -- ---- one call
-
-pub after-reached : {pg : Page} → Reached pg → (c : Call) → Reached (after pg c)
-after-reached {pg} h c = go (ℕ-discrete (refusal pg c) 0)
-  where
-    go : Dec (refusal pg c ≡ 0) → Reached (after pg c)
-    go (yes e) = rw (after-accepted pg c e) (step h c e)
-    go (no n) = rw (after-refused pg c n) h
 
 module _ {s : Sheet} (pg : Page) (e : s ≡ fresh pg) where
   opened-on : (g : Opening) → opened s g ≡ answers (refusal pg (open-at g)) (fresh (after pg (open-at g)))
@@ -61,10 +64,61 @@ after-ask pg m = go (ℕ-discrete (refusal pg (ask m)) 0)
 sequence-clerk : {s t : Sheet} {cs : List Call} {pg : Page} → Reached pg → s ≡ fresh pg → Sequence s cs t → t ≡ fresh (clerk pg cs)
 unfolding clerk
 sequence-clerk h e done = e
-sequence-clerk {pg} h e (calls c r p rest) =
-    sequence-clerk (after-reached h c) (ap (λ (a : Answer). a .sheet) (outcome-on pg e h c p)) rest
+sequence-clerk {pg} h e (calls c r p rest) = sequence-clerk (after-reached h c) (ap Answer.sheet (outcome-on pg e h c p)) rest
 sequence-clerk {pg} h e (asks b b′ r p rest) = rw (after-ask pg (length b)) (sequence-clerk h e rest)
 
-pub demand-3 : {s : Sheet} {cs : List Call} → Sequence blank cs s → s ≡ fresh (clerk no-page cs)
+-- what comes of calls is what a page gives
+pub as-fresh : {s : Sheet} {cs : List Call} → Sequence blank cs s → s ≡ fresh (clerk no-page cs)
 unfolding fresh
-demand-3 q = sequence-clerk start refl q
+as-fresh q = sequence-clerk start refl q
+
+sequence-accepted : {s t : Sheet} {cs : List Call} {pg : Page} → Reached pg → s ≡ fresh pg → accepts pg cs ≡ true → (q : Sequence s cs t) → AllAccepted q
+unfolding AllAccepted accepts
+sequence-accepted h e a done = tt
+sequence-accepted {pg = pg} h e a (calls c r p rest) =
+    let t = both-pass (eqb (refusal pg c) 0) _ a in
+    let q = outcome-on pg e h c p in
+    (ap Answer.number q ∙ eqb-true _ 0 (t .0), sequence-accepted (after-reached h c) (ap Answer.sheet q) (t .1) rest)
+sequence-accepted {pg = pg} h e a (asks b b′ r p rest) =
+    let t = both-pass (eqb (refusal pg (ask (length b))) 0) _ a in
+    let q = accepted-reply pg (length b) (eqb-true _ 0 (t .0)) in
+    (ap Reply.number (p .on-page pg h e .0 ∙ sym q), sequence-accepted h e (rw (after-ask pg (length b)) at (t .1)) rest)
+
+-- ---- each list of calls has an outcome
+
+module _ {s : Sheet} (pg : Page) (h : Reached pg) (e : s ≡ fresh pg) where
+  some-outcome : (c : Call) → ((r : Answer) × Outcome s c r) ⊎ ((m : ℕ) × (c ≡ ask m))
+  unfolding Outcome
+  some-outcome (open-at g) = inl (opened s g, refl)
+  some-outcome (add u) = inl (_, sheet-reads pg h e (add u) refl)
+  some-outcome mark = inl (_, sheet-reads pg h e mark refl)
+  some-outcome back = inl (_, sheet-reads pg h e back refl)
+  some-outcome (ask m) = inr (m, refl)
+
+some-sequence : (s : Sheet) (pg : Page) → Reached pg → s ≡ fresh pg → (cs : List Call) → (t : Sheet) × Sequence s cs t
+some-sequence s pg h e [] = (s, done)
+some-sequence s pg h e (c ∷ cs) = go (some-outcome pg h e c) (λ u qg k d. some-sequence u qg k d cs)
+  where
+    go : ((r : Answer) × Outcome s c r) ⊎ ((m : ℕ) × (c ≡ ask m)) → ((u : Sheet) (qg : Page) → Reached qg → u ≡ fresh qg → (t : Sheet) × Sequence u cs t)
+        → (t : Sheet) × Sequence s (c ∷ cs) t
+    go (inl p) later =
+        let rest = later (p .0 .sheet) (after pg c) (after-reached h c) (ap Answer.sheet (outcome-on pg e h c (p .1))) in
+        (rest .0, calls c (p .0) (p .1) (rest .1))
+    go (inr q) later =
+        let rest = later s pg h e in
+        let b : List ℕ = replicate (q .0) 0 in
+        let same : ask (length b) ≡ c = ap ask (length-replicate (q .0) 0) ∙ sym (q .1) in
+        (rest .0, subst (λ (d : Call). Sequence s (d ∷ cs) (rest .0)) same (asks b _ _ (asked-on pg h e refl refl) (rest .1)))
+
+-- ---- the demand
+
+pub demand-3 : {s : Sheet} {cs : List Call} → Sequence blank cs s → FreshlyGiven s (clerk no-page cs)
+unfolding fresh
+demand-3 {s} {cs} q =
+    let pg : Page = clerk no-page cs in
+    let l = lawful-replays pg (reached-lawful (clerk-reached start cs)) in
+    record {
+      given = some-sequence blank no-page start refl (replay pg);
+      equals = λ p. as-fresh q ∙ sym (ap fresh (l .comes-to)) ∙ sym (as-fresh p);
+      accepted = λ p. sequence-accepted start refl (l .accepted) p;
+    }

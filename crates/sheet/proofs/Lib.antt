@@ -1,4 +1,5 @@
-pub mod Asking
+pub mod Accepted
+pub mod Answered
 pub mod Demand
 pub mod Freed
 pub mod Fresh
@@ -13,3 +14,4 @@ pub mod Struck
 pub mod Tested
 pub mod Unique
 pub mod Ways
+pub mod WaysOfAsking

@@ -13,7 +13,7 @@ use Rattle.sheet.proofs.Refusals.{after-accepted, after-refused}
 use Rattle.sheet.proofs.OnePage.{one-page}
 
 module _ (pg : Page) (h : Reached pg) {s : Sheet} (e : s ≡ fresh pg) (c : Call) where
-  sheet-reads : {r : Answer} → r ≡ answers (refusal pg c) (fresh (after pg c)) → Reads s c r
+  pub sheet-reads : {r : Answer} → r ≡ answers (refusal pg c) (fresh (after pg c)) → Reads s c r
   sheet-reads {r} q =
       record {
         no-sheet = λ n. absurd (n (record { on = pg; reached = h; gives = e }));

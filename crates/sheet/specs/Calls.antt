@@ -65,3 +65,23 @@ after pg c = elim (eqb (refusal pg c) 0) [ true ↦ written pg c | false ↦ pg 
 unfoldable pub clerk : Page → List Call → Page
 clerk pg [] = pg
 clerk pg (c ∷ cs) = clerk (after pg c) cs
+
+-- none of these calls is refused
+unfoldable pub accepts : Page → List Call → Bool
+accepts pg [] = true
+accepts pg (c ∷ cs) = eqb (refusal pg c) 0 && accepts (after pg c) cs
+
+-- the call that writes an entry
+unfoldable pub enters : Entry → Call
+enters (a-rule r) = add r
+enters a-mark = mark
+
+-- the calls that give what stands, the oldest entry first
+unfoldable pub gives : List Entry → List Call
+gives [] = []
+gives (e ∷ es) = gives es ++ enters e ∷ []
+
+-- "one freshly opened and given what stands on a clerk's page": the calls that a page replays
+unfoldable pub replay : Page → List Call
+replay no-page = []
+replay (page o) = open-at (o .opening) ∷ gives (o .entries)

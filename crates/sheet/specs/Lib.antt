@@ -1,4 +1,5 @@
 pub mod Calls
+pub mod Demands
 pub mod Page
 pub mod Shape
 pub mod Stands

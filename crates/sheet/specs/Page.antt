@@ -88,7 +88,8 @@ blank =
       kept = keeps 0 0 0;
     }
 
--- the record that a page gives: what stands on it, zeros in the other places, and what is kept of its rules
+-- The record that a page gives: what stands on it, zeros in the other places, and what is kept of its rules. This is the route:
+-- that replaying the page gives it, from the blank sheet, is proved (proofs/Demand.antt).
 unfoldable pub fresh : Page → Sheet
 fresh no-page = blank
 fresh (page o) =

@@ -81,3 +81,9 @@ pub data Sequence : Sheet → List Call → Sheet → Type 0 where
   done : {s : Sheet} → Sequence s [] s
   calls : {s t : Sheet} {cs : List Call} (c : Call) (r : Answer) → Outcome s c r → Sequence (r .sheet) cs t → Sequence s (c ∷ cs) t
   asks : {s t : Sheet} {cs : List Call} (b b′ : List ℕ) (r : Reply) → Asked s b b′ r → Sequence s cs t → Sequence s (ask (length b) ∷ cs) t
+
+-- none of them was refused
+unfoldable pub AllAccepted : {s t : Sheet} {cs : List Call} → Sequence s cs t → Type 0
+AllAccepted done = Unit {0}
+AllAccepted (calls c r p rest) = (r .number ≡ 0) × AllAccepted rest
+AllAccepted (asks b b′ r p rest) = (r .number ≡ 0) × AllAccepted rest

@@ -1,9 +1,17 @@
 // The sheet and the calls on it. Each call takes any record and any numbers, and refuses what the paper refuses, in its
 // order.
-mod calls;
+ghost use mathlib.Core.Path.{_≡_};
+ghost use Rattle.sheet.specs.Stands.{Stands};
+ghost use Rattle.sheet.specs.Statements.{answers};
+
+mod adding;
+mod asking;
+mod going_back;
+mod marking;
+mod opening;
 mod shape;
 
-pub use calls::refusal;
+pub use asking::refusal;
 use rule::Rule;
 use verdict::Kept;
 
@@ -31,15 +39,47 @@ pub struct Reply {
     pub links: usize,
 }
 
+// A place that no rule has taken.
+const NO_RULE: Rule = Rule {
+    form: 0,
+    sense: 0,
+    c1: 0,
+    c2: 0,
+};
+
 impl Sheet {
     // The most marks that may be in force.
     pub const MARKS: usize = 16;
 
-    // The numbers that a link takes, and the most links that a rule adds to the first one.
+    // The numbers that a link takes.
     const LINK: usize = 3;
 
+    // The links that a rule may add to a first one.
     const LINKS: usize = 4;
 
     // What asking wants of a full sheet: three numbers for each of up to 4n + 1 links.
     pub const LENT: usize = Sheet::LINK * (Sheet::LINKS * Rule::LIMIT + 1);
+
+    // What every call but an opening tests first: 17 where the record is no sheet, 1 on the blank sheet.
+    fn standing(self) -> u64
+        ensures { λ r. ⌜ Stands self r ⌝ }
+    {
+        if !self.is_sheet() {
+            return 17;
+        }
+        if self.width == 0 {
+            return 1;
+        }
+        0
+    }
+
+    // A refused call hands the record back as it came.
+    fn refused(self, number: u64) -> Answer
+        ensures { λ r. ⌜ r ≡ answers number self ⌝ }
+    {
+        Answer {
+            number,
+            sheet: self,
+        }
+    }
 }

@@ -8,7 +8,7 @@ use Rattle.rule.specs.Meaning.{RULES}
 use Rattle.verdict.specs.declared.Kept.{Kept}
 use Rattle.sheet.specs.Stands.{Standing}
 use Rattle.sheet.specs.Statements.{Asked}
-use Rattle.sheet.proofs.Asking.{chain-asking, kept-asking, kept-on, refused-asking, short-asking}
+use Rattle.sheet.proofs.WaysOfAsking.{chain-asking, kept-asking, kept-on, refused-asking, short-asking}
 use Rattle.sheet.proofs.Lawful.{reached-lawful}
 use Rattle.sheet.proofs.Stands.{has-page, known, rules-lawful, width-of}
 use Rattle.sheet.proofs.Sheet.ask.Statement.{statement}

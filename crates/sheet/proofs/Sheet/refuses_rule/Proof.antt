@@ -42,14 +42,14 @@ returns-2 c =
 
 returns-3 : tie.Need-returns-3
 returns-3 c =
-    let b = c .before .before in
+    let b = c .before in
     let p = on (b .before .before) in
     let g = known p in
     seen p (add-full _ _ (sym (own p _ (b .before .refusal-of .ensures)) ∙ b .if2 .left) (omega arith))
 
 returns-4 : tie.Need-returns-4
 returns-4 c =
-    let b = c .before .before in
+    let b = c .before in
     let p = on (b .before .before) in
     let g = known p in
     seen p (add-fits _ _ (sym (own p _ (b .before .refusal-of .ensures)) ∙ b .if2 .left) (omega arith))

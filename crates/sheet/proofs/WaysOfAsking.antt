@@ -24,7 +24,7 @@ use Rattle.sheet.proofs.Refusals.{ask-fits, ask-short, blank-ask}
 use Rattle.sheet.proofs.Stands.{known}
 
 -- what holds of the one page is all that is asked
-asked-on : (pg : Page) → Reached pg → {s : Sheet} → s ≡ fresh pg → {b b′ : List ℕ} {r : Reply} → r ≡ reply pg (length b)
+pub asked-on : (pg : Page) → Reached pg → {s : Sheet} → s ≡ fresh pg → {b b′ : List ℕ} {r : Reply} → r ≡ reply pg (length b)
     → b′ ≡ overlaid (chainOn pg (length b)) b → Asked s b b′ r
 asked-on pg h {s} e {b} {b′} {r} p q =
     record {
@@ -34,7 +34,7 @@ asked-on pg h {s} e {b} {b′} {r} p q =
     }
 
 module _ (pg : Page) (m : ℕ) where
-  abbrev said : List Link
+  abbrev pub said : List Link
   said = findings (widthOf pg) (rulesOf pg) .chain
 
   -- what is answered and laid, by the test whether the call is accepted
@@ -42,7 +42,7 @@ module _ (pg : Page) (m : ℕ) where
   unfolding chainOn
   no-chain z = ap (λ (b : Bool). cond b said []) (ne-eqb _ 0 z)
 
-  the-chain : refusal pg (ask m) ≡ 0 → chainOn pg m ≡ said
+  pub the-chain : refusal pg (ask m) ≡ 0 → chainOn pg m ≡ said
   unfolding chainOn
   the-chain q = ap (λ (b : Bool). cond b said []) (eq-eqb _ 0 q)
 
@@ -54,7 +54,7 @@ module _ (pg : Page) (m : ℕ) where
   refused-reply {n} q z =
       sym (ap₂ (λ (b : Bool) (k : ℕ). choice b k (chainOn pg m)) (ne-eqb (refusal pg (ask m)) 0 (λ t. z (sym q ∙ t))) q)
 
-  accepted-reply : refusal pg (ask m) ≡ 0 → replies 0 (findings (widthOf pg) (rulesOf pg) .kept) (length said) ≡ reply pg m
+  pub accepted-reply : refusal pg (ask m) ≡ 0 → replies 0 (findings (widthOf pg) (rulesOf pg) .kept) (length said) ≡ reply pg m
   unfolding reply
   accepted-reply q = sym (ap₂ (λ (b : Bool) (ls : List Link). choice b (refusal pg (ask m)) ls) (eq-eqb _ 0 q) (the-chain q))
 

@@ -11,8 +11,8 @@ use Rattle.rule.specs.declared.Rule.{Rule}
 use Rattle.rule.specs.Meaning.{RULES}
 use Rattle.sheet.specs.Page.{noRule}
 use Rattle.sheet.proofs.Padded.{pad-suc}
-use Rattle.sheet.proofs.calls.front.Statement.{statement}
-use Rattle.sheet.proofs.calls.front.Tie as tie
+use Rattle.sheet.proofs.going_back.front.Statement.{statement}
+use Rattle.sheet.proofs.going_back.front.Tie as tie
 
 abbrev Inv-loop : tie.InvT-loop
 Inv-loop n rules first₀ i₀ first i = (i ≤ n) × (first ≡ take i rules ++ replicate (RULES - i) noRule)
