@@ -1,1 +1,3 @@
+pub mod Calls
 pub mod Passed
+pub mod Turns

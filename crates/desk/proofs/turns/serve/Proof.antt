@@ -3,7 +3,7 @@
 use mathlib.Core.Path.{_≡_, refl, sym, subst, _∙_}
 use mathlib.Core.Bool.{false≢true}
 use mathlib.Core.List.{List, []}
-use Prim.Native.Nat.{ℕ, _-_, _≤_}
+use Prim.Native.Nat.{ℕ, _+_, _-_, _≤_}
 use native.Mathlib.Omega.{arith}
 use borrow.Author.Needs.{needs}
 use lib.ListN.{length, take}
@@ -12,8 +12,8 @@ use Rattle.exchange.specs.Statements.{nothing}
 use Rattle.exchange.proofs.Parts.{feeds-fit, feeds-some}
 use Rattle.desk.specs.Passed.{Passed}
 use Rattle.desk.proofs.Passing.{passed-on}
-use Rattle.desk.proofs.serve.Statement.{statement}
-use Rattle.desk.proofs.serve.Tie as tie
+use Rattle.desk.proofs.turns.serve.Statement.{statement}
+use Rattle.desk.proofs.turns.serve.Tie as tie
 
 abbrev Inv-loop : tie.InvT-loop
 Inv-loop part out₀ desk₀ at₀ out desk at = (at ≤ length part) × (length out ≡ length out₀) × Passed desk₀ (take at part) desk
@@ -39,14 +39,14 @@ feed-requires c κs = search needs
 add-at : tie.Need-add-at Inv-loop μ-loop
 add-at c = omega (arith, feeds-fit (c .before .before .before .before .feed .ensures .feeds))
 
-slice-reshare-prefix-write-all : tie.Need-slice-reshare-prefix-write-all Inv-loop μ-loop
-slice-reshare-prefix-write-all c = search needs
+slice-reshare-prefix-send : tie.Need-slice-reshare-prefix-send Inv-loop μ-loop
+slice-reshare-prefix-send c = search needs
 
-slice-aggregate-write-all : tie.Need-slice-aggregate-write-all Inv-loop μ-loop
-slice-aggregate-write-all c = sym (length-take-le _ _ (omega arith))
+slice-aggregate-send : tie.Need-slice-aggregate-send Inv-loop μ-loop
+slice-aggregate-send c = sym (length-take-le _ _ (omega arith))
 
-write-all-requires : tie.Need-write-all-requires Inv-loop μ-loop
-write-all-requires c κs = search needs
+send-requires : tie.Need-send-requires Inv-loop μ-loop
+send-requires c κs = search needs
 
 same-length : tie.Need-same-length Inv-loop μ-loop
 same-length c = search needs
@@ -54,15 +54,23 @@ same-length c = search needs
 returns : tie.Need-returns Inv-loop μ-loop
 returns c = λ e. absurd (false≢true e)
 
+-- what a feeding uses of the rest, and what was used before, are within the part
+fits : (c : tie.After-feed Inv-loop μ-loop)
+    → c .before .before .before .before .loop .at + c .feed .result .used ≤ length (c .before .before .before .before .before .before .before .args .part .now)
+fits c = omega (arith, feeds-fit (c .feed .ensures .feeds))
+
 loop-less : tie.Need-loop-less Inv-loop μ-loop
-loop-less c = let f = c .before .before .before .before .before .before .before .feed .ensures .feeds in omega (arith, feeds-fit f, feeds-some f (omega arith) (omega arith))
+loop-less c =
+    let f = c .before .before .before .before .before .before .before .before .feed .ensures .feeds in
+    omega (arith, feeds-fit f, feeds-some f (omega arith) (omega arith))
 
 loop-again : tie.Need-loop-again Inv-loop μ-loop
 loop-again c =
-    let l = c .before .before .before .before .before .before .before .before .before .before .before in (
-      omega (arith, feeds-fit (c .before .before .before .before .before .before .before .feed .ensures .feeds)),
-      c .before .before .before .before .before .before .before .feed .kept .1 .1 .0 ∙ l .loop .inv .1,
-      passed-on (l .before .before .before .args .part .now) (l .loop .at) (l .loop .inv .2) (c .before .before .before .before .before .before .before .feed .ensures .feeds),
+    let f = c .before .before .before .before .before .before .before .before in
+    let l = f .before .before .before .before in (
+      fits f,
+      f .feed .kept .1 .1 .0 ∙ l .loop .inv .1,
+      passed-on (l .before .before .before .args .part .now) (l .loop .at) (l .loop .inv .2) (f .feed .ensures .feeds),
     )
 
 same-length-2 : tie.Need-same-length-2 Inv-loop μ-loop
@@ -86,9 +94,9 @@ serve-spec =
     part-feed-end
     feed-requires
     add-at
-    slice-reshare-prefix-write-all
-    slice-aggregate-write-all
-    write-all-requires
+    slice-reshare-prefix-send
+    slice-aggregate-send
+    send-requires
     same-length
     returns
     loop-less
