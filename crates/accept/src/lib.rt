@@ -40,13 +40,16 @@ pub fn refusal_of(rule: Rule, width: Width) -> u64
     requires { ⌜ IsWidth (width .bits) ⌝ }
     ensures { λ r. ⌜ r ≡ refusalOf (width .bits) rule ⌝ }
 {
-    if bad_form(rule) {
+    let form = bad_form(rule);
+    let sense = bad_sense(rule);
+    let constant = bad_constant(rule, width);
+    if form {
         return 3;
     }
-    if bad_sense(rule) {
+    if sense {
         return 4;
     }
-    if bad_constant(rule, width) {
+    if constant {
         return 5;
     }
     0

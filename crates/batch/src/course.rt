@@ -75,8 +75,9 @@ impl Course {
     pub fn finish(self, out: &mut [u64]) -> Batch
         ensures { λ r. ⌜ Finished self (now (out .entry)) (now (out .exit)) r ⌝ }
     {
-        if self.number != 0 {
-            return placed(sheet::refusal(self.number), self.place);
+        let refused = self.number;
+        if refused != 0 {
+            return placed(sheet::refusal(refused), self.place);
         }
         let sheet = self.sheet;
         let reply = sheet.ask(&mut *out);

@@ -46,11 +46,5 @@ module _ (es : List Entry) (some : 0 < length (marksOn es)) where
   rules-left =
       sym (ap (take (newest (marksOn es))) (rules-split es) ∙ take-at (rulesOn (struck es)) (since es) (newest (marksOn es)) count-left)
 
-  pub marks-left : marksOn (struck es) ≡ take (length (marksOn es) - 1) (marksOn es)
-  marks-left =
-      sym
-      (ap (take (length (marksOn es) - 1)) (marks-split es some)
-      ∙ take-at (marksOn (struck es)) (length (rulesOn (struck es)) ∷ []) (length (marksOn es) - 1) marks-left-length)
-
   pub newest-low : newest (marksOn es) ≤ length (rulesOn es)
   newest-low = omega (arith, count-left, ap length (rules-split es), length-append (rulesOn (struck es)) (since es))

@@ -16,7 +16,7 @@ placed-requires c κs = search needs
 
 returns : tie.Need-returns
 returns c =
-    let s = c .before .before .before .before .before .args .self in
+    let s = c .before .before .before .before .args .self in
     record {
       refused = λ _. (c .placed .ensures ∙ ap (λ (a : Reply). batches a (s .place)) (c .before .refusal .ensures), refl);
       asked = λ e. absurd (c .before .before .if1 .taken e);
