@@ -1,24 +1,22 @@
 -- However the input is cut into parts, the desk says the same. Bytes that go in one part after the other go in together; what a
 -- feeding says is what the bytes that it used get. Assumes nothing.
 use mathlib.Core.Path.{_≡_, refl, sym, ap, ap₂, _∙_, subst}
-use mathlib.Core.List.{List, _++_, append-assoc}
+use mathlib.Core.List.{List, _++_}
 use Prim.Native.Nat.{ℕ, _+_, _-_}
 use native.Mathlib.Omega.{arith}
 use lib.ListN.{drop, length, take}
 use lib.Seq.{take-add}
 use Rattle.sheet.specs.declared.Sheet.{Sheet}
-use Rattle.frame.proofs.Unique.{laid-unique, said-unique}
+use Rattle.frame.specs.Answers.{answerBytes}
+use Rattle.frame.specs.Fields.{Line}
+use Rattle.frame.proofs.Unique.{put-unique, said-unique}
 use Rattle.exchange.specs.declared.Desk.{Desk}
 use Rattle.exchange.specs.declared.Fed.{Fed}
 use Rattle.exchange.specs.Begun.{desk, none}
 use Rattle.exchange.specs.Lines.{withEnd}
 use Rattle.exchange.specs.Statements.{Ends, FedSo, Feeds, Finished, Takes, a-line, all-used, ends-line, goes-on, last-line, no-line, no-room, nothing}
 use Rattle.exchange.proofs.Taking.{end-prefix}
-
-pub takes-on : {d e f : Desk} {bs cs o p : List ℕ} → Takes d bs e o → Takes e cs f p → Takes d (bs ++ cs) f (o ++ p)
-takes-on nothing k = k
-takes-on {p} (ends-line {o} {p = q} h s t) k = subst (Takes _ _ _) (sym (append-assoc o q p)) (ends-line h s (takes-on t k))
-takes-on (goes-on n t) k = goes-on n (takes-on t k)
+pub use Rattle.exchange.proofs.Taking.{takes-on}
 
 pub feeds-takes : {m n : ℕ} {d e : Desk} {bs o : List ℕ} → Feeds m d bs e n o → Takes d (take n bs) e o
 feeds-takes all-used = nothing
@@ -31,12 +29,12 @@ feeds-takes {d} {e} {bs} {o} (a-line {n = k} r h t q) =
 
 pub takes-unique : {d e e′ : Desk} {bs o o′ : List ℕ} → Takes d bs e o → Takes d bs e′ o′ → (e ≡ e′) × (o ≡ o′)
 takes-unique nothing nothing = (refl, refl)
-takes-unique {e} {e′} (ends-line {bs} {p} h s t) (ends-line h′ s′ t′) =
+takes-unique {e} (ends-line {bs} {o} ls h s t) (ends-line ls′ h′ s′ t′) =
     let u = said-unique s s′ in
-    let v = takes-unique (subst (λ (x : Sheet). Takes (desk x none) bs e p) (u .0) t) t′ in
-    (v .0, ap₂ _++_ (u .1) (v .1))
-takes-unique (ends-line h s t) (goes-on n t′) = absurd (n h)
-takes-unique (goes-on n t) (ends-line h′ s′ t′) = absurd (n h′)
+    let v = takes-unique (subst (λ (x : Sheet). Takes (desk x none) bs e o) (u .0) t) t′ in
+    (v .0, ap₂ (λ (ks : List Line) (l : List ℕ). answerBytes ks ++ l) (u .1) (v .1))
+takes-unique (ends-line ls h s t) (goes-on n t′) = absurd (n h)
+takes-unique (goes-on n t) (ends-line ls h′ s′ t′) = absurd (n h′)
 takes-unique (goes-on n t) (goes-on n′ t′) = takes-unique t t′
 
 pub feeds-unique : {m n n′ : ℕ} {d e e′ : Desk} {bs o o′ : List ℕ} → Feeds m d bs e n o → Feeds m d bs e′ n′ o′
@@ -62,16 +60,16 @@ fed d used written = record { desk = d; used = used; written = written }
 pub fed-unique : {d : Desk} {part b b₁ b₂ : List ℕ} {r₁ r₂ : Fed} → FedSo d part b b₁ r₁ → FedSo d part b b₂ r₂ → (r₁ ≡ r₂) × (b₁ ≡ b₂)
 fed-unique {r₁} {r₂} u v =
     let f = feeds-unique (u .feeds) (v .feeds) in
-    let w = laid-unique (f .2) (u .laid) (v .laid) in
+    let w = put-unique (f .2) (u .puts) (v .puts) in
     (ap (λ (d : Desk). fed d (r₁ .used) (r₁ .written)) (f .0) ∙ ap₂ (fed (r₂ .desk)) (f .1) (w .1), w .0)
 
 ends-unique : {d : Desk} {o p : List ℕ} → Ends d o → Ends d p → o ≡ p
 ends-unique (no-line z) (no-line z′) = refl
-ends-unique (no-line z) (last-line n q) = absurd (n z)
-ends-unique (last-line n q) (no-line z) = absurd (n z)
-ends-unique (last-line n q) (last-line n′ q′) = said-unique q q′ .1
+ends-unique (no-line z) (last-line ls n q) = absurd (n z)
+ends-unique (last-line ls n q) (no-line z) = absurd (n z)
+ends-unique (last-line ls n q) (last-line ls′ n′ q′) = ap answerBytes (said-unique q q′ .1)
 
 pub finished-unique : {d : Desk} {b b₁ b₂ : List ℕ} {n₁ n₂ : ℕ} → Finished d b b₁ n₁ → Finished d b b₂ n₂ → (n₁ ≡ n₂) × (b₁ ≡ b₂)
 finished-unique u v =
-    let w = laid-unique (ends-unique (u .ends) (v .ends)) (u .laid) (v .laid) in
+    let w = put-unique (ends-unique (u .ends) (v .ends)) (u .puts) (v .puts) in
     (w .1, w .0)

@@ -10,6 +10,7 @@ use borrow.Author.Tests.{le-ltb, lt-ltb, ltb-false, ltb-true}
 use lib.Dec.{ltb}
 use lib.ListN.{drop, getD, length, length-append, length-set, length-take, set, take}
 use lib.Seq.{drop-cons, length-take-le, take-all, take-at, take-suc-set}
+use Rattle.frame.specs.Calls.{callOf, lineCall}
 use Rattle.frame.specs.Frames.{frameOf}
 use Rattle.frame.proofs.Rows.{other-length}
 use Rattle.exchange.specs.declared.Begun.{Begun}
@@ -98,8 +99,11 @@ cut-frame l = go (ltb (length l) HELD) refl
     go true e = ap frameOf (take-all HELD l (omega (arith, ltb-true (length l) HELD e)))
     go false e = long (ltb-false (length l) HELD e)
 
+pub cut-call : (l : List ℕ) → lineCall (take HELD l) ≡ lineCall l
+unfolding lineCall
+cut-call l = ap callOf (cut-frame l)
+
 -- a line of which nothing is held yet
-pub first-frame : (g : Begun) (l : List ℕ) → Whole g → g .len ≡ 0 → frameOf (begunLine (joined g l)) ≡ frameOf l
+pub first-call : (g : Begun) (l : List ℕ) → Whole g → g .len ≡ 0 → lineCall (begunLine (joined g l)) ≡ lineCall l
 unfolding begunLine
-first-frame g l w e =
-    ap frameOf (joined-held g l w ∙ ap (λ (n : ℕ). take HELD (take n (g .bytes) ++ l)) e) ∙ cut-frame l
+first-call g l w e = ap lineCall (joined-held g l w ∙ ap (λ (n : ℕ). take HELD (take n (g .bytes) ++ l)) e) ∙ cut-call l

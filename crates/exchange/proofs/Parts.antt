@@ -3,19 +3,19 @@ use mathlib.Core.Path.{_≡_, refl, sym, ap, _∙_}
 use mathlib.Core.List.{List, [], _++_, append-assoc, append-nil}
 use Prim.Native.Nat.{ℕ, _+_, _-_, _≤_, _<_}
 use native.Mathlib.Omega.{arith}
-use lib.ListN.{drop, drop-of-length-le, length, length-drop}
+use lib.ListN.{drop, drop-of-length-le, length, length-append, length-drop}
 use lib.Seq.{drop-drop}
-use Rattle.frame.specs.declared.Answered.{Answered}
-use Rattle.frame.specs.Answers.{ROOM}
-use Rattle.frame.specs.Statements.{Laid}
-use Rattle.frame.proofs.Lines.{laid-none, laid-on}
+use Rattle.frame.specs.declared.AfterLine.{AfterLine}
+use Rattle.frame.specs.Answers.{ROOM, answerBytes}
+use Rattle.frame.specs.Statements.{PutAt}
+use Rattle.frame.proofs.Lines.{put-none, put-on}
 use Rattle.exchange.specs.declared.Begun.{Begun}
 use Rattle.exchange.specs.declared.Desk.{Desk}
 use Rattle.exchange.specs.declared.Fed.{Fed}
 use Rattle.exchange.specs.Begun.{desk, joined, none}
 use Rattle.exchange.specs.Lines.{lineOf, withEnd}
 use Rattle.exchange.specs.Statements.{FedSo, Feeds, Turned, WholeAnswered, a-line, all-used, no-room}
-use Rattle.exchange.proofs.Taking.{end-fits, end-some, ended, line-fits, unended}
+use Rattle.exchange.proofs.Taking.{end-fits, end-none, end-some, end-there, ended, line-fits, unended}
 
 -- ---- one turn
 
@@ -23,25 +23,25 @@ module _ (d : Desk) (part : List ℕ) (from : ℕ) {line : List ℕ} (e : line �
   pub turned-unended : (b : List ℕ) (at : ℕ) {g : Begun} → at ≤ length b → g ≡ joined (d .begun) line → from + length line ≡ length part
       → Turned d part from b at b (desk (d .sheet) g) (from + length line) at
   turned-unended b at r k q =
-      let u = unended d (drop from part) (omega (arith, ap length e, length-drop from part)) in
+      let n : length (lineOf (drop from part)) ≡ length (drop from part) = omega (arith, ap length e, length-drop from part) in
       record {
         bytes = [];
-        takes = rw (k, e) (u .takes);
-        laid = laid-none b at r;
+        takes = rw (k, e) (unended d (drop from part) n);
+        puts = put-none b at r;
         fits = omega arith;
-        goes = omega (arith, ap length e, u .size);
+        goes = omega (arith, ap length e, ap length (end-none (drop from part) n));
       }
 
-  pub turned-ended : {b b′ : List ℕ} {at : ℕ} (r : Answered) {g : Begun} → WholeAnswered (d .sheet) (d .begun) line b at b′ r → g ≡ none
+  pub turned-ended : {b b′ : List ℕ} {at : ℕ} (r : AfterLine) {g : Begun} → WholeAnswered (d .sheet) (d .begun) line b at b′ r → g ≡ none
       → (from + length line ≡ length part → ⊥) → Turned d part from b at b′ (desk (r .sheet) g) (from + length line + 1) (r .end)
   turned-ended r w k n =
-      let u = ended d (drop from part) (omega (arith, ap length e, length-drop from part, line-fits (drop from part))) in
+      let m : length (lineOf (drop from part)) < length (drop from part) = omega (arith, ap length e, length-drop from part, line-fits (drop from part)) in
       record {
-        bytes = w .bytes;
-        takes = rw k (u .takes (rw e at (w .said)));
-        laid = w .laid;
+        bytes = answerBytes (w .lines);
+        takes = rw k (ended d (drop from part) m (w .lines) (rw e at (w .said)));
+        puts = w .puts;
         fits = w .fits;
-        goes = omega (arith, ap length e, u .size);
+        goes = omega (arith, ap length e, simp length-append at (ap length (end-there (drop from part) m)));
       }
 
 -- ---- turns one after another
@@ -53,20 +53,20 @@ feeds-as e₁ e₂ e₃ e₄ q = rw (sym e₁, sym e₂, sym e₃, sym e₄) q
 -- a feeding that has used so much of a part and written so much: what goes on from here goes on from the start
 pub record Midway (d : Desk) (part b : List ℕ) (e : Desk) (used written : ℕ) (b′ : List ℕ) : Type 0 where
   pub bytes : List ℕ
-  pub laid : Laid b 0 bytes b′ written
+  pub puts : PutAt b 0 bytes b′ written
   pub rest : {f : Desk} {n : ℕ} {p : List ℕ} → Feeds (length b - written) e (drop used part) f n p → Feeds (length b) d part f (used + n) (bytes ++ p)
 
 pub midway-start : (d : Desk) (part b : List ℕ) → Midway d part b d 0 0 b
-midway-start d part b = record { bytes = []; laid = laid-none b 0 (omega arith); rest = λ q. feeds-as (omega arith) refl (omega arith) refl q }
+midway-start d part b = record { bytes = []; puts = put-none b 0 (omega arith); rest = λ q. feeds-as (omega arith) refl (omega arith) refl q }
 
 pub midway-on : {d e f : Desk} {part b b₁ b₂ : List ℕ} {used written next end : ℕ} → Midway d part b e used written b₁
     → Turned e part used b₁ written b₂ f next end → ROOM ≤ length b - written → used < length part → Midway d part b f next end b₂
 midway-on {part} {b} {used} {written} {next} {end} m t r h =
-    let e = t .laid .ends in
+    let e = t .puts .ends in
     let g = t .goes in
     record {
       bytes = m .bytes ++ t .bytes;
-      laid = laid-on (m .laid) (t .laid);
+      puts = put-on (m .puts) (t .puts);
       rest = λ q.
           let room : length b - end ≡ length b - written - length (t .bytes) = omega arith in
           let k = feeds-as room (ap (λ (i : ℕ). drop i part) g ∙ sym (drop-drop _ used part)) refl refl q in
@@ -83,13 +83,13 @@ fed-all {part} r m h =
     record {
       bytes = m .bytes;
       feeds = feeds-as refl refl (omega arith) (append-nil (m .bytes)) (m .rest (feeds-as refl e refl refl all-used));
-      laid = m .laid;
+      puts = m .puts;
     }
 
 pub fed-full : {d : Desk} {part b b′ : List ℕ} (r : Fed) → Midway d part b (r .desk) (r .used) (r .written) b′
     → length b - r .written < ROOM → FedSo d part b b′ r
 fed-full r m h =
-    record { bytes = m .bytes; feeds = feeds-as refl refl (omega arith) (append-nil (m .bytes)) (m .rest (no-room h)); laid = m .laid }
+    record { bytes = m .bytes; feeds = feeds-as refl refl (omega arith) (append-nil (m .bytes)) (m .rest (no-room h)); puts = m .puts }
 
 -- ---- how much of a part is used
 

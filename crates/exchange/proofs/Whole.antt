@@ -10,17 +10,20 @@ use lib.Seq.{sets-eq, take-append-seam}
 use Rattle.sheet.specs.declared.Sheet.{Sheet}
 use Rattle.sheet.specs.Page.{Page, blank, fresh}
 use Rattle.sheet.specs.Statements.{Reached, start}
-use Rattle.frame.specs.Answers.{NEWLINE}
-use Rattle.frame.specs.Frames.{LONGEST, frameOf}
+use Rattle.frame.specs.Answers.{NEWLINE, answerBytes}
+use Rattle.frame.specs.Calls.{lineCall}
+use Rattle.frame.specs.Fields.{Line}
+use Rattle.frame.specs.Frames.{LONGEST}
 use Rattle.frame.specs.Pages.{answerTo, pageAfter}
-use Rattle.frame.specs.Statements.{Laid}
+use Rattle.frame.specs.Statements.{PutAt}
 use Rattle.frame.proofs.OnPage.{page-answers, page-reached}
 use Rattle.exchange.specs.declared.Desk.{Desk}
 use Rattle.exchange.specs.Begun.{HELD, begunLine, desk, none, put}
 use Rattle.exchange.specs.Exchange.{answersTo, exchange, inFront, lines}
 use Rattle.exchange.specs.Statements.{Ends, Finished, LineSaid, Takes, Talk, a-part, ends-line, goes-on, last-line, no-line, nothing, silence}
-use Rattle.exchange.proofs.Cut.{feeds-takes, takes-on}
-use Rattle.exchange.proofs.Held.{Whole, cut-frame, put-held, put-whole, take-take-append}
+use Rattle.exchange.proofs.Cut.{feeds-takes}
+use Rattle.exchange.proofs.Held.{Whole, cut-call, put-held, put-whole, take-take-append}
+use Rattle.exchange.proofs.Taking.{takes-on}
 
 -- lines with bytes in front
 afterBytes : List ℕ → List (List ℕ) → List (List ℕ)
@@ -52,15 +55,15 @@ record Holds (pg : Page) (u : List ℕ) (d : Desk) : Type 0 where
 
 module _ {pg : Page} {u : List ℕ} {d : Desk} (h : Holds pg u d) where
   -- the line gets the page's answer
-  said-of : {t : Sheet} {o : List ℕ} → LineSaid d t o → (t ≡ fresh (pageAfter pg (frameOf u))) × (o ≡ answerTo pg (frameOf u))
+  said-of : {t : Sheet} {ls : List Line} → LineSaid d t ls → (t ≡ fresh (pageAfter pg (lineCall u))) × (ls ≡ answerTo pg (lineCall u))
   said-of q =
-      let e = ap frameOf (h .held) ∙ cut-frame u in
+      let e = ap lineCall (h .held) ∙ cut-call u in
       page-answers pg (h .reached) (h .sheet-of) (rw e at q)
 
   -- after it, no line
-  line-over : {t : Sheet} {o : List ℕ} → LineSaid d t o → Holds (pageAfter pg (frameOf u)) [] (desk t none)
+  line-over : {t : Sheet} {ls : List Line} → LineSaid d t ls → Holds (pageAfter pg (lineCall u)) [] (desk t none)
   unfolding begunLine
-  line-over q = record { reached = page-reached (h .reached) (frameOf u); sheet-of = said-of q .0; whole = refl; held = refl }
+  line-over q = record { reached = page-reached (h .reached) (lineCall u); sheet-of = said-of q .0; whole = refl; held = refl }
 
   holds-more : (b : ℕ) → Holds pg (u ++ b ∷ []) (desk (d .sheet) (put (d .begun) b))
   holds-more b =
@@ -75,20 +78,20 @@ module _ {pg : Page} {u : List ℕ} {d : Desk} (h : Holds pg u d) where
 at-end : {pg : Page} (u : List ℕ) {d : Desk} {p : List ℕ} → Holds pg u d → Ends d p → p ≡ answersTo pg (afterBytes u [])
 unfolding answersTo afterBytes begunLine
 at-end [] h (no-line z) = refl
-at-end [] {d} h (last-line n q) =
+at-end [] {d} h (last-line ls n q) =
     absurd (n (omega (arith, h .whole, sym (length-take (d .begun .len) (d .begun .bytes)) ∙ ap length (h .held))))
 at-end (b ∷ u) {d} h (no-line z) =
     let e : 0 ≡ suc (length (take LONGEST u)) = ap (λ (n : ℕ). length (take n (d .begun .bytes))) (sym z) ∙ ap length (h .held) in absurd (omega arith)
-at-end {pg} (b ∷ u) {d} {p} h (last-line n q) =
-    said-of h q .1 ∙ sym (append-nil _) ∙ ap (answersTo pg) (sym (line-last b u))
+at-end {pg} (b ∷ u) {d} {p} h (last-line ls n q) =
+    ap answerBytes (said-of h q .1) ∙ sym (append-nil _) ∙ ap (answersTo pg) (sym (line-last b u))
 
 from-here : {pg : Page} (u : List ℕ) {d e : Desk} {bs o p : List ℕ} → Holds pg u d → Takes d bs e o → Ends e p
     → o ++ p ≡ answersTo pg (afterBytes u (lines bs))
 unfolding lines answersTo afterBytes
 from-here u h nothing k = at-end u h k
-from-here {pg} u {p} h (ends-line {b} {bs} {o} {p = q} z s t) k =
-    append-assoc o q p
-    ∙ ap₂ _++_ (said-of h s .1) (from-here [] (line-over h s) t k)
+from-here {pg} u {p} h (ends-line {b} {bs} {o = q} ls z s t) k =
+    append-assoc (answerBytes ls) q p
+    ∙ ap₂ _++_ (ap answerBytes (said-of h s .1)) (from-here [] (line-over h s) t k)
     ∙ sym (rw (eq-eqb b NEWLINE z, line-ends u (lines bs)))
 from-here {pg} u h (goes-on {b} {bs} n t) k =
     from-here (u ++ b ∷ []) (holds-more h b) t k ∙ sym (rw (ne-eqb b NEWLINE n, byte-more u b (lines bs)))
@@ -100,16 +103,16 @@ whole-exchange t k = from-here [] (record { reached = start; sheet-of = refl; wh
 -- ---- however it is cut
 
 -- what a buffer holds up to the place where bytes from its start on end
-laid-read : {b b′ bytes : List ℕ} {n : ℕ} → Laid b 0 bytes b′ n → take n b′ ≡ bytes
-laid-read {b} {b′} {bytes} {n} l =
+put-read : {b b′ bytes : List ℕ} {n : ℕ} → PutAt b 0 bytes b′ n → take n b′ ≡ bytes
+put-read {b} {b′} {bytes} {n} l =
     ap₂ take (l .ends ∙ zero-add (length bytes)) (l .written .stands ∙ sets-eq bytes b 0 (l .fits))
     ∙ take-append-seam bytes (drop (0 + length bytes) b)
 
 talk-takes : {d e : Desk} {input o : List ℕ} → Talk d input e o → Takes d input e o
 talk-takes silence = nothing
 talk-takes {d} {e} (a-part {more} {o} part b b′ r h t) =
-    subst (λ (l : List ℕ). Takes d (take (r .used) part ++ more) e (l ++ o)) (sym (laid-read (h .laid)))
+    subst (λ (l : List ℕ). Takes d (take (r .used) part ++ more) e (l ++ o)) (sym (put-read (h .puts)))
     (takes-on (feeds-takes (h .feeds)) (talk-takes t))
 
 pub any-cut : {e : Desk} {input o b b′ : List ℕ} {n : ℕ} → Talk (desk blank none) input e o → Finished e b b′ n → o ++ take n b′ ≡ exchange input
-any-cut {o} t k = ap (λ (l : List ℕ). o ++ l) (laid-read (k .laid)) ∙ whole-exchange (talk-takes t) (k .ends)
+any-cut {o} t k = ap (λ (l : List ℕ). o ++ l) (put-read (k .puts)) ∙ whole-exchange (talk-takes t) (k .ends)

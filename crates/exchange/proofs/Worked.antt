@@ -5,14 +5,16 @@ use Prim.Native.String.{String}
 use Rattle.word.specs.Search.{climb, first, last}
 use Rattle.word.specs.Word.{half, minus, plus, signed, top}
 use Rattle.rule.specs.Meaning.{fits, meets, meets7, reach, rows, written}
-use Rattle.accept.specs.Accept.{badConstant, badForm, badSense}
+use Rattle.accept.specs.Accept.{badConstant, badForm, badSense, ruleGrounds}
 use Rattle.verdict.specs.Kept.{kept, verdictOf}
 use Rattle.chain.specs.Findings.{findings, chainFor}
 use Rattle.chain.specs.Links.{before, blocks, further, furthest, furthestOf, gap, linkAt, linkBy, links, linksFrom}
-use Rattle.sheet.specs.Calls.{after, grounds, isBlank, lowest, marksOf, refusal, rulesOf, written as writes}
+use Rattle.sheet.specs.Calls.{after, changed, firstThatApplies, grounds, isBlank, marksOf, refusal, rulesOf, written as writes}
 use Rattle.sheet.specs.Page.{entriesOf, marksOn, rulesOn, struck, widthOf}
 use Rattle.hex.specs.Hex.{allDigits, glyph, hex, isDigit, number, numberFrom, value}
-use Rattle.frame.specs.Answers.{chainLines, keptLine, linkLine, numberLine}
+use Rattle.frame.specs.Answers.{answerBytes, chainLines, lineBytes, numberLine}
+use Rattle.frame.specs.Calls.{callOf, lineCall}
+use Rattle.frame.specs.Fields.{digitsIn}
 use Rattle.frame.specs.Frames.{bare, byDigits, frameOf, ruleOf}
 use Rattle.frame.specs.Pages.{answerTo, pageAfter}
 use Rattle.exchange.specs.Exchange.{answersTo, exchange, inFront, lines}
@@ -21,7 +23,7 @@ use Rattle.exchange.specs.Text.{bytesOf}
 
 pub paper : exchange (bytesOf paper-input) ≡ bytesOf paper-output
 unfolding
-    exchange answersTo answerTo pageAfter lines inFront bytesOf frameOf byDigits bare ruleOf allDigits isDigit number numberFrom value numberLine keptLine linkLine chainLines hex glyph after refusal lowest grounds isBlank badForm badSense badConstant rulesOf marksOf writes entriesOf widthOf rulesOn marksOn struck findings chainFor kept verdictOf links linksFrom linkAt linkBy gap before furthest furthestOf further blocks reach meets7 fits meets written rows first last climb top half plus minus signed
+    exchange answersTo answerTo pageAfter lineCall callOf lines inFront bytesOf frameOf byDigits bare ruleOf allDigits isDigit number numberFrom value answerBytes lineBytes digitsIn numberLine chainLines hex glyph after refusal firstThatApplies grounds ruleGrounds isBlank badForm badSense badConstant rulesOf marksOf writes changed entriesOf widthOf rulesOn marksOn struck findings chainFor kept verdictOf links linksFrom linkAt linkBy gap before furthest furthestOf further blocks reach meets7 fits meets written rows first last climb top half plus minus signed
 paper = refl
 
 -- "each line ended by byte 10; the last may lack it, and a final byte 10 opens no further line"
@@ -33,5 +35,5 @@ endings = refl
 -- "Empty input gives empty output; an empty line is answered with 10."
 pub empties : map (λ (t : String). exchange (bytesOf t)) ("" ∷ "\n" ∷ "\n\n" ∷ []) ≡ map bytesOf ("" ∷ "ff0a\n" ∷ "ff0a\nff0a\n" ∷ [])
 unfolding
-    exchange answersTo answerTo pageAfter lines inFront bytesOf frameOf byDigits bare allDigits number numberFrom numberLine hex glyph
+    exchange answersTo answerTo pageAfter lineCall callOf lines inFront bytesOf frameOf byDigits bare allDigits number numberFrom answerBytes lineBytes digitsIn numberLine hex glyph
 empties = refl

@@ -4,8 +4,8 @@ use mathlib.Core.List.{List, [], _∷_, _++_}
 use Prim.Native.Nat.{ℕ}
 use lib.Dec.{eqb}
 use Rattle.sheet.specs.Page.{Page, no-page}
-use Rattle.frame.specs.Answers.{NEWLINE}
-use Rattle.frame.specs.Frames.{frameOf}
+use Rattle.frame.specs.Answers.{NEWLINE, answerBytes}
+use Rattle.frame.specs.Calls.{lineCall}
 use Rattle.frame.specs.Pages.{answerTo, pageAfter}
 
 -- a byte in front of the first line; there may be none yet
@@ -21,7 +21,7 @@ lines (b ∷ bs) = cond (eqb b NEWLINE) ([] ∷ lines bs) (inFront b (lines bs))
 -- the answers to lines, one after the other
 unfoldable pub answersTo : Page → List (List ℕ) → List ℕ
 answersTo pg [] = []
-answersTo pg (l ∷ ls) = answerTo pg (frameOf l) ++ answersTo (pageAfter pg (frameOf l)) ls
+answersTo pg (l ∷ ls) = answerBytes (answerTo pg (lineCall l)) ++ answersTo (pageAfter pg (lineCall l)) ls
 
 -- the output for an input: the first line finds the blank sheet
 unfoldable pub exchange : List ℕ → List ℕ

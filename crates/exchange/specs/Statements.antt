@@ -5,10 +5,11 @@ use mathlib.Core.List.{List, [], _∷_, _++_}
 use Prim.Native.Nat.{ℕ, _+_, _-_, _≤_, _<_}
 use lib.ListN.{drop, length, take}
 use Rattle.sheet.specs.declared.Sheet.{Sheet}
-use Rattle.frame.specs.declared.Answered.{Answered}
-use Rattle.frame.specs.Answers.{NEWLINE, ROOM}
-use Rattle.frame.specs.Frames.{frameOf}
-use Rattle.frame.specs.Statements.{Laid, Said}
+use Rattle.frame.specs.declared.AfterLine.{AfterLine}
+use Rattle.frame.specs.Answers.{NEWLINE, ROOM, answerBytes}
+use Rattle.frame.specs.Calls.{lineCall}
+use Rattle.frame.specs.Fields.{Line}
+use Rattle.frame.specs.Statements.{PutAt, Said}
 use Rattle.exchange.specs.declared.Begun.{Begun}
 use Rattle.exchange.specs.declared.Desk.{Desk}
 use Rattle.exchange.specs.declared.Fed.{Fed}
@@ -16,14 +17,14 @@ use Rattle.exchange.specs.Begun.{begunLine, desk, joined, none, put}
 use Rattle.exchange.specs.Lines.{withEnd}
 
 -- what the line that a desk holds gets
-abbrev pub LineSaid : Desk → Sheet → List ℕ → Type 0
-LineSaid d t bytes = Said (d .sheet) (frameOf (begunLine (d .begun))) t bytes
+abbrev pub LineSaid : Desk → Sheet → List Line → Type 0
+LineSaid d t ls = Said (d .sheet) (lineCall (begunLine (d .begun))) t ls
 
 -- Bytes go in, one after the other: a byte 10 ends the line, which gets its answer; any other byte goes to the line.
 pub data Takes : Desk → List ℕ → Desk → List ℕ → Type 0 where
   nothing : {d : Desk} → Takes d [] d []
-  ends-line : {d e : Desk} {t : Sheet} {b : ℕ} {bs o p : List ℕ} → b ≡ NEWLINE → LineSaid d t o → Takes (desk t none) bs e p
-      → Takes d (b ∷ bs) e (o ++ p)
+  ends-line : {d e : Desk} {t : Sheet} {b : ℕ} {bs o : List ℕ} (ls : List Line) → b ≡ NEWLINE → LineSaid d t ls → Takes (desk t none) bs e o
+      → Takes d (b ∷ bs) e (answerBytes ls ++ o)
   goes-on : {d e : Desk} {b : ℕ} {bs o : List ℕ} → (b ≡ NEWLINE → ⊥) → Takes (desk (d .sheet) (put (d .begun) b)) bs e o → Takes d (b ∷ bs) e o
 
 -- A part goes in, line by line, while there is room for an answer.
@@ -36,32 +37,32 @@ pub data Feeds : (room : ℕ) → Desk → List ℕ → Desk → (used : ℕ) �
 pub record FedSo (d : Desk) (part b b′ : List ℕ) (r : Fed) : Type 0 where
   pub bytes : List ℕ
   pub feeds : Feeds (length b) d part (r .desk) (r .used) bytes
-  pub laid : Laid b 0 bytes b′ (r .written)
+  pub puts : PutAt b 0 bytes b′ (r .written)
 
 -- "the last may lack it, and a final byte 10 opens no further line": at the end a line is answered where it has a byte
 pub data Ends (d : Desk) : List ℕ → Type 0 where
   no-line : d .begun .len ≡ 0 → Ends d []
-  last-line : {t : Sheet} {bytes : List ℕ} → (d .begun .len ≡ 0 → ⊥) → LineSaid d t bytes → Ends d bytes
+  last-line : {t : Sheet} (ls : List Line) → (d .begun .len ≡ 0 → ⊥) → LineSaid d t ls → Ends d (answerBytes ls)
 
 pub record Finished (d : Desk) (b b′ : List ℕ) (n : ℕ) : Type 0 where
   pub bytes : List ℕ
   pub ends : Ends d bytes
-  pub laid : Laid b 0 bytes b′ n
+  pub puts : PutAt b 0 bytes b′ n
 
 -- one turn: a part's next line goes in
 pub record Turned (d : Desk) (part : List ℕ) (from : ℕ) (b : List ℕ) (at : ℕ) (b′ : List ℕ) (e : Desk) (next end : ℕ) : Type 0 where
   pub bytes : List ℕ
   pub takes : Takes d (withEnd (drop from part)) e bytes
-  pub laid : Laid b at bytes b′ end
+  pub puts : PutAt b at bytes b′ end
   pub fits : length bytes ≤ ROOM
   pub goes : next ≡ from + length (withEnd (drop from part))
 
 -- a line that was begun, and ends here
-pub record WholeAnswered (s : Sheet) (g : Begun) (line b : List ℕ) (at : ℕ) (b′ : List ℕ) (r : Answered) : Type 0 where
-  pub bytes : List ℕ
-  pub said : LineSaid (desk s (joined g line)) (r .sheet) bytes
-  pub laid : Laid b at bytes b′ (r .end)
-  pub fits : length bytes ≤ ROOM
+pub record WholeAnswered (s : Sheet) (g : Begun) (line b : List ℕ) (at : ℕ) (b′ : List ℕ) (r : AfterLine) : Type 0 where
+  pub lines : List Line
+  pub said : LineSaid (desk s (joined g line)) (r .sheet) lines
+  pub puts : PutAt b at (answerBytes lines) b′ (r .end)
+  pub fits : length (answerBytes lines) ≤ ROOM
 
 -- Parts go in one after the other, each with any outcome that satisfies what feeding promises; what a feeding leaves of a part
 -- may go in again. The input is what was used of each, and the output what each wrote.

@@ -11,7 +11,7 @@ use crate::Begun;
 use crate::Desk;
 use crate::Fed;
 use crate::lines;
-use frame::Answered;
+use frame::AfterLine;
 use frame::Frame;
 use sheet::Sheet;
 
@@ -112,7 +112,7 @@ fn answer_whole(
     line: &[u8],
     out: &mut [u8],
     at: usize,
-) -> Answered
+) -> AfterLine
     requires { ⌜ at + ROOM ≤ length (now out) ⌝ }
     ensures { λ r. ⌜ WholeAnswered sheet (begins bytes len) (now (line .entry)) (now (out .entry)) at (now (out .exit)) r ⌝ }
 {
@@ -131,7 +131,7 @@ fn answer_held(
     len: usize,
     out: &mut [u8],
     at: usize,
-) -> Answered
+) -> AfterLine
     requires { ⌜ at + ROOM ≤ length (now out) ⌝ }
     ensures { λ r. ⌜ LineAnswered sheet (begunLine (begins bytes len)) (now (out .entry)) at (now (out .exit)) r ⌝ }
 {

@@ -1,3 +1,4 @@
+pub mod Fields
 pub mod Fit
 pub mod Lines
 pub mod OnPage

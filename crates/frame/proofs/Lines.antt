@@ -2,59 +2,70 @@
 use mathlib.Core.Path.{_≡_, refl, sym, ap, _∙_}
 use mathlib.Core.Bool.{Bool, true, false, cond}
 use mathlib.Core.List.{List, [], _∷_, _++_, append-assoc, append-nil}
-use Prim.Native.Nat.{ℕ, zero, suc, _+_, _*_, _≤_}
+use Prim.Native.Nat.{ℕ, zero, suc, _+_, _*_, _≤_, _<_}
 use native.Mathlib.Nat.{add-zero}
 use native.Mathlib.Omega.{arith}
 use borrow.Author.Tests.{ne-eqb}
 use lib.Dec.{eqb}
 use lib.ListN.{drop, getD, length, length-append, set}
-use lib.Seq.{getD-drop, length-sets}
+use lib.Seq.{drop-cons, getD-drop, length-sets, sets}
 use Rattle.verdict.specs.declared.Kept.{Kept}
 use Rattle.hex.specs.Hex.{Written, hex}
 use Rattle.hex.proofs.Digits.{and-then, length-hex}
-use Rattle.frame.specs.Answers.{ACCEPTED, LINE, LINKED, NEWLINE, REFUSED, TOLD, keptLine, linkLine, linkLines, numberLine}
-use Rattle.frame.specs.Statements.{Laid}
+use Rattle.frame.specs.declared.Field.{Field}
+use Rattle.frame.specs.Answers.{ACCEPTED, LINE, NEWLINE, REFUSED, SHORT, answerBytes, keptLine, lineBytes, linkLine, linkLines, numberLine}
+use Rattle.frame.specs.Fields.{Line, byte, digitsIn, field}
+use Rattle.frame.specs.Statements.{PutAt}
+use Rattle.frame.proofs.Fields.{length-digits, shape, total}
 
--- a line of digits gets its byte 10
-ended : {b b₁ : List ℕ} {at : ℕ} {xs : List ℕ} → Written b at xs b₁ → (n : ℕ) → length xs ≡ n → at + (n + 1) ≤ length b
-    → Laid b at (xs ++ NEWLINE ∷ []) (set b₁ (at + n) NEWLINE) (at + (n + 1))
-ended {b} {b₁} {at} {xs} w n e h =
+-- the numbers from one on: that number, and those after it
+module _ (l : Line) (i : ℕ) (h : i < length l) where
+  abbrev here : Field
+  here = getD l i (field 0 0)
+
+  digits-next : digitsIn (drop i l) ≡ hex (here .digits) (here .number) ++ digitsIn (drop (suc i) l)
+  unfolding digitsIn
+  digits-next = rw (drop-cons l i (field 0 0))
+
+  pub size-next : length (digitsIn (drop i l)) ≡ here .digits + length (digitsIn (drop (suc i) l))
+  size-next =
+      ap length digits-next
+      ∙ length-append (hex (here .digits) (here .number)) _
+      ∙ ap (λ (n : ℕ). n + length (digitsIn (drop (suc i) l))) (length-hex (here .digits) (here .number))
+
+  pub put-next : {b b′ : List ℕ} (at : ℕ) → Written b at (hex (here .digits) (here .number)) b′
+      → sets b′ (at + here .digits) (digitsIn (drop (suc i) l)) ≡ sets b at (digitsIn (drop i l))
+  put-next {b} at u =
+      let e = ap (λ (n : ℕ). at + n) (sym (length-hex (here .digits) (here .number))) in
+      and-then {ys = digitsIn (drop (suc i) l)} u (record { stands = refl }) e .stands ∙ ap (sets b at) (sym digits-next)
+
+-- numbers that are written, and the byte 10 after them
+pub line-put : {b b₁ : List ℕ} {at end : ℕ} (l : Line) → end ≡ at + length (digitsIn l) → at + length (lineBytes l) ≤ length b
+    → b₁ ≡ sets b at (digitsIn l) → PutAt b at (lineBytes l) (set b₁ end NEWLINE) (end + 1)
+unfolding lineBytes
+line-put l e h w =
     record {
-      written = and-then w (record { stands = refl }) (ap (λ (k : ℕ). at + k) (sym e));
-      fits = rw (length-append xs (NEWLINE ∷ [])) (omega arith);
-      ends = rw (length-append xs (NEWLINE ∷ [])) (omega arith);
+      written = and-then {xs = digitsIn l} {ys = NEWLINE ∷ []} (record { stands = w }) (record { stands = refl }) e;
+      fits = h;
+      ends = rw (length-append (digitsIn l) (NEWLINE ∷ [])) (omega arith);
     }
 
-module _ {b b₁ : List ℕ} {at : ℕ} where
-  pub accepted : at + 3 ≤ length b → Written b at (hex 2 ACCEPTED) b₁ → Laid b at (numberLine 0) (set b₁ (at + 2) NEWLINE) (at + 3)
-  unfolding numberLine
-  accepted h u = ended u 2 (length-hex 2 ACCEPTED) h
+-- numbers in no digits are not there
+pub accepted : lineBytes (byte ACCEPTED ∷ field 0 0 ∷ field 0 0 ∷ field 0 0 ∷ []) ≡ lineBytes (numberLine 0)
+unfolding lineBytes digitsIn numberLine hex
+accepted = refl
 
-  pub refused : {b₂ : List ℕ} (n : ℕ) → at + 5 ≤ length b → (n ≡ 0 → ⊥) → Written b at (hex 2 REFUSED) b₁ → Written b₁ (at + 2) (hex 2 n) b₂
-      → Laid b at (numberLine n) (set b₂ (at + 4) NEWLINE) (at + 5)
-  unfolding numberLine
-  refused n h k u v = rw (ne-eqb n 0 k) (ended (and-then u v (simp length-hex)) 4 (simp (length-append, length-hex)) h)
+pub refused : (n : ℕ) → (n ≡ 0 → ⊥) → lineBytes (byte REFUSED ∷ byte n ∷ field 0 0 ∷ field 0 0 ∷ []) ≡ lineBytes (numberLine n)
+unfolding lineBytes digitsIn numberLine hex
+refused n h = rw (ne-eqb n 0 h)
 
-  pub verdict-line : {b₂ b₃ b₄ : List ℕ} (k : Kept) → at + LINE ≤ length b → Written b at (hex 2 TOLD) b₁ → Written b₁ (at + 2) (hex 2 (k .verdict)) b₂
-      → Written b₂ (at + 4) (hex 8 (k .smallest)) b₃ → Written b₃ (at + 12) (hex 8 (k .largest)) b₄
-      → Laid b at (keptLine k) (set b₄ (at + 20) NEWLINE) (at + 21)
-  unfolding keptLine
-  verdict-line k h u v s l =
-      let uv = and-then u v (simp length-hex) in
-      let uvs = and-then uv s (simp (length-append, length-hex)) in
-      ended (and-then uvs l (simp (length-append, length-hex))) 20 (simp (length-append, length-hex)) h
+-- an answer of one line
+pub one-line : {b b′ : List ℕ} {at end : ℕ} (l : Line) → PutAt b at (lineBytes l) b′ end → PutAt b at (answerBytes (l ∷ [])) b′ end
+unfolding answerBytes
+one-line l p = rw (append-nil (lineBytes l)) p
 
-  pub link-line : {b₂ b₃ b₄ : List ℕ} (from to reason : ℕ) → at + LINE ≤ length b → Written b at (hex 2 LINKED) b₁ → Written b₁ (at + 2) (hex 8 from) b₂
-      → Written b₂ (at + 10) (hex 8 to) b₃ → Written b₃ (at + 18) (hex 2 reason) b₄
-      → Laid b at (linkLine from to reason) (set b₄ (at + 20) NEWLINE) (at + 21)
-  unfolding linkLine
-  link-line from to reason h u v s l =
-      let uv = and-then u v (simp length-hex) in
-      let uvs = and-then uv s (simp (length-append, length-hex)) in
-      ended (and-then uvs l (simp (length-append, length-hex))) 20 (simp (length-append, length-hex)) h
-
-pub laid-on : {b b₁ b₂ : List ℕ} {at m n : ℕ} {xs ys : List ℕ} → Laid b at xs b₁ m → Laid b₁ m ys b₂ n → Laid b at (xs ++ ys) b₂ n
-laid-on {b} {at} {xs} {ys} u v =
+pub put-on : {b b₁ b₂ : List ℕ} {at m n : ℕ} {xs ys : List ℕ} → PutAt b at xs b₁ m → PutAt b₁ m ys b₂ n → PutAt b at (xs ++ ys) b₂ n
+put-on {b} {at} {xs} {ys} u v =
     let same = ap length (u .written .stands) ∙ length-sets b at xs in
     record {
       written = and-then (u .written) (v .written) (u .ends);
@@ -62,42 +73,49 @@ laid-on {b} {at} {xs} {ys} u v =
       ends = rw (length-append xs ys) (omega (arith, u .ends, v .ends));
     }
 
-pub laid-none : (b : List ℕ) (at : ℕ) → at ≤ length b → Laid b at [] b at
-laid-none b at h = record { written = record { stands = refl }; fits = omega arith; ends = sym (add-zero at) }
+pub put-none : (b : List ℕ) (at : ℕ) → at ≤ length b → PutAt b at [] b at
+put-none b at h = record { written = record { stands = refl }; fits = omega arith; ends = sym (add-zero at) }
 
 -- ---- how long lines are
 
-pub length-number : (n : ℕ) → length (numberLine n) ≤ 5
-unfolding numberLine
+pub with-end : (l : Line) → length (lineBytes l) ≡ length (digitsIn l) + 1
+unfolding lineBytes
+with-end l = length-append (digitsIn l) (NEWLINE ∷ [])
+
+length-line : (l : Line) → length (lineBytes l) ≡ total (shape l) + 1
+length-line l = with-end l ∙ ap (λ (n : ℕ). n + 1) (length-digits l)
+
+pub length-number : (n : ℕ) → length (lineBytes (numberLine n)) ≤ SHORT
+unfolding numberLine total
 length-number n = go (eqb n 0)
   where
-    go : (t : Bool) → length (cond t (hex 2 ACCEPTED ++ NEWLINE ∷ []) (hex 2 REFUSED ++ hex 2 n ++ NEWLINE ∷ [])) ≤ 5
-    go true = simp (length-append, length-hex) (omega arith)
-    go false = simp (length-append, length-hex) (omega arith)
+    go : (t : Bool) → length (lineBytes (cond t (byte ACCEPTED ∷ []) (byte REFUSED ∷ byte n ∷ []))) ≤ SHORT
+    go true = rw length-line (omega arith)
+    go false = rw length-line (omega arith)
 
-pub length-kept : (k : Kept) → length (keptLine k) ≡ LINE
-unfolding keptLine
-length-kept k = simp (length-append, length-hex)
+pub length-kept : (k : Kept) → length (lineBytes (keptLine k)) ≡ LINE
+unfolding total
+length-kept k = length-line (keptLine k)
 
-pub length-link : (from to reason : ℕ) → length (linkLine from to reason) ≡ LINE
-unfolding linkLine
-length-link from to reason = simp (length-append, length-hex)
+pub length-link : (from to reason : ℕ) → length (lineBytes (linkLine from to reason)) ≡ LINE
+unfolding total
+length-link from to reason = length-line (linkLine from to reason)
 
-pub length-links : (n : ℕ) (b : List ℕ) → length (linkLines n b) ≡ LINE * n
-unfolding linkLines
+pub length-links : (n : ℕ) (b : List ℕ) → length (answerBytes (linkLines n b)) ≡ LINE * n
+unfolding linkLines answerBytes
 length-links zero b = refl
 length-links (suc n) b =
-    rw (length-append (linkLine (getD b 0 0) (getD b 1 0) (getD b 2 0)) (linkLines n (drop 3 b)), length-link, length-links n (drop 3 b))
+    rw (length-append (lineBytes (linkLine (getD b 0 0) (getD b 1 0) (getD b 2 0))) (answerBytes (linkLines n (drop 3 b))), length-link, length-links n (drop 3 b))
     (omega arith)
 
 -- one link more is the next three numbers of the buffer
 pub links-next : (n : ℕ) (b : List ℕ)
-    → linkLines (suc n) b ≡ linkLines n b ++ linkLine (getD b (3 * n) 0) (getD b (3 * n + 1) 0) (getD b (3 * n + 2) 0)
-unfolding linkLines
+    → answerBytes (linkLines (suc n) b) ≡ answerBytes (linkLines n b) ++ lineBytes (linkLine (getD b (3 * n) 0) (getD b (3 * n + 1) 0) (getD b (3 * n + 2) 0))
+unfolding linkLines answerBytes
 links-next zero b = append-nil _
 links-next (suc n) b =
     let e : 3 + 3 * n ≡ 3 * suc n = omega arith in
     let e₁ : 3 + (3 * n + 1) ≡ 3 * suc n + 1 = omega arith in
     let e₂ : 3 + (3 * n + 2) ≡ 3 * suc n + 2 = omega arith in
     rw (links-next n (drop 3 b), getD-drop 3 b (3 * n) 0, getD-drop 3 b (3 * n + 1) 0, getD-drop 3 b (3 * n + 2) 0, e, e₁, e₂)
-    (sym (append-assoc (linkLine (getD b 0 0) (getD b 1 0) (getD b 2 0)) (linkLines n (drop 3 b)) _))
+    (sym (append-assoc (lineBytes (linkLine (getD b 0 0) (getD b 1 0) (getD b 2 0))) (answerBytes (linkLines n (drop 3 b))) _))

@@ -1,6 +1,6 @@
 -- From what a call promises to what its line's answer promises. Assumes nothing.
 use mathlib.Core.Path.{_≡_, sym, ap, _∙_}
-use mathlib.Core.List.{List, _++_}
+use mathlib.Core.List.{List, [], _∷_, _++_, append-nil}
 use Prim.Native.Nat.{ℕ, _+_, _*_, _≤_}
 use native.Mathlib.Decide.{ℕ-discrete}
 use native.Mathlib.Omega.{arith}
@@ -10,31 +10,36 @@ use Rattle.rule.specs.Meaning.{RULES}
 use Rattle.chain.specs.declared.Link.{Link}
 use Rattle.chain.specs.Links.{chainRoom, numbersOf, mostLinks}
 use Rattle.chain.proofs.Walk.{numbers-length}
-use Rattle.sheet.specs.declared.Answer.{Answer}
 use Rattle.sheet.specs.declared.Reply.{Reply}
 use Rattle.sheet.specs.declared.Sheet.{Sheet}
 use Rattle.sheet.specs.Calls.{ask, refusal}
 use Rattle.sheet.specs.Page.{Page}
-use Rattle.sheet.specs.Statements.{Asked, IsSheet, chainOn, opened, overlaid, reply}
+use Rattle.sheet.specs.Statements.{Asked, IsSheet, chainOn, overlaid, reply}
 use Rattle.sheet.proofs.Tested.{sheet-dec}
-use Rattle.frame.specs.declared.Answered.{Answered}
+use Rattle.frame.specs.declared.AfterLine.{AfterLine}
 use Rattle.frame.specs.declared.Frame.{Frame}
-use Rattle.frame.specs.declared.Frame.the-variants.{Open}
-use Rattle.frame.specs.Answers.{ROOM, askLines, keptLine, linkLines, numberLine}
+use Rattle.frame.specs.Answers.{ROOM, answerBytes, askLines, keptLine, lineBytes, linkLines, numberLine}
+use Rattle.frame.specs.Calls.{callOf, lineCall}
+use Rattle.frame.specs.Fields.{Line}
 use Rattle.frame.specs.Frames.{frameOf}
-use Rattle.frame.specs.Statements.{AskLaid, Laid, LineAnswered, Said, asks, opens}
-use Rattle.frame.proofs.Lines.{length-kept, length-links, length-number}
+use Rattle.frame.specs.Statements.{AskPut, LineAnswered, PutAt, Said, asked}
+use Rattle.frame.proofs.Lines.{length-kept, length-links, length-number, one-line}
 
-pub line-answered : {s : Sheet} (line : List ℕ) {b b′ : List ℕ} {at : ℕ} (r : Answered) {f : Frame} {t : Sheet} {bytes : List ℕ}
-    → f ≡ frameOf line → Said s f t bytes → r .sheet ≡ t → Laid b at bytes b′ (r .end) → length bytes ≤ ROOM
+number-fits : (n : ℕ) → length (answerBytes (numberLine n ∷ [])) ≤ ROOM
+unfolding answerBytes
+number-fits n = rw (append-nil (lineBytes (numberLine n))) (omega (arith, length-number n))
+
+pub line-answered : {s : Sheet} (line : List ℕ) {b b′ : List ℕ} {at : ℕ} (r : AfterLine) {f : Frame} {t : Sheet} {lines : List Line}
+    → f ≡ frameOf line → Said s (callOf f) t lines → r .sheet ≡ t → PutAt b at (answerBytes lines) b′ (r .end) → length (answerBytes lines) ≤ ROOM
     → LineAnswered s line b at b′ r
-line-answered line r {bytes} e h q l k = record { bytes = bytes; said = rw (sym e, q) h; laid = l; fits = k }
+unfolding lineCall
+line-answered line r {lines} e h q l k = record { lines = lines; said = rw (sym e, q) h; puts = l; fits = k }
 
-pub said-open : {s : Sheet} (w : ℕ) {r : Answer} → r ≡ opened s w → Said s (Open w) (r .sheet) (numberLine (r .number))
-said-open w e = rw e (opens w)
-
-pub number-fits : (n : ℕ) → length (numberLine n) ≤ ROOM
-number-fits n = omega (arith, length-number n)
+-- the answer is a number
+pub number-answered : {s : Sheet} (line : List ℕ) {b b′ : List ℕ} {at : ℕ} (r : AfterLine) {f : Frame} {t : Sheet} (n : ℕ)
+    → f ≡ frameOf line → Said s (callOf f) t (numberLine n ∷ []) → r .sheet ≡ t → PutAt b at (lineBytes (numberLine n)) b′ (r .end)
+    → LineAnswered s line b at b′ r
+number-answered line r n e h q l = line-answered line r e h q (one-line (numberLine n) l) (number-fits n)
 
 -- ---- asking
 
@@ -65,23 +70,23 @@ few-links {s} {b} {b′} {r} a e e′ = go (sheet-dec s)
     go (no n) = let z : r .links ≡ 0 = ap (λ (t : Reply). t .links) (a .no-sheet n .0) in omega arith
 
 module _ {s : Sheet} {c c′ : List ℕ} {r : Reply} (e : length c ≡ chainRoom RULES) (a : Asked s c c′ r) {b b′ : List ℕ} {at end : ℕ} where
-  pub ask-refused : (r .number ≡ 0 → ⊥) → Laid b at (numberLine (r .number)) b′ end → AskLaid s b at b′ end
+  pub ask-refused : (r .number ≡ 0 → ⊥) → PutAt b at (lineBytes (numberLine (r .number))) b′ end → AskPut s b at b′ end
   unfolding askLines
   ask-refused n l =
       record {
-        bytes = askLines r c′;
-        said = asks c c′ r e a;
-        laid = rw (ne-eqb (r .number) 0 n) l;
-        fits = rw (ne-eqb (r .number) 0 n) (omega (arith, length-number (r .number)));
+        lines = askLines r c′;
+        said = asked (chainRoom RULES) c c′ r e a;
+        puts = rw (ne-eqb (r .number) 0 n) (one-line (numberLine (r .number)) l);
+        fits = rw (ne-eqb (r .number) 0 n) (number-fits (r .number));
       }
 
-  pub ask-answered : r .number ≡ 0 → r .links ≤ mostLinks RULES → Laid b at (keptLine (r .kept) ++ linkLines (r .links) c′) b′ end
-      → AskLaid s b at b′ end
-  unfolding askLines
+  pub ask-answered : r .number ≡ 0 → r .links ≤ mostLinks RULES
+      → PutAt b at (lineBytes (keptLine (r .kept)) ++ answerBytes (linkLines (r .links) c′)) b′ end → AskPut s b at b′ end
+  unfolding askLines answerBytes
   ask-answered n few l =
       record {
-        bytes = askLines r c′;
-        said = asks c c′ r e a;
-        laid = rw (eq-eqb (r .number) 0 n) l;
-        fits = rw (eq-eqb (r .number) 0 n, length-append (keptLine (r .kept)) _, length-kept, length-links) (omega arith);
+        lines = askLines r c′;
+        said = asked (chainRoom RULES) c c′ r e a;
+        puts = rw (eq-eqb (r .number) 0 n) l;
+        fits = rw (eq-eqb (r .number) 0 n, length-append (lineBytes (keptLine (r .kept))) _, length-kept, length-links) (omega arith);
       }

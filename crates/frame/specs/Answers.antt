@@ -9,14 +9,17 @@ use Rattle.verdict.specs.declared.Kept.{Kept}
 use Rattle.chain.specs.declared.Link.{Link}
 use Rattle.chain.specs.Links.{mostLinks}
 use Rattle.sheet.specs.declared.Reply.{Reply}
-use Rattle.hex.specs.Hex.{hex}
+use Rattle.frame.specs.Fields.{BYTE, Line, WORD, byte, digitsIn, word}
 
 abbrev pub NEWLINE : ℕ
 NEWLINE = 10
 
--- a line of the verdict or of a link has 21 bytes
+-- the bytes of a line on the verdict or on a link, and the most that a refusal or an acceptance has
 abbrev pub LINE : ℕ
-LINE = 21
+LINE = BYTE + BYTE + WORD + WORD + 1
+
+abbrev pub SHORT : ℕ
+SHORT = BYTE + BYTE + 1
 
 -- how long an answer can be: the verdict, and the longest chain
 abbrev pub ROOM : ℕ
@@ -35,28 +38,40 @@ TOLD = 160
 abbrev pub LINKED : ℕ
 LINKED = 192
 
+-- "10: a line of the program's input is none of the frames"
+abbrev pub NO-FRAME : ℕ
+NO-FRAME = 10
+
 -- "`00` accepted; `ff` number(2) refused, in hexadecimal, so 10 is `ff0a`"
-unfoldable pub numberLine : ℕ → List ℕ
-numberLine n = cond (eqb n 0) (hex 2 ACCEPTED ++ NEWLINE ∷ []) (hex 2 REFUSED ++ hex 2 n ++ NEWLINE ∷ [])
+unfoldable pub numberLine : ℕ → Line
+numberLine n = cond (eqb n 0) (byte ACCEPTED ∷ []) (byte REFUSED ∷ byte n ∷ [])
 
 -- "`a0` verdict(2: 00 none, 01 one, 02 many) smallest(8) largest(8)"
-unfoldable pub keptLine : Kept → List ℕ
-keptLine k = hex 2 TOLD ++ hex 2 (k .verdict) ++ hex 8 (k .smallest) ++ hex 8 (k .largest) ++ NEWLINE ∷ []
+abbrev pub keptLine : Kept → Line
+keptLine k = byte TOLD ∷ byte (k .verdict) ∷ word (k .smallest) ∷ word (k .largest) ∷ []
 
 -- "`c0` from(8) to(8) reason(2)"
-unfoldable pub linkLine : (from to reason : ℕ) → List ℕ
-linkLine from to reason = hex 2 LINKED ++ hex 8 from ++ hex 8 to ++ hex 2 reason ++ NEWLINE ∷ []
+abbrev pub linkLine : (from to reason : ℕ) → Line
+linkLine from to reason = byte LINKED ∷ word from ∷ word to ∷ byte reason ∷ []
 
 -- "a line a link"
-unfoldable pub chainLines : List Link → List ℕ
+unfoldable pub chainLines : List Link → List Line
 chainLines [] = []
-chainLines (l ∷ ls) = linkLine (l .from) (l .to) (l .reason) ++ chainLines ls
+chainLines (l ∷ ls) = linkLine (l .from) (l .to) (l .reason) ∷ chainLines ls
 
 -- the lines of the first n links that a buffer holds, three numbers each: on the sheet of a page, `chainLines` of its chain
-unfoldable pub linkLines : ℕ → List ℕ → List ℕ
+unfoldable pub linkLines : ℕ → List ℕ → List Line
 linkLines zero b = []
-linkLines (suc n) b = linkLine (getD b 0 0) (getD b 1 0) (getD b 2 0) ++ linkLines n (drop 3 b)
+linkLines (suc n) b = linkLine (getD b 0 0) (getD b 1 0) (getD b 2 0) ∷ linkLines n (drop 3 b)
 
--- what is written of asking's reply, and of the buffer that it was lent
-unfoldable pub askLines : Reply → List ℕ → List ℕ
-askLines r b = cond (eqb (r .number) 0) (keptLine (r .kept) ++ linkLines (r .links) b) (numberLine (r .number))
+-- what is said of asking's reply, and of the buffer that it was lent
+unfoldable pub askLines : Reply → List ℕ → List Line
+askLines r b = cond (eqb (r .number) 0) (keptLine (r .kept) ∷ linkLines (r .links) b) (numberLine (r .number) ∷ [])
+
+-- "Every answer line ends in byte 10."
+unfoldable pub lineBytes : Line → List ℕ
+lineBytes l = digitsIn l ++ NEWLINE ∷ []
+
+unfoldable pub answerBytes : List Line → List ℕ
+answerBytes [] = []
+answerBytes (l ∷ ls) = lineBytes l ++ answerBytes ls

@@ -1,57 +1,70 @@
 -- The frames (01, "Lines of hexadecimal").
+use mathlib.Core.Path.{_≡_}
 use mathlib.Core.Bool.{_&&_, cond}
-use mathlib.Core.List.{List, [], _++_}
-use Prim.Native.Nat.{ℕ, _<_, _^_}
+use mathlib.Core.List.{List, [], _∷_}
+use Prim.Native.Nat.{ℕ, _+_}
 use lib.Dec.{eqb}
 use lib.ListN.{length, take}
 use lib.Seq.{slice}
 use Rattle.rule.specs.declared.Rule.{Rule}
 use Rattle.rule.specs.Meaning.{rule}
-use Rattle.hex.specs.Hex.{allDigits, hex, number}
+use Rattle.hex.specs.Hex.{allDigits, number}
 use Rattle.frame.specs.declared.Frame.{Frame}
 use Rattle.frame.specs.declared.Frame.the-variants.{Add, Ask, Back, Mark, NoFrame, Open}
-
--- the most digits that a frame has
-abbrev pub LONGEST : ℕ
-LONGEST = 22
+use Rattle.frame.specs.Fields.{BYTE, InDigits, Line, WORD, byte, digitsIn, word}
 
 -- "`01` width(2): open. `02` form(2) sense(2) c1(8) c2(8): add. `03` mark. `04` back. `05` ask."
-unfoldable pub digitsOf : Frame → List ℕ
-digitsOf (Open w) = hex 2 1 ++ hex 2 w
-digitsOf (Add r) = hex 2 2 ++ hex 2 (r .form) ++ hex 2 (r .sense) ++ hex 8 (r .c1) ++ hex 8 (r .c2)
-digitsOf Mark = hex 2 3
-digitsOf Back = hex 2 4
-digitsOf Ask = hex 2 5
-digitsOf NoFrame = []
+unfoldable pub fieldsOf : Frame → Line
+fieldsOf (Open w) = byte 1 ∷ byte w ∷ []
+fieldsOf (Add r) = byte 2 ∷ byte (r .form) ∷ byte (r .sense) ∷ word (r .c1) ∷ word (r .c2) ∷ []
+fieldsOf Mark = byte 3 ∷ []
+fieldsOf Back = byte 4 ∷ []
+fieldsOf Ask = byte 5 ∷ []
+fieldsOf NoFrame = []
 
--- the numbers of a frame fit its digits
-unfoldable pub Fits : Frame → Type 0
-Fits (Open w) = w < 16 ^ 2
-Fits (Add r) = (r .form < 16 ^ 2) × (r .sense < 16 ^ 2) × (r .c1 < 16 ^ 8) × (r .c2 < 16 ^ 8)
-Fits Mark = Unit
-Fits Back = Unit
-Fits Ask = Unit
-Fits NoFrame = ⊥
+-- a line is a frame: just its digits, which its numbers fit
+pub record IsFrame (l : List ℕ) (f : Frame) : Type 0 where
+  pub some : f ≡ NoFrame → ⊥
+  pub written : l ≡ digitsIn (fieldsOf f)
+  pub fits : InDigits (fieldsOf f)
 
--- Reading: that a line is read as a frame just where it is the digits of that frame, whose numbers fit them, is proved
--- (proofs/ReadBack.antt).
+-- Reading. A route and no meaning: that a line is read as a frame just where it is that frame is proved (proofs/ReadBack.antt).
 
--- the rule of an add: after its code "form(2) sense(2) c1(8) c2(8)"
+-- where an opening ends; where the numbers of an add begin, and where it ends: no frame has more digits
+abbrev pub OPENING : ℕ
+OPENING = BYTE + BYTE
+
+abbrev pub FORM : ℕ
+FORM = BYTE
+
+abbrev pub SENSE : ℕ
+SENSE = FORM + BYTE
+
+abbrev pub C1 : ℕ
+C1 = SENSE + BYTE
+
+abbrev pub C2 : ℕ
+C2 = C1 + WORD
+
+abbrev pub LONGEST : ℕ
+LONGEST = C2 + WORD
+
+-- the rule of an add
 unfoldable pub ruleOf : List ℕ → Rule
-ruleOf l = rule (number (slice 2 4 l)) (number (slice 4 6 l)) (number (slice 6 14 l)) (number (slice 14 22 l))
+ruleOf l = rule (number (slice FORM SENSE l)) (number (slice SENSE C1 l)) (number (slice C1 C2 l)) (number (slice C2 LONGEST l))
 
 -- a code and nothing more
 unfoldable pub bare : ℕ → Frame
 bare code = cond (eqb code 3) Mark (cond (eqb code 4) Back (cond (eqb code 5) Ask NoFrame))
 
--- a line of so many digits, of which the first two write a code
+-- a line of so many digits, of which the first write a code
 unfoldable pub byDigits : (n code : ℕ) → List ℕ → Frame
 byDigits n code l =
-    cond (eqb n 2) (bare code)
-    (cond (eqb n 4 && eqb code 1) (Open (number (slice 2 4 l)))
+    cond (eqb n BYTE) (bare code)
+    (cond (eqb n OPENING && eqb code 1) (Open (number (slice BYTE OPENING l)))
     (cond (eqb n LONGEST && eqb code 2) (Add (ruleOf l))
     NoFrame))
 
 -- the frame that a line is: digits alone, and as many as its code asks for
 unfoldable pub frameOf : List ℕ → Frame
-frameOf l = cond (allDigits l) (byDigits (length l) (number (take 2 l)) l) NoFrame
+frameOf l = cond (allDigits l) (byDigits (length l) (number (take BYTE l)) l) NoFrame

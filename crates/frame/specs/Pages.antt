@@ -1,38 +1,25 @@
--- What a frame gets on the sheet that a page gives (01, "Lines of hexadecimal").
+-- What a call from a line gets on the sheet that a page gives (01, "Lines of hexadecimal").
 use mathlib.Core.Bool.{cond}
-use mathlib.Core.List.{List, _++_}
-use Prim.Native.Nat.{ℕ}
+use mathlib.Core.List.{List, [], _∷_}
 use lib.Dec.{eqb}
-use Rattle.rule.specs.Meaning.{RULES}
 use Rattle.chain.specs.Findings.{findings}
-use Rattle.chain.specs.Links.{chainRoom}
-use Rattle.sheet.specs.Calls.{Call, add, after, ask, back, mark, open-at, refusal, rulesOf}
+use Rattle.sheet.specs.Calls.{after, ask, refusal, rulesOf}
 use Rattle.sheet.specs.Page.{Page, widthOf}
-use Rattle.frame.specs.declared.Frame.{Frame}
-use Rattle.frame.specs.declared.Frame.the-variants.{Add, Ask, Back, Mark, NoFrame, Open}
-use Rattle.frame.specs.Answers.{chainLines, keptLine, numberLine}
+use Rattle.frame.specs.Answers.{NO-FRAME, chainLines, keptLine, numberLine}
+use Rattle.frame.specs.Calls.{MadeCall, asks, makes, none}
+use Rattle.frame.specs.Fields.{Line}
 
--- "the program always lends enough for the chain"
-abbrev pub asking : Call
-asking = ask (chainRoom RULES)
+-- a call is answered by its number, asking by what is found, and a line that makes no call by 10
+unfoldable pub answerTo : Page → MadeCall → List Line
+answerTo pg none = numberLine NO-FRAME ∷ []
+answerTo pg (makes c) = numberLine (refusal pg c) ∷ []
+answerTo pg (asks m) =
+    cond (eqb (refusal pg (ask m)) 0)
+    (keptLine (findings (widthOf pg) (rulesOf pg) .kept) ∷ chainLines (findings (widthOf pg) (rulesOf pg) .chain))
+    (numberLine (refusal pg (ask m)) ∷ [])
 
--- what a frame is answered on the sheet that a page gives
-unfoldable pub answerTo : Page → Frame → List ℕ
-answerTo pg (Open w) = numberLine (refusal pg (open-at w))
-answerTo pg (Add u) = numberLine (refusal pg (add u))
-answerTo pg Mark = numberLine (refusal pg mark)
-answerTo pg Back = numberLine (refusal pg back)
-answerTo pg Ask =
-    cond (eqb (refusal pg asking) 0)
-    (keptLine (findings (widthOf pg) (rulesOf pg) .kept) ++ chainLines (findings (widthOf pg) (rulesOf pg) .chain))
-    (numberLine (refusal pg asking))
-answerTo pg NoFrame = numberLine 10
-
--- the page after a frame: none of the frames makes no call, and asking leaves the page
-unfoldable pub pageAfter : Page → Frame → Page
-pageAfter pg (Open w) = after pg (open-at w)
-pageAfter pg (Add u) = after pg (add u)
-pageAfter pg Mark = after pg mark
-pageAfter pg Back = after pg back
-pageAfter pg Ask = pg
-pageAfter pg NoFrame = pg
+-- the page after a line: where it makes no call, and after asking, as it was
+unfoldable pub pageAfter : Page → MadeCall → Page
+pageAfter pg none = pg
+pageAfter pg (makes c) = after pg c
+pageAfter pg (asks m) = pg

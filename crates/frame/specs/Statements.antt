@@ -1,49 +1,44 @@
 -- What answering a line promises.
 use mathlib.Core.Path.{_≡_}
-use mathlib.Core.List.{List}
+use mathlib.Core.List.{List, [], _∷_}
 use Prim.Native.Nat.{ℕ, _+_, _≤_}
 use lib.ListN.{length}
-use Rattle.rule.specs.declared.Rule.{Rule}
 use Rattle.rule.specs.Meaning.{RULES}
 use Rattle.chain.specs.Links.{chainRoom}
 use Rattle.sheet.specs.declared.Answer.{Answer}
 use Rattle.sheet.specs.declared.Reply.{Reply}
 use Rattle.sheet.specs.declared.Sheet.{Sheet}
-use Rattle.sheet.specs.Calls.{add, back, mark}
-use Rattle.sheet.specs.Statements.{Answers, Asked, opened}
+use Rattle.sheet.specs.Calls.{Call}
+use Rattle.sheet.specs.Statements.{Asked, Outcome}
 use Rattle.hex.specs.Hex.{Written}
-use Rattle.frame.specs.declared.Answered.{Answered}
-use Rattle.frame.specs.declared.Frame.{Frame}
-use Rattle.frame.specs.declared.Frame.the-variants.{Add, Ask, Back, Mark, NoFrame, Open}
-use Rattle.frame.specs.Answers.{ROOM, askLines, numberLine}
-use Rattle.frame.specs.Frames.{frameOf}
+use Rattle.frame.specs.declared.AfterLine.{AfterLine}
+use Rattle.frame.specs.Answers.{NO-FRAME, ROOM, answerBytes, askLines, numberLine}
+use Rattle.frame.specs.Calls.{MadeCall, asks, lineCall, makes, none}
+use Rattle.frame.specs.Fields.{Line}
 
 -- bytes are written from a place on, fit the buffer, and end at another place
-pub record Laid (b : List ℕ) (at : ℕ) (bytes b′ : List ℕ) (end : ℕ) : Type 0 where
+pub record PutAt (b : List ℕ) (at : ℕ) (bytes b′ : List ℕ) (end : ℕ) : Type 0 where
   pub written : Written b at bytes b′
   pub fits : at + length bytes ≤ length b
   pub ends : end ≡ at + length bytes
 
--- What a frame gets on a record, whatever that is: the record after it, and the bytes of its answer. Each call is made as it
--- promises; "the program always lends enough for the chain"; a line that is no frame is refused with 10, "no call is then made".
-pub data Said (s : Sheet) : Frame → Sheet → List ℕ → Type 0 where
-  opens : (w : ℕ) → Said s (Open w) (opened s w .sheet) (numberLine (opened s w .number))
-  adds : (u : Rule) (r : Answer) → Answers s (add u) r → Said s (Add u) (r .sheet) (numberLine (r .number))
-  marks : (r : Answer) → Answers s mark r → Said s Mark (r .sheet) (numberLine (r .number))
-  goes-back : (r : Answer) → Answers s back r → Said s Back (r .sheet) (numberLine (r .number))
-  asks : (b b′ : List ℕ) (r : Reply) → length b ≡ chainRoom RULES → Asked s b b′ r → Said s Ask s (askLines r b′)
-  no-frame : Said s NoFrame s (numberLine 10)
+-- What a line gets on a record, whatever that is: the record after it, and the lines of its answer. Its call is made as that
+-- promises, asking with as many numbers lent as it says; where it makes none, the answer is refusal 10.
+pub data Said (s : Sheet) : MadeCall → Sheet → List Line → Type 0 where
+  answered : (c : Call) (r : Answer) → Outcome s c r → Said s (makes c) (r .sheet) (numberLine (r .number) ∷ [])
+  asked : (m : ℕ) (b b′ : List ℕ) (r : Reply) → length b ≡ m → Asked s b b′ r → Said s (asks m) s (askLines r b′)
+  no-call : Said s none s (numberLine NO-FRAME ∷ [])
 
 -- an asking's answer, written
-pub record AskLaid (s : Sheet) (b : List ℕ) (at : ℕ) (b′ : List ℕ) (end : ℕ) : Type 0 where
-  pub bytes : List ℕ
-  pub said : Said s Ask s bytes
-  pub laid : Laid b at bytes b′ end
-  pub fits : length bytes ≤ ROOM
+pub record AskPut (s : Sheet) (b : List ℕ) (at : ℕ) (b′ : List ℕ) (end : ℕ) : Type 0 where
+  pub lines : List Line
+  pub said : Said s (asks (chainRoom RULES)) s lines
+  pub puts : PutAt b at (answerBytes lines) b′ end
+  pub fits : length (answerBytes lines) ≤ ROOM
 
 -- a line's answer, written
-pub record LineAnswered (s : Sheet) (line b : List ℕ) (at : ℕ) (b′ : List ℕ) (r : Answered) : Type 0 where
-  pub bytes : List ℕ
-  pub said : Said s (frameOf line) (r .sheet) bytes
-  pub laid : Laid b at bytes b′ (r .end)
-  pub fits : length bytes ≤ ROOM
+pub record LineAnswered (s : Sheet) (line b : List ℕ) (at : ℕ) (b′ : List ℕ) (r : AfterLine) : Type 0 where
+  pub lines : List Line
+  pub said : Said s (lineCall line) (r .sheet) lines
+  pub puts : PutAt b at (answerBytes lines) b′ (r .end)
+  pub fits : length (answerBytes lines) ≤ ROOM

@@ -18,20 +18,32 @@ pub enum Frame {
 }
 
 // The sheet after a line, and where its answer ends in the lent buffer.
-pub struct Answered {
+pub struct AfterLine {
     pub sheet: Sheet,
     pub end: usize,
+}
+
+// A number in a line, in so many digits.
+pub struct Field {
+    pub digits: usize,
+    pub number: u64,
 }
 
 impl Frame {
     // What ends a line.
     pub const NEWLINE: u8 = 10;
 
-    // The most digits that a frame has.
-    pub const LONGEST: usize = 22;
+    // The digits of a code, and of every number that is no word.
+    pub const BYTE: usize = 2;
+
+    // The digits of a word.
+    pub const WORD: usize = 8;
+
+    // The most digits that a frame has: those of an add.
+    pub const LONGEST: usize = 3 * Frame::BYTE + 2 * Frame::WORD;
 
     // The bytes of a line on the verdict or on a link.
-    pub const LINE: usize = 21;
+    pub const LINE: usize = 2 * Frame::BYTE + 2 * Frame::WORD + 1;
 
     // How long an answer can be: a line on the verdict, and one for each link.
     pub const ROOM: usize = Frame::LINE * (4 * Rule::LIMIT + 2);

@@ -5,24 +5,35 @@ ghost use Rattle.frame.specs.Frames.{LONGEST, bare, frameOf, ruleOf};
 use crate::Frame;
 use rule::Rule;
 
+// Where an opening ends, and where the numbers of an add begin.
+const OPENING: usize = 2 * Frame::BYTE;
+
+const FORM: usize = Frame::BYTE;
+
+const SENSE: usize = FORM + Frame::BYTE;
+
+const C1: usize = SENSE + Frame::BYTE;
+
+const C2: usize = C1 + Frame::WORD;
+
 // The frame that a line is.
 pub fn decode(line: &[u8]) -> Frame
     ensures { λ r. ⌜ r ≡ frameOf (now (line .entry)) ⌝ }
 {
     let n = line.len();
-    if n < 2 {
+    if n < Frame::BYTE {
         return Frame::NoFrame;
     }
     if !hex::all_digits(line) {
         return Frame::NoFrame;
     }
-    let code = hex::number(line, 0, 2);
-    if n == 2 {
+    let code = hex::number(line, 0, Frame::BYTE);
+    if n == Frame::BYTE {
         return bare(code);
     }
-    if n == 4 {
+    if n == OPENING {
         if code == 1 {
-            return Frame::Open(hex::number(line, 2, 4));
+            return Frame::Open(hex::number(line, Frame::BYTE, OPENING));
         }
         return Frame::NoFrame;
     }
@@ -56,9 +67,9 @@ fn rule_of(line: &[u8]) -> Rule
     ensures { λ r. ⌜ r ≡ ruleOf (now (line .entry)) ⌝ }
 {
     Rule {
-        form: hex::number(line, 2, 4),
-        sense: hex::number(line, 4, 6),
-        c1: hex::number(line, 6, 14),
-        c2: hex::number(line, 14, Frame::LONGEST),
+        form: hex::number(line, FORM, SENSE),
+        sense: hex::number(line, SENSE, C1),
+        c1: hex::number(line, C1, C2),
+        c2: hex::number(line, C2, Frame::LONGEST),
     }
 }

@@ -1,14 +1,14 @@
--- Digits written one after another, and a bound on the number that digits write. Assumes nothing.
+-- Digits written one after another, in either order, and a bound on the number that digits write. Assumes nothing.
 use mathlib.Core.Path.{_≡_, refl, sym, ap, ap₂, _∙_}
-use mathlib.Core.List.{List, [], _∷_, _++_, append-assoc}
+use mathlib.Core.List.{List, [], _∷_, _++_}
 use Prim.Native.Nat.{ℕ, zero, suc, _+_, _*_, _/_, _^_, _<_}
-use native.Mathlib.Nat.{add-suc, suc-add, add-zero, div-div-eq-div-mul}
+use native.Mathlib.Nat.{add-suc, suc-add, add-zero}
 use native.Mathlib.Numerals.{add-one}
 use native.Mathlib.Omega.{arith}
 use lib.ListN.{length, length-append, set}
 use lib.Pow.{pow-add, pow-mono}
-use lib.Seq.{sets}
-use Rattle.hex.specs.Hex.{Written, hex}
+use lib.Seq.{set-comm, sets}
+use Rattle.hex.specs.Hex.{MOST, Written, hex}
 
 -- stores from a place on, and then from where they end, are stores of all
 sets-sets : (l xs ys : List ℕ) (i : ℕ) → sets (sets l i xs) (i + length xs) ys ≡ sets l i (xs ++ ys)
@@ -27,18 +27,18 @@ unfolding hex
 length-hex zero x = refl
 length-hex (suc k) x = length-append (hex k (x / 16)) _ ∙ ap (λ (n : ℕ). n + 1) (length-hex k (x / 16)) ∙ add-one k
 
--- the last two digits stand after the others
-two-more : (k x : ℕ) → hex (suc (suc k)) x ≡ hex k (x / 256) ++ hex 2 x
-unfolding hex
-two-more k x = rw (div-div-eq-div-mul x 16 16) (append-assoc (hex k (x / 256)) _ _)
-
-pub eight : (x : ℕ) → hex 8 x ≡ ((hex 2 (x / 16777216) ++ hex 2 (x / 65536)) ++ hex 2 (x / 256)) ++ hex 2 x
-eight x = rw (two-more 6 x, two-more 4 (x / 256), two-more 2 (x / 256 / 256), div-div-eq-div-mul x 256 256, div-div-eq-div-mul x 65536 256)
+-- the last of several stores may come first
+pub last-first : (l xs : List ℕ) (i v : ℕ) → sets (set l (i + length xs) v) i xs ≡ sets l i (xs ++ v ∷ [])
+last-first l [] i v = ap (λ (k : ℕ). set l k v) (add-zero i)
+last-first l (x ∷ xs) i v =
+    let e = add-suc i (length xs) ∙ sym (suc-add i (length xs)) in
+    ap (λ (m : List ℕ). sets m (suc i) xs) (set-comm l (i + suc (length xs)) i v x (λ q. omega arith) ∙ ap (λ (k : ℕ). set (set l i x) k v) e)
+    ∙ last-first (set l i x) xs (suc i) v
 
 -- a digit more takes four bits more
 pub digit-more : (k n v : ℕ) → n < 2 ^ (4 * k) → v < 16 → 16 * n + v < 2 ^ (4 * k + 4)
 digit-more k n v h g = rw (pow-add 2 (4 * k) 4) (omega arith)
 
--- up to seven digits, one more still fits a word
-pub below-word : (k n : ℕ) → k < 8 → n < 2 ^ (4 * k) → n < 2 ^ 28
-below-word k n h g = let m = pow-mono {i = 4 * k} {j = 28} (omega arith) in omega arith
+-- where there are fewer than the most digits, one more still fits 64 bits
+pub room-for-one : (k n : ℕ) → k < MOST → n < 2 ^ (4 * k) → n < 2 ^ 60
+room-for-one k n h g = let m = pow-mono {i = 4 * k} {j = 60} (omega arith) in omega arith

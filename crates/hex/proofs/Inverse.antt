@@ -4,12 +4,11 @@ use mathlib.Core.Bool.{Bool, true, false, false≢true, _&&_}
 use mathlib.Core.List.{List, [], _∷_, _++_, append-nil}
 use Prim.Native.Nat.{ℕ, zero, suc, _+_, _-_, _*_, _/_, _%_, _^_, _≤_, _<_}
 use native.Mathlib.Decide.{decLe, decLt}
-use native.Mathlib.Nat.{add-suc, add-zero, div-add-mod, div-eq-of-lt, mod-eq-of-lt, mod-lt, mul-add-div, mul-add-mod-self-left, suc-add, zero-add}
-use native.Mathlib.Numerals.{add-one}
+use native.Mathlib.Nat.{add-suc, add-zero, div-add-mod, div-eq-of-lt, mod-eq-of-lt, mod-lt, mul-add-div, mul-add-mod-self-left, mul-assoc}
+use native.Mathlib.Nat.{mul-le-mul-right, pow-suc, pow-succ', suc-add, zero-add}
 use native.Mathlib.Omega.{arith}
 use borrow.Author.Tests.{le-leb, le-ltb, lt-leb, lt-ltb}
 use lib.ListN.{length}
-use lib.Pow.{pow-add}
 use lib.Seq.{append-snoc}
 use Rattle.hex.specs.Hex.{allDigits, glyph, hex, isDigit, number, numberFrom, value}
 
@@ -117,8 +116,7 @@ pub hex-back : (k x : ℕ) → x < 16 ^ k → number (hex k x) ≡ x
 unfolding hex number numberFrom
 hex-back zero x h = omega arith
 hex-back (suc k) x h =
-    let more : 16 ^ suc k ≡ 16 ^ k * 16 = ap (λ (j : ℕ). 16 ^ j) (sym (add-one k)) ∙ pow-add 16 k 1 in
-    let small : x / 16 < 16 ^ k = omega (arith, div-add-mod x 16) in
+    let small : x / 16 < 16 ^ k = omega (arith, pow-suc 16 k, div-add-mod x 16) in
     number-more 0 (hex k (x / 16)) (glyph (x % 16))
     ∙ ap₂ (λ (m v : ℕ). 16 * m + v) (hex-back k (x / 16) small) (glyph-back (x % 16) (mod-lt x (omega arith)) .0)
     ∙ div-add-mod x 16
@@ -146,3 +144,18 @@ digits-after k n (b ∷ l) t =
 pub digits-back : (k : ℕ) (l : List ℕ) → length l ≡ k → allDigits l ≡ true → hex k (number l) ≡ l
 unfolding number hex
 digits-back k l e t = ap (λ (j : ℕ). hex j (numberFrom 0 l)) (sym e ∙ sym (zero-add (length l))) ∙ digits-after 0 0 l t
+
+-- digits write a number that fits as many digits
+below-after : (n : ℕ) (l : List ℕ) → allDigits l ≡ true → numberFrom n l < suc n * 16 ^ length l
+unfolding numberFrom allDigits
+below-after n [] t = omega arith
+below-after n (b ∷ l) t =
+    let s = both (isDigit b) (allDigits l) t in
+    let v = value-back b (s .0) in
+    let h : suc (16 * n + value b) * 16 ^ length l ≤ suc n * 16 * 16 ^ length l = mul-le-mul-right (16 ^ length l) (omega arith) in
+    let e = ap (λ (m : ℕ). suc n * m) (pow-succ' 16 (length l)) ∙ sym (mul-assoc (suc n) 16 (16 ^ length l)) in
+    omega (arith, below-after (16 * n + value b) l (s .1))
+
+pub number-below : (l : List ℕ) → allDigits l ≡ true → number l < 16 ^ length l
+unfolding number
+number-below l t = omega (arith, below-after 0 l t)

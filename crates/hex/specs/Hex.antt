@@ -6,6 +6,10 @@ use Prim.Native.Nat.{ℕ, zero, suc, _+_, _-_, _*_, _/_, _%_}
 use lib.Dec.{leb, ltb}
 use lib.Seq.{sets}
 
+-- the most digits that are read at once: a number of 64 bits has as many
+abbrev pub MOST : ℕ
+MOST = 16
+
 -- the code of the digit for a number below 16: `0` to `9` have 48 to 57, `a` to `f` have 97 to 102
 unfoldable pub glyph : ℕ → ℕ
 glyph d = cond (ltb d 10) (48 + d) (87 + d)

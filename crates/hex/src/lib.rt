@@ -1,28 +1,22 @@
-// Hexadecimal in lowercase digits: bytes and words written, numbers read.
+// Hexadecimal in lowercase digits: numbers written and read, in so many digits.
 ghost use mathlib.Core.Path.{_≡_};
 ghost use Prim.Native.Nat.{_+_, _≤_, _<_};
 ghost use lib.ListN.{length};
 ghost use lib.Seq.{slice};
-ghost use Rattle.hex.specs.Hex.{Written, allDigits, glyph, hex, isDigit, number, value};
+ghost use Rattle.hex.specs.Hex.{MOST, Written, allDigits, glyph, hex, isDigit, number, value};
 
-// Writes the last two digits of x.
-pub fn put_byte(out: &mut [u8], at: usize, x: u64)
-    requires { ⌜ at + 2 ≤ length (now out) ⌝ }
-    ensures { λ _. ⌜ Written (now (out .entry)) at (hex 2 x) (now (out .exit)) ⌝ }
+// Writes the last so many digits of x, the last one first.
+pub fn put(out: &mut [u8], at: usize, digits: usize, x: u64)
+    requires { ⌜ at + digits ≤ length (now out) ⌝ }
+    ensures { λ _. ⌜ Written (now (out .entry)) at (hex digits x) (now (out .exit)) ⌝ }
 {
-    out[at] = glyph(x / 16 % 16);
-    out[at + 1] = glyph(x % 16);
-}
-
-// Writes the last eight digits of x.
-pub fn put_word(out: &mut [u8], at: usize, x: u64)
-    requires { ⌜ at + 8 ≤ length (now out) ⌝ }
-    ensures { λ _. ⌜ Written (now (out .entry)) at (hex 8 x) (now (out .exit)) ⌝ }
-{
-    put_byte(&mut *out, at, x / 0x100_0000);
-    put_byte(&mut *out, at + 2, x / 0x1_0000);
-    put_byte(&mut *out, at + 4, x / 0x100);
-    put_byte(&mut *out, at + 6, x);
+    let mut left = digits;
+    let mut rest = x;
+    while 0 < left {
+        left -= 1;
+        out[at + left] = glyph(rest % 16);
+        rest = rest / 16;
+    }
 }
 
 // Whether all bytes are digits.
@@ -37,10 +31,10 @@ pub fn all_digits(s: &[u8]) -> bool
     true
 }
 
-// The number that the digits from one place up to another write. A word has eight.
+// The number that the digits from one place up to another write.
 pub fn number(s: &[u8], from: usize, to: usize) -> u64
     requires { ⌜ (from ≤ to) × (to ≤ length (now s)) ⌝ }
-    requires { ⌜ to ≤ from + 8 ⌝ }
+    requires { ⌜ to ≤ from + MOST ⌝ }
     ensures { λ r. ⌜ r ≡ number (slice from to (now (s .entry))) ⌝ }
 {
     let mut n = 0;

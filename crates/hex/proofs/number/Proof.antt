@@ -7,7 +7,7 @@ use native.Mathlib.Omega.{arith}
 use borrow.Author.Needs.{needs}
 use lib.Seq.{slice, slice-cons, slice-empty}
 use Rattle.hex.specs.Hex.{number, numberFrom}
-use Rattle.hex.proofs.Digits.{below-word, digit-more}
+use Rattle.hex.proofs.Digits.{digit-more, room-for-one}
 use Rattle.hex.proofs.number.Statement.{statement}
 use Rattle.hex.proofs.number.Tie as tie
 
@@ -23,9 +23,9 @@ loop-holds c =
     let z : 4 * (c .before .args .from - c .before .args .from) ≡ 0 = omega arith in
     (omega arith, omega arith, rw z (omega arith), refl)
 
--- so far there are at most seven digits
-small : (l : tie.In-loop Inv-loop μ-loop) → l .before .loop .n < 2 ^ 28
-small l = below-word (l .before .loop .i - l .before .before .before .args .from) _ (omega arith) (l .before .loop .inv .2)
+-- so far there are fewer than the most digits
+small : (l : tie.In-loop Inv-loop μ-loop) → l .before .loop .n < 2 ^ 60
+small l = room-for-one (l .before .loop .i - l .before .before .before .args .from) _ (omega arith) (l .before .loop .inv .2)
 
 mul-n : tie.Need-mul-n Inv-loop μ-loop
 mul-n c = omega (arith, small c)

@@ -39,7 +39,7 @@ loop-again c =
     let u = c .before .before .before .turn in
     let t = u .ensures in (
       omega (arith, t .goes, length-drop (l .loop .used) part, end-fits (drop (l .loop .used) part)),
-      omega (arith, t .laid .ends, t .fits),
+      omega (arith, t .puts .ends, t .fits),
       u .kept .1 .1 .1 .0 ∙ l .loop .inv .2,
       midway-on (l .loop .inv .3) t (omega arith) (omega arith),
     )

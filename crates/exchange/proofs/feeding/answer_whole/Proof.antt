@@ -3,7 +3,7 @@ use mathlib.Core.Path.{sym}
 use native.Mathlib.Omega.{arith}
 use borrow.Author.Needs.{needs}
 use Rattle.exchange.specs.Begun.{begins}
-use Rattle.exchange.proofs.Held.{first-frame}
+use Rattle.exchange.proofs.Held.{first-call}
 use Rattle.exchange.proofs.feeding.answer_whole.Statement.{statement}
 use Rattle.exchange.proofs.feeding.answer_whole.Tie as tie
 
@@ -18,9 +18,9 @@ returns c =
     let a = c .before .before .before .before .before .before .before .args in
     let r = c .before .before .answer .ensures in
     record {
-      bytes = r .bytes;
-      said = rw (first-frame (begins (a .bytes) (a .len)) (a .line .now) (omega arith) (c .before .before .before .before .if1 .taken)) (r .said);
-      laid = r .laid;
+      lines = r .lines;
+      said = rw (first-call (begins (a .bytes) (a .len)) (a .line .now) (omega arith) (c .before .before .before .before .if1 .taken)) (r .said);
+      puts = r .puts;
       fits = r .fits;
     }
 
@@ -36,7 +36,7 @@ same-length-2 c = search needs
 returns-2 : tie.Need-returns-2
 returns-2 c =
     let r = c .before .before .answer-held .ensures in
-    record { bytes = r .bytes; said = rw (sym (c .before .before .before .before .before .with .ensures)) (r .said); laid = r .laid; fits = r .fits }
+    record { lines = r .lines; said = rw (sym (c .before .before .before .before .before .with .ensures)) (r .said); puts = r .puts; fits = r .fits }
 
 pub answer-whole-spec : {M : Type 1} → statement M
 answer-whole-spec =

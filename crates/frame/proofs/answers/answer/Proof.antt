@@ -1,8 +1,9 @@
 -- `answer` meets its contract: each frame's call is made, and what it promises is written. Assumes nothing.
 use mathlib.Core.Path.{refl, sym, _∙_}
 use borrow.Author.Needs.{needs}
-use Rattle.frame.specs.Statements.{adds, goes-back, marks, no-frame}
-use Rattle.frame.proofs.Saying.{line-answered, number-fits, said-open}
+use Rattle.frame.specs.Calls.{callOf}
+use Rattle.frame.specs.Statements.{answered, no-call}
+use Rattle.frame.proofs.Saying.{line-answered, number-answered}
 use Rattle.frame.proofs.answers.answer.Statement.{statement}
 use Rattle.frame.proofs.answers.answer.Tie as tie
 
@@ -61,56 +62,62 @@ same-length : tie.Need-same-length
 same-length c = search needs
 
 returns : tie.Need-returns
+unfolding callOf
 returns c =
     let f = c .before .before .before .before .before .before in
     let e = sym (f .frame .given .1) ∙ f .before .before .decode .ensures in
-    line-answered _ _ e (said-open _ (c .before .before .before .before .open .ensures)) (c .before .before .said .ensures .0) (c .before .before .said .ensures .1) (number-fits _)
+    number-answered _ _ _ e (answered _ _ (c .before .before .before .before .open .ensures)) (c .before .before .said .ensures .0) (c .before .before .said .ensures .1)
 
 same-length-2 : tie.Need-same-length-2
 same-length-2 c = search needs
 
 returns-2 : tie.Need-returns-2
+unfolding callOf
 returns-2 c =
     let f = c .before .before .before .before .before .before in
     let e = sym (f .frame2 .given .1) ∙ f .before .before .decode .ensures in
-    line-answered _ _ e (adds _ _ (c .before .before .before .before .add .ensures)) (c .before .before .said2 .ensures .0) (c .before .before .said2 .ensures .1) (number-fits _)
+    number-answered _ _ _ e (answered _ _ (c .before .before .before .before .add .ensures)) (c .before .before .said2 .ensures .0) (c .before .before .said2 .ensures .1)
 
 same-length-3 : tie.Need-same-length-3
 same-length-3 c = search needs
 
 returns-3 : tie.Need-returns-3
+unfolding callOf
 returns-3 c =
     let f = c .before .before .before .before .before in
     let e = sym (f .enum-told .given .1) ∙ f .before .before .decode .ensures in
-    line-answered _ _ e (marks _ (c .before .before .before .before .mark .ensures)) (c .before .before .said3 .ensures .0) (c .before .before .said3 .ensures .1) (number-fits _)
+    number-answered _ _ _ e (answered _ _ (c .before .before .before .before .mark .ensures)) (c .before .before .said3 .ensures .0) (c .before .before .said3 .ensures .1)
 
 same-length-4 : tie.Need-same-length-4
 same-length-4 c = search needs
 
 returns-4 : tie.Need-returns-4
+unfolding callOf
 returns-4 c =
     let f = c .before .before .before .before .before in
     let e = sym (f .enum-told2 .given .1) ∙ f .before .before .decode .ensures in
-    line-answered _ _ e (goes-back _ (c .before .before .before .before .back .ensures)) (c .before .before .said4 .ensures .0) (c .before .before .said4 .ensures .1) (number-fits _)
+    number-answered _ _ _ e (answered _ _ (c .before .before .before .before .back .ensures)) (c .before .before .said4 .ensures .0) (c .before .before .said4 .ensures .1)
 
 same-length-5 : tie.Need-same-length-5
 same-length-5 c = search needs
 
 returns-5 : tie.Need-returns-5
+unfolding callOf
 returns-5 c =
     let f = c .before .before .before .before in
     let e = sym (f .enum-told3 .given .1) ∙ f .before .before .decode .ensures in
     let a = c .before .before .asked .ensures in
-    line-answered _ _ e (a .said) refl (a .laid) (a .fits)
+    line-answered _ _ e (a .said) refl (a .puts) (a .fits)
 
 same-length-6 : tie.Need-same-length-6
 same-length-6 c = search needs
 
 returns-6 : tie.Need-returns-6
+unfolding callOf
 returns-6 c =
     let f = c .before .before .before .before in
     let e = sym (f .enum-told4 .given .1) ∙ f .before .before .decode .ensures in
-    line-answered _ _ e no-frame refl (c .before .before .put-number .ensures) (number-fits _)
+    number-answered _ _ _ e no-call refl (c .before .before .put-number .ensures)
 
 pub answer-spec : {M : Type 1} → statement M
 answer-spec =

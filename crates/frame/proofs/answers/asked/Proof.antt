@@ -1,8 +1,11 @@
 -- `asked` meets its contract: the chain fits the numbers lent, so its links are few enough for the room. Assumes nothing.
-use mathlib.Core.Path.{refl}
+use mathlib.Core.Path.{_≡_, refl, ap, _∙_}
 use native.Mathlib.Omega.{arith}
 use borrow.Author.Needs.{needs}
-use Rattle.frame.proofs.Lines.{laid-on, length-kept}
+use lib.ListN.{length}
+use Rattle.frame.specs.Answers.{LINE, lineBytes}
+use Rattle.frame.specs.Fields.{Line}
+use Rattle.frame.proofs.Lines.{put-on, length-kept}
 use Rattle.frame.proofs.Saying.{ask-answered, ask-refused, few-links}
 use Rattle.frame.proofs.answers.asked.Statement.{statement}
 use Rattle.frame.proofs.answers.asked.Tie as tie
@@ -24,26 +27,33 @@ returns c =
     let q = c .before .before .before .before .before .before .before in
     ask-refused refl (q .ask .ensures) (c .before .before .before .before .if1 .taken) (c .before .before .put-number .ensures)
 
-put-kept-requires : tie.Need-put-kept-requires
-put-kept-requires c κs = search needs
+kept-line-requires : tie.Need-kept-line-requires
+kept-line-requires c κs = search needs
+
+put-line-requires : tie.Need-put-line-requires
+put-line-requires c κs =
+    let k : length (lineBytes (c .kept-line .result)) ≡ LINE = ap (λ (l : Line). length (lineBytes l)) (c .kept-line .ensures) ∙ length-kept _ in
+    omega arith
 
 put-links-requires : tie.Need-put-links-requires
 put-links-requires c κs =
-    let q = c .before .before .before .before .before .before .before .before .before .before in
-    let k = c .before .before .before .before in
-    let few = few-links (q .ask .ensures) refl (q .ask .kept .1 .0) in
-    (omega (arith, few, k .put-kept .ensures .ends, length-kept (q .ask .result .kept), k .put-kept .kept .0), few)
+    let p = c .before .before .before .before in
+    let asked = p .before .before .before .before .before .before .before .ask in
+    let put = rw (p .before .kept-line .ensures) at (p .put-line .ensures) in
+    let few = few-links (asked .ensures) refl (asked .kept .1 .0) in
+    (omega (arith, few, put .ends, length-kept (asked .result .kept), p .put-line .kept .0), few)
 
 same-length-2 : tie.Need-same-length-2
 same-length-2 c = search needs
 
 returns-2 : tie.Need-returns-2
 returns-2 c =
-    let kept = c .before .before .before .before .before .before .before in
-    let accepted = kept .before .before .before in
+    let p = c .before .before .before .before .before .before .before in
+    let accepted = p .before .before .before .before in
     let asked = accepted .before .before .before .ask in
+    let put = rw (p .before .kept-line .ensures) at (p .put-line .ensures) in
     let few = few-links (asked .ensures) refl (asked .kept .1 .0) in
-    ask-answered refl (asked .ensures) (accepted .if1 .left) few (laid-on (kept .put-kept .ensures) (c .before .before .put-links .ensures))
+    ask-answered refl (asked .ensures) (accepted .if1 .left) few (put-on put (c .before .before .put-links .ensures))
 
 pub asked-spec : {M : Type 1} → statement M
 asked-spec =
@@ -54,7 +64,8 @@ asked-spec =
     put-number-requires
     same-length
     returns
-    put-kept-requires
+    kept-line-requires
+    put-line-requires
     put-links-requires
     same-length-2
     returns-2)

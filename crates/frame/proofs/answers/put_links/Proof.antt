@@ -5,21 +5,22 @@ use native.Mathlib.Numerals.{add-one}
 use native.Mathlib.Omega.{arith}
 use borrow.Author.Needs.{needs}
 use lib.ListN.{length}
-use Rattle.frame.specs.Answers.{LINE, linkLines}
-use Rattle.frame.specs.Statements.{Laid}
-use Rattle.frame.proofs.Lines.{laid-none, laid-on, length-link, links-next}
+use Rattle.frame.specs.Answers.{LINE, answerBytes, lineBytes, linkLines}
+use Rattle.frame.specs.Fields.{Line}
+use Rattle.frame.specs.Statements.{PutAt}
+use Rattle.frame.proofs.Lines.{put-none, put-on, length-link, links-next}
 use Rattle.frame.proofs.answers.put_links.Statement.{statement}
 use Rattle.frame.proofs.answers.put_links.Tie as tie
 
 abbrev Inv-loop : tie.InvT-loop
-Inv-loop out₀ at chain n end₀ i₀ out end i = (i ≤ n) × (end ≡ at + LINE * i) × (length out ≡ length out₀) × Laid out₀ at (linkLines i chain) out end
+Inv-loop out₀ at chain n end₀ i₀ out end i = (i ≤ n) × (end ≡ at + LINE * i) × (length out ≡ length out₀) × PutAt out₀ at (answerBytes (linkLines i chain)) out end
 
 abbrev μ-loop : tie.MeasureT-loop
 μ-loop out₀ at chain n end₀ i₀ out end i = n - i
 
 loop-holds : tie.Need-loop-holds Inv-loop μ-loop
-unfolding linkLines
-loop-holds c = (omega arith, omega arith, refl, laid-none _ _ (omega arith))
+unfolding linkLines answerBytes
+loop-holds c = (omega arith, omega arith, refl, put-none _ _ (omega arith))
 
 mul-from : tie.Need-mul-from Inv-loop μ-loop
 mul-from c = search needs
@@ -54,8 +55,13 @@ mul-reason-2 c = search needs
 element-copy-out-reason : tie.Need-element-copy-out-reason Inv-loop μ-loop
 element-copy-out-reason c = search needs
 
-put-link-requires : tie.Need-put-link-requires Inv-loop μ-loop
-put-link-requires c κs = omega arith
+link-line-requires : tie.Need-link-line-requires Inv-loop μ-loop
+link-line-requires c κs = search needs
+
+put-line-requires : tie.Need-put-line-requires Inv-loop μ-loop
+put-line-requires c κs =
+    let k : length (lineBytes (c .link-line .result)) ≡ LINE = ap (λ (l : Line). length (lineBytes l)) (c .link-line .ensures) ∙ length-link _ _ _ in
+    omega arith
 
 add-i : tie.Need-add-i Inv-loop μ-loop
 add-i c = search needs
@@ -64,14 +70,16 @@ loop-less : tie.Need-loop-less Inv-loop μ-loop
 loop-less c = omega arith
 
 loop-again : tie.Need-loop-again Inv-loop μ-loop
-unfolding linkLines
+unfolding linkLines answerBytes
 loop-again c =
-    let l = c .before .before .before .before .before .before .before .before in
-    let p = c .before .before .put-link in (
+    let link = c .before .before .before in
+    let l = link .before .before .before .before .before .before in
+    let p = c .before .before .put-line in
+    let put = rw (link .link-line .ensures) at (p .ensures) in (
       omega arith,
-      omega (arith, p .ensures .ends ∙ ap (λ (k : ℕ). l .loop .end + k) (length-link _ _ _)),
+      omega (arith, put .ends ∙ ap (λ (k : ℕ). l .loop .end + k) (length-link _ _ _)),
       p .kept .0 ∙ l .loop .inv .2,
-      rw (add-one (l .loop .i), links-next (l .loop .i)) (laid-on (l .loop .inv .3) (p .ensures)),
+      rw (add-one (l .loop .i), links-next (l .loop .i)) (put-on (l .loop .inv .3) put),
     )
 
 same-length : tie.Need-same-length Inv-loop μ-loop
@@ -100,7 +108,8 @@ put-links-spec =
     add-reason
     mul-reason-2
     element-copy-out-reason
-    put-link-requires
+    link-line-requires
+    put-line-requires
     add-i
     loop-less
     loop-again

@@ -1,71 +1,62 @@
--- `put_number` meets its contract: its numbers are written one after the other. Assumes nothing.
-use mathlib.Core.Path.{_∙_}
+-- `put_number` meets its contract: its numbers are those of the line, and fields of no digits write nothing. Assumes nothing.
+use mathlib.Core.Path.{_≡_, ap}
+use mathlib.Core.List.{[], _∷_}
 use native.Mathlib.Omega.{arith}
 use borrow.Author.Needs.{needs}
-use lib.ListN.{length-set}
-use Rattle.frame.proofs.Lines.{accepted, refused}
+use lib.ListN.{length}
+use Rattle.frame.specs.Answers.{lineBytes, numberLine}
+use Rattle.frame.specs.Fields.{field}
+use Rattle.frame.proofs.Lines.{accepted, length-number, refused}
 use Rattle.frame.proofs.answers.put_number.Statement.{statement}
 use Rattle.frame.proofs.answers.put_number.Tie as tie
 
-put-byte-requires : tie.Need-put-byte-requires
-put-byte-requires c κs = search needs
+byte-requires : tie.Need-byte-requires
+byte-requires c κs = search needs
 
-add-out : tie.Need-add-out
-add-out c = search needs
+-- the numbers that the line is made of
+accepts : (c : tie.After-byte)
+    → lineBytes (c .byte .result ∷ field 0 0 ∷ field 0 0 ∷ field 0 0 ∷ []) ≡ lineBytes (numberLine (c .before .before .before .before .args .number))
+accepts c = rw (c .byte .ensures, c .before .before .if1 .taken) accepted
 
-slice-write-out : tie.Need-slice-write-out
-slice-write-out c = search needs
+refuses : (c : tie.After-byte3)
+    → lineBytes (c .before .byte2 .result ∷ c .byte3 .result ∷ field 0 0 ∷ field 0 0 ∷ [])
+    ≡ lineBytes (numberLine (c .before .before .before .before .before .args .number))
+refuses c = rw (c .before .byte2 .ensures, c .byte3 .ensures) (refused _ (c .before .before .before .if1 .left))
 
-add-result : tie.Need-add-result
-add-result c = search needs
+put-line-requires : tie.Need-put-line-requires
+put-line-requires c κs = omega (arith, ap length (accepts c), length-number (c .before .before .before .before .args .number))
 
 same-length : tie.Need-same-length
-same-length c = simp length-set (c .before .before .put-byte .kept .0)
+same-length c = search needs
 
 returns : tie.Need-returns
-returns c = rw (c .before .before .before .before .if1 .taken) (accepted (omega arith) (c .before .before .put-byte .ensures))
+returns c = rw (accepts (c .before .before .before)) at (c .before .before .put-line .ensures)
 
-put-byte-requires-2 : tie.Need-put-byte-requires-2
-put-byte-requires-2 c κs = search needs
+byte-requires-2 : tie.Need-byte-requires-2
+byte-requires-2 c κs = search needs
 
-add-put-byte : tie.Need-add-put-byte
-add-put-byte c = search needs
+byte-requires-3 : tie.Need-byte-requires-3
+byte-requires-3 c κs = search needs
 
-put-byte-requires-3 : tie.Need-put-byte-requires-3
-put-byte-requires-3 c κs = search needs
-
-add-out-2 : tie.Need-add-out-2
-add-out-2 c = search needs
-
-slice-write-out-2 : tie.Need-slice-write-out-2
-slice-write-out-2 c = search needs
-
-add-result-2 : tie.Need-add-result-2
-add-result-2 c = search needs
+put-line-requires-2 : tie.Need-put-line-requires-2
+put-line-requires-2 c κs = omega (arith, ap length (refuses c), length-number (c .before .before .before .before .before .args .number))
 
 same-length-2 : tie.Need-same-length-2
-same-length-2 c = simp length-set (c .before .before .put-byte3 .kept .0 ∙ c .before .before .before .before .before .before .put-byte2 .kept .0)
+same-length-2 c = search needs
 
 returns-2 : tie.Need-returns-2
-returns-2 c =
-    let first = c .before .before .before .before .before .before in
-    refused _ (omega arith) (first .before .before .if1 .left) (first .put-byte2 .ensures) (c .before .before .put-byte3 .ensures)
+returns-2 c = rw (refuses (c .before .before .before)) at (c .before .before .put-line2 .ensures)
 
 pub put-number-spec : {M : Type 1} → statement M
 put-number-spec =
     tie.close
     (tie.spec
-    put-byte-requires
-    add-out
-    slice-write-out
-    add-result
+    byte-requires
+    put-line-requires
     same-length
     returns
-    put-byte-requires-2
-    add-put-byte
-    put-byte-requires-3
-    add-out-2
-    slice-write-out-2
-    add-result-2
+    byte-requires-2
+    byte-requires-3
+    put-line-requires-2
     same-length-2
     returns-2)
