@@ -1,3 +1,0 @@
-// What the trials of calls share: sheets to try them on, and what is to be looked at in an answer.
-pub mod answers;
-pub mod sheets;

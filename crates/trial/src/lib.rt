@@ -1,5 +1,0 @@
-// What the programs that try the desk from outside share: the rules to try, a search that follows the paper one word at a
-// time, and the count of what was compared.
-pub mod direct;
-pub mod rules;
-pub mod tally;

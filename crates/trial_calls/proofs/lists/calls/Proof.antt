@@ -1,0 +1,15 @@
+-- `calls` is safe and ends: the measure is the places left. Assumes nothing.
+use Prim.Native.Nat.{_-_}
+use Rattle.batch.specs.Batch.{MOST}
+use borrow.Author.Needs.{needs}
+use Rattle.trial_calls.proofs.lists.calls.Statement.{statement}
+use Rattle.trial_calls.proofs.lists.calls.Tie as tie
+
+pub calls-spec : {M : Type 1} → statement M
+calls-spec =
+    tie.close
+    (tie.spec
+    (λ width count out rules sheet₀ i₀ sheet i. Unit)
+    (λ width count out rules sheet₀ i₀ sheet i. MOST - i)
+    (search needs) (search needs) (search needs) (search needs) (search needs) (search needs) (search needs) (search needs)
+    (search needs) (search needs) (search needs) (search needs) (search needs) (search needs) (search needs) (search needs))

@@ -1,0 +1,72 @@
+// The rules to try. Which of them are lawful is told by a test, so that no proof has to follow how they are made.
+ghost use mathlib.Core.Path.{_≡_};
+ghost use mathlib.Core.Bool.{true};
+ghost use Prim.Native.Nat.{_≤_};
+ghost use lib.ListN.{take};
+ghost use Rattle.word.specs.Word.{IsWidth};
+ghost use Rattle.rule.specs.Meaning.{AllLawful, Lawful, RULES};
+ghost use Rattle.trial_direct.specs.Trial.{Narrow};
+use crate::direct;
+use rule::Rule;
+use word::Width;
+
+pub fn rule(form: u64, sense: u64, c1: u64, c2: u64) -> Rule {
+    Rule {
+        form,
+        sense,
+        c1,
+        c2,
+    }
+}
+
+// How many numbered rules there are: eight forms in two senses, with two words.
+pub fn count(width: Width) -> u64
+    requires { ⌜ Narrow (width .bits) ⌝ }
+{
+    16 << (2 * width.bits)
+}
+
+// The rule of a number: of those below the count, each form in each sense with each two words is the rule of one.
+pub fn numbered(i: u64, width: Width) -> Rule
+    requires { ⌜ Narrow (width .bits) ⌝ }
+{
+    let n = direct::size(width);
+    rule(1 + i % 8, i / 8 % 2, i / 16 % n, i / 16 / n % n)
+}
+
+// The rule with the other sense.
+pub fn negated(rule: Rule) -> Rule {
+    crate::rules::rule(rule.form, rule.sense ^ 1, rule.c1, rule.c2)
+}
+
+// Whether the leaves take the rule: its constants are words, and a bit rule is not negated.
+pub fn lawful(rule: Rule, width: Width) -> bool
+    requires { ⌜ IsWidth (width .bits) ⌝ }
+    ensures { λ r. ⌜ (r ≡ true → Lawful (width .bits) rule) ⌝ }
+{
+    let top = width.top();
+    if top < rule.c1 {
+        return false;
+    }
+    if top < rule.c2 {
+        return false;
+    }
+    if rule.form == 7 {
+        return rule.sense == 0;
+    }
+    true
+}
+
+// Whether they take the first n rules.
+pub fn all_lawful(rules: [Rule; Rule::LIMIT], n: usize, width: Width) -> bool
+    requires { ⌜ IsWidth (width .bits) ⌝ }
+    requires { ⌜ n ≤ RULES ⌝ }
+    ensures { λ r. ⌜ (r ≡ true → AllLawful (width .bits) (take n rules)) ⌝ }
+{
+    for i in 0..n {
+        if !lawful(rules[i], width) {
+            return false;
+        }
+    }
+    true
+}

@@ -1,0 +1,14 @@
+-- `put` is safe and ends: the measure is the numbers left. Assumes nothing.
+use Prim.Native.Nat.{_+_, _*_, _-_}
+use Rattle.rule.specs.Meaning.{RULES}
+use borrow.Author.Needs.{needs}
+use Rattle.trial_sheets.proofs.expected.put.Statement.{statement}
+use Rattle.trial_sheets.proofs.expected.put.Tie as tie
+
+pub put-spec : {M : Type 1} → statement M
+put-spec =
+    tie.close
+    (tie.spec
+    (λ digits numbers out₀ at₀ out at. Unit)
+    (λ digits numbers out₀ at₀ out at. 3 * (4 * RULES + 1) - at)
+    (search needs) (search needs) (search needs) (search needs) (search needs) (search needs) (search needs) (search needs))

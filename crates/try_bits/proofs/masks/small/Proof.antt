@@ -1,0 +1,13 @@
+-- `small` is safe and ends: the widths are 1 to 5, and the measure is the widths left. Assumes nothing.
+use Prim.Native.Nat.{_-_, _≤_}
+use borrow.Author.Needs.{needs}
+use Rattle.try_bits.proofs.masks.small.Statement.{statement}
+use Rattle.try_bits.proofs.masks.small.Tie as tie
+
+pub small-spec : {M : Type 1} → statement M
+small-spec =
+    tie.close
+    (tie.spec
+    (λ way tally₀ bits₀ tally bits. 1 ≤ bits)
+    (λ way tally₀ bits₀ tally bits. 6 - bits)
+    (search needs) (search needs) (search needs) (search needs) (search needs) (search needs) (search needs) (search needs))

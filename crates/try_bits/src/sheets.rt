@@ -1,0 +1,113 @@
+// The bits that form 7 rules fix, at every constant of the widths 1 to 4, against a plain search for a word that meets them.
+ghost use Prim.Native.Nat.{_≤_};
+ghost use Rattle.word.specs.Word.{top};
+ghost use Rattle.rule.specs.Meaning.{RULES};
+ghost use Rattle.bits.specs.Fixed.{Tidy, Within};
+ghost use Rattle.trial_direct.specs.Trial.{Narrow};
+use crate::masks::Way;
+use crate::masks::same;
+use bits::Fixed;
+use rule::Rule;
+use trial_direct::direct;
+use trial_direct::rules;
+use trial_direct::tally::Tally;
+use word::Found;
+use word::Width;
+
+// Every form 7 rule by itself and, at widths with few enough of them, with every form 7 rule.
+pub fn over_widths(way: Way) -> Tally {
+    let mut tally = Tally::none();
+    for bits in 1..5 {
+        let width = Width { bits };
+        tally = tally.plus(over_sheets(way, 1, 1 << (2 * bits), width));
+        if bits < 4 {
+            tally = tally.plus(over_sheets(way, 2, 1 << (4 * bits), width));
+        }
+    }
+    tally
+}
+
+// The sheets of k form 7 rules, one or two, whose numbers are below the count: a number has two words for each rule.
+fn over_sheets(way: Way, k: usize, count: u64, width: Width) -> Tally
+    requires { ⌜ Narrow (width .bits) ⌝ }
+    requires { ⌜ k ≤ 2 ⌝ }
+{
+    let mut tally = Tally::none();
+    let n = direct::size(width);
+    for i in 0..count {
+        let mut rules = [bit_rule(i / n / n, width); Rule::LIMIT];
+        rules[0] = bit_rule(i, width);
+        tally = tally.plus(over_words(way, rules, k, width));
+    }
+    tally
+}
+
+// The form 7 rule whose constants are the lowest two words of i.
+fn bit_rule(i: u64, width: Width) -> Rule
+    requires { ⌜ Narrow (width .bits) ⌝ }
+{
+    let n = direct::size(width);
+    rules::rule(7, 0, i % n, i / n % n)
+}
+
+// The words found by the bits that the first k rules fix, which may clash. Rules that are not lawful differ.
+fn over_words(way: Way, rules: [Rule; Rule::LIMIT], k: usize, width: Width) -> Tally
+    requires { ⌜ Narrow (width .bits) ⌝ }
+    requires { ⌜ k ≤ RULES ⌝ }
+{
+    if !rules::all_lawful(rules, k, width) {
+        return Tally::one(false);
+    }
+    let fixed = Fixed::of(rules, k);
+    let mut table = [0; direct::TABLE];
+    direct::fill(rules, k, width, &mut table);
+    let mut tally = Tally::none();
+    let n = direct::size(width);
+    for p in 0..n {
+        tally = tally.plus(Tally::one(same_bits(way, fixed, &table, k, width, p)));
+    }
+    tally
+}
+
+// Whether the word found from p is the one that a walk finds.
+fn same_bits(
+    way: Way,
+    fixed: Fixed,
+    table: &[u8; direct::TABLE],
+    k: usize,
+    width: Width,
+    p: u64,
+) -> bool
+    requires { ⌜ Narrow (width .bits) ⌝ }
+    requires { ⌜ k ≤ RULES ⌝ }
+    requires { ⌜ Tidy fixed × Within (width .bits) fixed ⌝ }
+    requires { ⌜ p ≤ top (width .bits) ⌝ }
+{
+    let n = direct::size(width) as usize;
+    match way {
+        Way::Next => same(
+            fixed.next(width, p),
+            below(direct::up(&*table, 0, k, n, p as usize), n),
+        ),
+        Way::Prev => same(
+            fixed.prev(width, p),
+            one_below(direct::down(&*table, k, p as usize)),
+        ),
+    }
+}
+
+// Where a walk up stopped, or none where that is at the end.
+fn below(up: usize, end: usize) -> Found {
+    if up < end {
+        return Found::At(up as u64);
+    }
+    Found::Nothing
+}
+
+// One below where a walk down stopped, or none where that is at 0.
+fn one_below(down: usize) -> Found {
+    if down == 0 {
+        return Found::Nothing;
+    }
+    Found::At(down as u64 - 1)
+}

@@ -1,0 +1,15 @@
+-- `striking` is safe and ends: the measure is the marks left. Assumes nothing.
+use Prim.Native.Nat.{_-_}
+use Rattle.sheet.specs.Page.{MARKS}
+use borrow.Author.Needs.{needs}
+use Rattle.try_calls.proofs.case13.striking.Statement.{statement}
+use Rattle.try_calls.proofs.case13.striking.Tie as tie
+
+pub striking-spec : {M : Type 1} → statement M
+striking-spec =
+    tie.close
+    (tie.spec
+    (λ tally₀ sheet₀ i₀ tally sheet i. Unit)
+    (λ tally₀ sheet₀ i₀ tally sheet i. MARKS - i)
+    (search needs) (search needs) (search needs) (search needs) (search needs) (search needs) (search needs) (search needs)
+    (search needs) (search needs) (search needs) (search needs) (search needs) (search needs) (search needs))

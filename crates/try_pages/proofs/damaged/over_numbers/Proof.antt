@@ -1,0 +1,15 @@
+-- `over_numbers` is safe and ends: the measure is the numbers left. Assumes nothing.
+use Prim.Native.Nat.{_+_, _*_, _-_}
+use Rattle.rule.specs.Meaning.{RULES}
+use Rattle.sheet.specs.Page.{MARKS}
+use borrow.Author.Needs.{needs}
+use Rattle.try_pages.proofs.damaged.over_numbers.Statement.{statement}
+use Rattle.try_pages.proofs.damaged.over_numbers.Tie as tie
+
+pub over-numbers-spec : {M : Type 1} → statement M
+over-numbers-spec =
+    tie.close
+    (tie.spec
+    (λ sheet tally₀ at₀ tally at. Unit)
+    (λ sheet tally₀ at₀ tally at. 4 * RULES + MARKS + 6 - at)
+    (search needs) (search needs) (search needs) (search needs) (search needs) (search needs) (search needs) (search needs))

@@ -1,0 +1,89 @@
+// Calls drawn from a fixed seed, so that every run makes the same ones.
+use rule::Rule;
+use trial_calls::page::Call;
+use trial_direct::draw::next;
+
+// The seed of the call after: a call draws on four numbers at most.
+pub fn further(seed: u64) -> u64 {
+    next(next(next(next(seed))))
+}
+
+// A call for a sheet of the width. Openings are rare, as each starts a page afresh, but on the blank sheet are not.
+pub fn drawn(seed: u64, width: u64) -> Call {
+    let kind = seed / 64 % 64;
+    let more = next(seed);
+    if opens(seed, width) {
+        return Call::Open(new_width(more));
+    }
+    if kind < 12 {
+        return Call::Mark;
+    }
+    if kind < 20 {
+        return Call::Back;
+    }
+    Call::Add(rule(more, next(more), width))
+}
+
+fn opens(seed: u64, width: u64) -> bool {
+    let kind = seed % 256;
+    if width == 0 {
+        return kind < 64;
+    }
+    kind == 0
+}
+
+// Mostly 1 to 6, where words are few and rules clash; else any, with some that are refused.
+fn new_width(seed: u64) -> u64 {
+    if seed % 8 == 0 {
+        return seed / 8 % 48;
+    }
+    1 + seed / 8 % 6
+}
+
+// A rule, each of whose numbers is mostly one that is accepted at the width.
+fn rule(seed: u64, more: u64, width: u64) -> Rule {
+    let form = form(seed);
+    Rule {
+        form,
+        sense: sense(form, seed / 0x1000),
+        c1: constant(seed / 0x1_0000, more, width),
+        c2: second(form, seed / 0x1_0000_0000, next(more), width),
+    }
+}
+
+fn form(seed: u64) -> u64 {
+    if seed % 16 == 0 {
+        return seed / 16 % 16;
+    }
+    1 + seed / 16 % 8
+}
+
+// Form 7 is mostly not negated.
+fn sense(form: u64, seed: u64) -> u64 {
+    if seed % 16 == 0 {
+        return seed / 16 % 4;
+    }
+    if form == 7 {
+        return 0;
+    }
+    seed / 16 % 2
+}
+
+// Mostly a word of the width.
+fn constant(seed: u64, more: u64, width: u64) -> u64 {
+    if seed % 32 == 0 {
+        return more / 32 % 100;
+    }
+    more / 32 & std::num::wrapping_sub_u64(1 << width % 64, 1)
+}
+
+// Forms 4 to 6 mostly have no second constant.
+fn second(form: u64, seed: u64, more: u64, width: u64) -> u64 {
+    if seed % 32 == 1 {
+        return constant(seed, more, width);
+    }
+    match form {
+        4..=6 => 0,
+        _ => constant(seed, more, width),
+    }
+}

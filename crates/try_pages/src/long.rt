@@ -1,0 +1,89 @@
+// Long sequences of calls. After each call, accepted or refused, the desk's sheet is the one that a fresh sheet comes to
+// that is given what stands on the clerk's page.
+use crate::draw;
+use sheet::Answer;
+use sheet::Sheet;
+use trial_calls::answers::same_sheet;
+use trial_calls::page::Call;
+use trial_calls::page::Page;
+use trial_calls::sheets::added;
+use trial_calls::sheets::case2;
+use trial_calls::sheets::opened;
+use trial_direct::draw::next;
+use trial_direct::tally::Split;
+use trial_direct::tally::Tally;
+
+const SEQUENCES: u64 = 100;
+
+const CALLS: u64 = 200;
+
+// A desk and a clerk at work: what the next call is drawn from, the desk's sheet, the clerk's page, and the calls so far.
+struct Work {
+    seed: u64,
+    sheet: Sheet,
+    page: Page,
+    calls: Split,
+}
+
+pub fn all() -> Split {
+    let mut calls = Split::none();
+    for i in 0..SEQUENCES {
+        calls = calls.plus(sequence(next(i + 1)));
+    }
+    calls
+}
+
+// Calls from the blank sheet on.
+fn sequence(seed: u64) -> Split {
+    let mut work = Work {
+        seed,
+        sheet: Sheet::blank(),
+        page: Page::new(0),
+        calls: Split::none(),
+    };
+    for i in 0..CALLS {
+        work = step(work);
+    }
+    work.calls
+}
+
+// One call more.
+fn step(work: Work) -> Work {
+    let sheet = work.sheet;
+    let page = work.page;
+    let calls = work.calls;
+    let call = draw::drawn(work.seed, page.width);
+    let answer = made(sheet, call);
+    let left = answer.sheet;
+    let stands = if answer.number == 0 {
+        page.after(call)
+    } else {
+        page
+    };
+    Work {
+        seed: draw::further(work.seed),
+        sheet: left,
+        page: stands,
+        calls: calls.plus(compared(answer.number, left, stands)),
+    }
+}
+
+// A call accepted or refused, and the sheet that is left compared with the page.
+fn compared(number: u64, left: Sheet, stands: Page) -> Split {
+    let kind = if number == 0 { 0 } else { 1 };
+    Split::one(kind, same_sheet(left, stands.fresh()))
+}
+
+// A wrong page: the clerk missed an add.
+pub fn known() -> Tally {
+    compared(0, added(opened(4), case2()), Page::new(4)).joined()
+}
+
+fn made(sheet: Sheet, call: Call) -> Answer {
+    match call {
+        Call::Open(width) => sheet.open(width),
+        Call::Add(rule) => sheet.add(rule),
+        Call::Mark => sheet.mark(),
+        Call::Back => sheet.back(),
+    }
+}

@@ -1,0 +1,14 @@
+-- `paper::cases` is safe and ends: the measure is the words left. Assumes nothing.
+use Prim.Native.Nat.{_-_}
+use borrow.Author.Needs.{needs}
+use Rattle.try_rules.proofs.paper.cases.Statement.{statement}
+use Rattle.try_rules.proofs.paper.cases.Tie as tie
+
+pub cases-spec : {M : Type 1} → statement M
+cases-spec =
+    tie.close
+    (tie.spec
+    (λ tally₀ i₀ tally i. Unit)
+    (λ tally₀ i₀ tally i. 192 - i)
+    (search needs) (search needs) (search needs) (search needs) (search needs) (search needs) (search needs) (search needs)
+    (search needs) (search needs))
