@@ -3,6 +3,7 @@ mod answers;
 mod reading;
 
 pub use answers::answer;
+use chain::Link;
 pub use reading::decode;
 use rule::Rule;
 use sheet::Sheet;
@@ -46,5 +47,5 @@ impl Frame {
     pub const LINE: usize = 2 * Frame::BYTE + 2 * Frame::WORD + 1;
 
     // How long an answer can be: a line on the verdict, and one for each link.
-    pub const ROOM: usize = Frame::LINE * (4 * Rule::LIMIT + 2);
+    pub const ROOM: usize = Frame::LINE * (Link::MOST + 1);
 }

@@ -1,8 +1,5 @@
 // Asking.
 ghost use mathlib.Core.Path.{_≡_};
-ghost use Prim.Native.Nat.{_≤_};
-ghost use Rattle.rule.specs.Meaning.{RULES};
-ghost use Rattle.chain.specs.Links.{chainRoom};
 ghost use Rattle.sheet.specs.Statements.{Asked, refuses};
 use crate::Reply;
 use crate::Sheet;
@@ -20,7 +17,7 @@ impl Sheet {
         if number != 0 {
             return refusal(number);
         }
-        if lent < room(count) {
+        if lent < chain::room(count) {
             return refusal(9);
         }
         let kept = self.kept;
@@ -54,12 +51,4 @@ pub fn refusal(number: u64) -> Reply
         },
         links: 0,
     }
-}
-
-// What asking wants for so many rules.
-fn room(count: usize) -> usize
-    requires { ⌜ count ≤ RULES ⌝ }
-    ensures { λ r. ⌜ r ≡ chainRoom count ⌝ }
-{
-    Sheet::LINK * (Sheet::LINKS * count + 1)
 }

@@ -12,6 +12,7 @@ mod opening;
 mod shape;
 
 pub use asking::refusal;
+use chain::Link;
 use rule::Rule;
 use verdict::Kept;
 
@@ -51,14 +52,8 @@ impl Sheet {
     // The most marks that may be in force.
     pub const MARKS: usize = 16;
 
-    // The numbers that a link takes.
-    const LINK: usize = 3;
-
-    // The links that a rule may add to a first one.
-    const LINKS: usize = 4;
-
-    // What asking wants of a full sheet: three numbers for each of up to 4n + 1 links.
-    pub const LENT: usize = Sheet::LINK * (Sheet::LINKS * Rule::LIMIT + 1);
+    // What asking wants of a full sheet.
+    pub const LENT: usize = Link::ROOM;
 
     // What every call but an opening tests first: 17 where the record is no sheet, 1 on the blank sheet.
     fn standing(self) -> u64
