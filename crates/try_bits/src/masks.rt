@@ -13,7 +13,7 @@ pub enum Way {
 }
 
 // The bits, and where they are looked for from.
-pub struct Asked {
+pub struct Sought {
     pub mask: u64,
     pub value: u64,
     pub p: u64,
@@ -36,24 +36,24 @@ fn over_numbers(way: Way, width: Width) -> Tally
     let n = 2 << width.bits;
     let count = 4 << (3 * width.bits);
     for i in 0..count {
-        let asked = Asked {
+        let sought = Sought {
             mask: i & std::num::wrapping_sub_u64(n, 1),
             value: i >> (width.bits + 1) & std::num::wrapping_sub_u64(n, 1),
             p: i >> (2 * width.bits + 2),
         };
-        tally = tally.plus(compared(way, width, asked, searched(way, width, asked)));
+        tally = tally.plus(compared(way, width, sought, searched(way, width, sought)));
     }
     tally
 }
 
-// One answer compared, or none where it may not be asked for: a value has no bit outside its mask, p is a word, and looked
+// One answer compared, or none where it may not be looked for: a value has no bit outside its mask, p is a word, and looked
 // for downwards so is the mask.
-pub fn compared(way: Way, width: Width, asked: Asked, expected: Found) -> Tally
+pub fn compared(way: Way, width: Width, sought: Sought, expected: Found) -> Tally
     requires { ⌜ IsWidth (width .bits) ⌝ }
 {
-    let mask = asked.mask;
-    let value = asked.value;
-    let p = asked.p;
+    let mask = sought.mask;
+    let value = sought.value;
+    let p = sought.p;
     let top = width.top();
     if value & mask != value {
         return Tally::none();
@@ -85,13 +85,13 @@ pub fn same(found: Found, expected: Found) -> bool {
     }
 }
 
-fn searched(way: Way, width: Width, asked: Asked) -> Found
+fn searched(way: Way, width: Width, sought: Sought) -> Found
     requires { ⌜ (1 ≤ width .bits) × (width .bits < 6) ⌝ }
 {
-    let p = asked.p;
+    let p = sought.p;
     match way {
-        Way::Next => up(asked.mask, asked.value, p, 1 << width.bits),
-        Way::Prev => down(asked.mask, asked.value, p),
+        Way::Next => up(sought.mask, sought.value, p, 1 << width.bits),
+        Way::Prev => down(sought.mask, sought.value, p),
     }
 }
 
@@ -129,10 +129,10 @@ pub fn known() -> Tally {
 }
 
 fn wrong(way: Way, p: u64, expected: Found) -> Tally {
-    let asked = Asked {
+    let sought = Sought {
         mask: 1,
         value: 1,
         p,
     };
-    compared(way, Width { bits: 4 }, asked, expected)
+    compared(way, Width { bits: 4 }, sought, expected)
 }

@@ -2,7 +2,7 @@
 // the largest has all of these and the smallest none.
 ghost use Prim.Native.Nat.{_≤_};
 ghost use Rattle.word.specs.Word.{IsWidth};
-use crate::masks::Asked;
+use crate::masks::Sought;
 use crate::masks::Way;
 use crate::masks::compared;
 use trial_direct::draw;
@@ -38,16 +38,16 @@ fn at_words(way: Way, width: Width, i: u64) -> Tally
         Way::Next => whole,
         Way::Prev => whole & top,
     };
-    let asked = Asked {
+    let sought = Sought {
         mask,
         value: word(width, i / 16 % 16) & mask,
         p: word(width, i / 256) & top,
     };
     let expected = match way {
-        Way::Next => smallest(width, asked),
-        Way::Prev => largest(width, asked),
+        Way::Next => smallest(width, sought),
+        Way::Prev => largest(width, sought),
     };
-    compared(way, width, asked, expected)
+    compared(way, width, sought, expected)
 }
 
 // The corners, then words that are drawn, and the last five drawn words reach past the width.
@@ -73,21 +73,21 @@ fn drawn(i: u64) -> u64 {
 }
 
 // The smallest at or above p: from the largest, each free bit is cleared, the highest first, where p is not passed.
-fn smallest(width: Width, asked: Asked) -> Found
+fn smallest(width: Width, sought: Sought) -> Found
     requires { ⌜ IsWidth (width .bits) ⌝ }
 {
     let top = width.top();
-    let free = top ^ top & asked.mask;
-    let mut x = asked.value | free;
+    let free = top ^ top & sought.mask;
+    let mut x = sought.value | free;
     if top < x {
         return Found::Nothing;
     }
-    if x < asked.p {
+    if x < sought.p {
         return Found::Nothing;
     }
     for k in 0..width.bits {
         let bit = 1 << (width.bits - 1 - k);
-        if asked.p <= x ^ free & bit {
+        if sought.p <= x ^ free & bit {
             x = x ^ free & bit;
         }
     }
@@ -95,18 +95,18 @@ fn smallest(width: Width, asked: Asked) -> Found
 }
 
 // The largest at or below p: from the smallest, each free bit is set, the highest first, where p is not passed.
-fn largest(width: Width, asked: Asked) -> Found
+fn largest(width: Width, sought: Sought) -> Found
     requires { ⌜ IsWidth (width .bits) ⌝ }
 {
     let top = width.top();
-    let free = top ^ top & asked.mask;
-    let mut x = asked.value;
-    if asked.p < x {
+    let free = top ^ top & sought.mask;
+    let mut x = sought.value;
+    if sought.p < x {
         return Found::Nothing;
     }
     for k in 0..width.bits {
         let bit = 1 << (width.bits - 1 - k);
-        if x | free & bit <= asked.p {
+        if x | free & bit <= sought.p {
             x = x | free & bit;
         }
     }

@@ -1,4 +1,4 @@
--- `compared` is safe: what may not be asked for is left out. Assumes nothing.
+-- `compared` is safe: what may not be sought for is left out. Assumes nothing.
 use native.Mathlib.Omega.{arith}
 use Rattle.bits.specs.Fixed.{Tidy, Within}
 use borrow.Author.Needs.{needs}

@@ -8,7 +8,7 @@ pub largest-spec : {M : Type 1} → statement M
 largest-spec =
     tie.close
     (tie.spec
-    (λ width asked top free x₀ k₀ k-end x k. Unit)
-    (λ width asked top free x₀ k₀ k-end x k. k-end - k)
+    (λ width sought top free x₀ k₀ k-end x k. Unit)
+    (λ width sought top free x₀ k₀ k-end x k. k-end - k)
     (search needs) (search needs) (search needs) (search needs) (search needs) (search needs) (search needs) (search needs)
     (search needs) (search needs))

@@ -8,7 +8,7 @@ pub smallest-spec : {M : Type 1} → statement M
 smallest-spec =
     tie.close
     (tie.spec
-    (λ width asked top free x₀ k₀ k-end x k. Unit)
-    (λ width asked top free x₀ k₀ k-end x k. k-end - k)
+    (λ width sought top free x₀ k₀ k-end x k. Unit)
+    (λ width sought top free x₀ k₀ k-end x k. k-end - k)
     (search needs) (search needs) (search needs) (search needs) (search needs) (search needs) (search needs) (search needs)
     (search needs) (search needs) (search needs))
