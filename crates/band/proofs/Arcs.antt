@@ -1,12 +1,12 @@
 -- Each form is an arc. The distance of x from the arc's start, going up, is at most that of its end exactly when x is within
 -- the arc; turning the wheel keeps distances; and each form is a plain bound on the word turned by some amount: by c1 or c2
 -- for forms 1, 2, 3 and 8, by half for the signed forms 4 and 5. Assumes nothing.
-use mathlib.Core.Path.{_≡_, sym, ap, ap₂, _∙_}
-use mathlib.Core.Bool.{Bool}
+use mathlib.Core.Path.{_≡_, refl, sym, ap, ap₂, _∙_}
+use mathlib.Core.Bool.{Bool, true, false, not, _&&_, cond}
 use mathlib.Core.Logic.{_⊎_, inl, inr, ⊎-elim}
 use Prim.Native.Nat.{ℕ, suc, _+_, _-_, _≤_, _<_}
 use native.Mathlib.Nat.{le-of-eq}
-use native.Mathlib.Decide.{ℕ-discrete}
+use native.Mathlib.Decide.{decLe, ℕ-discrete}
 use native.Mathlib.Omega.{arith}
 use borrow.Author.Tests.{eq-eqb, le-leb, lt-leb, ne-eqb}
 use lib.Dec.{leb, eqb}
@@ -14,10 +14,13 @@ use lib.Signed.{leZ}
 use Rattle.word.specs.Word.{top, half, plus, minus, signed}
 use Rattle.word.proofs.Signed.{order}
 use Rattle.word.proofs.Sums.{minus-cases, minus-word, plus-cases, plus-word, redo, regroup, rest, turn}
-use Rattle.word.proofs.Tests.{leb-same}
+use Rattle.word.proofs.Tests.{leb-same, ltb-leb}
 use Rattle.word.proofs.Widths.{halves, half-pos}
-use Rattle.band.specs.Band.{holds, span, within}
-use Rattle.band.proofs.Sides.{In, Out, is-in, is-out, sides}
+use Rattle.rule.specs.Meaning.{settled}
+use Rattle.rule.proofs.Settled.{never}
+use Rattle.band.specs.declared.Band.{Band}
+use Rattle.band.specs.Band.{holds, settledBand, span, wheel, within}
+use Rattle.band.proofs.Sides.{In, Out, is-in, is-out, sides, value}
 
 -- d is how far it is up from a to y on a wheel with the top word t
 abbrev Up : (t a y d : ℕ) → Type 0
@@ -159,17 +162,34 @@ module _ (w : ℕ) (width : 1 ≤ w) (c1 c2 x : ℕ) (h1 : c1 ≤ top w) (h2 : c
           (lt-leb (minus w x c1) (minus w c1 c1)
           (⊎-elim (λ c. omega (arith, none)) (λ c. omega (arith, none)) (minus-cases w x c1 hx h1)))
 
-  pub form8 : leb c2 (minus w x c1) ≡ holds (span (plus w c1 c2) (minus w c1 1)) x
-  form8 =
-      from-on w c2 (minus w x c1) h2 (minus-word w x c1)
-      ∙ ap₂ (λ (a b : ℕ). near w a b (minus w x c1)) (sym (redo w c1 c2 h1 h2)) (sym (redo w c1 (top w) h1 (omega arith)))
-      ∙ turned w (plus w c1 c2) (plus w c1 (top w)) c1 x (plus-word w c1 c2) h1
-      ∙ ap (λ (b : ℕ). near w (plus w c1 c2) b x) one-less
-      ∙ on-arc (plus-word w _ _) (minus-word w _ _)
+  no-words : holds (wheel (top w) true) x ≡ false
+  unfolding holds
+  no-words = ap not (is-in 0 (top w) x (inl (omega arith, hx)))
+
+  pub form8 : settled w c1 c2 x ≡ holds (settledBand w c1 c2) x
+  unfolding settledBand
+  form8 = go (decLe (half w) c2)
     where
-      one-less : plus w c1 (top w) ≡ minus w c1 1
-      one-less =
-          let t : 1 ≤ top w = omega (arith, halves w width, half-pos w) in
-          let m = minus-cases w c1 1 h1 t in
-          ⊎-elim (λ p. ⊎-elim (λ q. omega arith) (λ q. omega arith) m) (λ p. ⊎-elim (λ q. omega arith) (λ q. omega arith) m)
-          (plus-cases w c1 (top w) h1 (omega arith))
+      since : ℕ
+      since = minus w x c1
+
+      arc : Band
+      arc = span (plus w c1 c2) (plus w c1 (half w - 1))
+
+      -- c1 turned to 0, the words from c2 to half - 1
+      some : c2 < half w → settled w c1 c2 x ≡ holds arc x
+      some h =
+          let last : half w - 1 ≤ top w = omega (arith, half-word) in
+          ap (λ (t : Bool). leb c2 since && t) (ltb-leb since (half w) (half-pos w))
+          ∙ sym (value c2 (half w - 1) since true _ _ (le-leb c2 (half w - 1) (omega arith)) refl refl)
+          ∙ distance w c2 (half w - 1) since h2 last (minus-word w x c1)
+          ∙ ap₂ (λ (a b : ℕ). near w a b since) (sym (redo w c1 c2 h1 h2)) (sym (redo w c1 (half w - 1) h1 last))
+          ∙ turned w (plus w c1 c2) (plus w c1 (half w - 1)) c1 x (plus-word w c1 c2) h1
+          ∙ on-arc (plus-word w _ _) (plus-word w _ _)
+
+      picked : (t : Bool) → leb (half w) c2 ≡ t → holds (cond t (wheel (top w) true) arc) x ≡ holds (settledBand w c1 c2) x
+      picked t e = ap (λ (t : Bool). holds (cond t (wheel (top w) true) arc) x) (sym e)
+
+      go : Dec (half w ≤ c2) → settled w c1 c2 x ≡ holds (settledBand w c1 c2) x
+      go (yes h) = never w c1 c2 x h ∙ sym no-words ∙ picked true (le-leb (half w) c2 h)
+      go (no h) = some (omega arith) ∙ picked false (lt-leb (half w) c2 (omega arith))

@@ -8,9 +8,9 @@ use native.Mathlib.Nat.{le-refl}
 use native.Mathlib.Decide.{ℕ-discrete}
 use native.Mathlib.Omega.{arith}
 use borrow.Author.Tests.{eq-eqb, le-leb}
-use lib.Dec.{eqb}
+use lib.Dec.{eqb, leb}
 use lib.ListN.{getD}
-use Rattle.word.specs.Word.{top, half, minus}
+use Rattle.word.specs.Word.{top, half, minus, plus}
 use Rattle.word.specs.Search.{climb, sink}
 use Rattle.word.proofs.Search.{climb-same, count-two, sink-same}
 use Rattle.word.proofs.Sums.{minus-cases, minus-word, plus-word}
@@ -21,7 +21,7 @@ use Rattle.rule.proofs.Forms.{by-form}
 use Rattle.rule.proofs.Ends.{ends-below}
 use Rattle.rule.proofs.Rows.{at-row, past-rows}
 use Rattle.band.specs.declared.Band.{Band}
-use Rattle.band.specs.Band.{Laid, bandOf, bySense, holds, otherSide, seamless, span, within, writtenBand, writtenBands}
+use Rattle.band.specs.Band.{Laid, bandOf, bySense, holds, otherSide, seamless, settledBand, span, wheel, within, writtenBand, writtenBands}
 use Rattle.band.proofs.Arcs.{distance, form1, form2, form3, form4, form5, form6, form8}
 use Rattle.band.proofs.Laying.{at-band, part-band, past-bands, whole-band}
 use Rattle.band.proofs.Runs.{edge, run-ends}
@@ -40,7 +40,9 @@ module _ (w : ℕ) (b : Band) (words : Words w b) where
       all : minus w (b .to) (b .from) ≡ top w → within 0 (top w) x ≡ within (b .from) (b .to) x
       all e =
           is-in 0 (top w) x (inl (omega arith, word))
-          ∙ sym (distance w _ _ x (words .0) (words .1) word ∙ le-leb (minus w x (b .from)) (minus w (b .to) (b .from)) (omega (arith, e, minus-word w x (b .from))))
+          ∙ sym
+          (distance w _ _ x (words .0) (words .1) word
+          ∙ le-leb (minus w x (b .from)) (minus w (b .to) (b .from)) (omega (arith, e, minus-word w x (b .from))))
 
       go : Dec (minus w (b .to) (b .from) ≡ top w) → holds (seamless w b) x ≡ holds b x
       go (yes e) = ap (λ (c : Band). holds c x) (whole-band w b e) ∙ ap (λ (v : Bool). cond (b .inside) (not v) v) (all e)
@@ -78,7 +80,7 @@ module _ (b : Band) where
 module _ (w : ℕ) (width : 1 ≤ w) (r : Rule) (lawful : Lawful w r) where
   -- the ends of every row are words
   row-words : Words w (writtenBand w r)
-  unfolding writtenBands
+  unfolding writtenBands settledBand
   row-words =
       let c = lawful .c1-word in
       let m = minus-word w in
@@ -92,9 +94,13 @@ module _ (w : ℕ) (width : 1 ≤ w) (r : Rule) (lawful : Lawful w r) where
       (at 5 (c, omega arith))
       (at 6 (c, c))
       (at 7 (t, le-refl (top w)))
-      (at 8 (plus-word w _ _, m _ _))
+      (at 8 (settled-words (leb (half w) (r .c2))))
       (λ n k e. subst (Words w) (sym (past-bands w r (rw e k))) (t, le-refl (top w))) (r .form) refl
     where
+      settled-words : (t : Bool) → Words w (cond t (wheel (top w) true) (span (plus w (r .c1) (r .c2)) (plus w (r .c1) (half w - 1))))
+      settled-words true = (omega arith, le-refl (top w))
+      settled-words false = (plus-word w _ _, plus-word w _ _)
+
       at : (k : ℕ) → Words w (getD (writtenBands w (r .c1) (r .c2)) k (span 0 (top w))) → r .form ≡ k → Words w (writtenBand w r)
       at k h e = subst (Words w) (sym (at-band w r k e)) h
 

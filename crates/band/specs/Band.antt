@@ -26,6 +26,10 @@ span a b = record { from = a; to = b; inside = false }
 abbrev pub wheel : (t : ℕ) (inside : Bool) → Band
 wheel t inside = record { from = 0; to = t; inside = inside }
 
+-- settled, the row of form 8: the words from c1 + c2 to c1 + half - 1; where c2 is half or more there are none, and all fail
+unfoldable pub settledBand : (w c1 c2 : ℕ) → Band
+settledBand w c1 c2 = cond (leb (half w) c2) (wheel (top w) true) (span (plus w c1 c2) (plus w c1 (half w - 1)))
+
 -- The table, a row for each form: the band of a rule as written. Form 7 is no arc, and is left to the fixed bits.
 unfoldable pub writtenBands : (w c1 c2 : ℕ) → List Band
 writtenBands w c1 c2 =
@@ -37,7 +41,7 @@ writtenBands w c1 c2 =
     ∷ span c1 (half w - 1)
     ∷ span c1 c1
     ∷ span 0 (top w)
-    ∷ span (plus w c1 c2) (minus w c1 1)
+    ∷ settledBand w c1 c2
     ∷ []
 
 unfoldable pub writtenBand : ℕ → Rule → Band

@@ -5,7 +5,7 @@ ghost use mathlib.Core.Bool.{false};
 ghost use Prim.Native.Nat.{_-_, _≤_};
 ghost use Rattle.word.specs.Word.{IsWidth};
 ghost use Rattle.word.specs.Search.{climb, sink};
-ghost use Rattle.band.specs.Band.{Laid, bandOf, bySense, holds, seamless, span, turnedBand, wheel, within, writtenBand};
+ghost use Rattle.band.specs.Band.{Laid, bandOf, bySense, holds, seamless, settledBand, span, turnedBand, wheel, within, writtenBand};
 use rule::Rule;
 use word::Width;
 
@@ -79,9 +79,21 @@ impl Band {
             4 => Band::span(width.half(), rule.c1),
             5 => Band::span(rule.c1, width.half() - 1),
             6 => Band::span(rule.c1, rule.c1),
-            8 => Band::span(width.add(rule.c1, rule.c2), width.sub(rule.c1, 1)),
+            8 => Band::settled(rule, width),
             _ => Band::span(0, top),
         }
+    }
+
+    // The band of form 8 as written. Where the settling time is half or more no word is settled, and the whole wheel fails.
+    fn settled(rule: Rule, width: Width) -> Band
+        requires { ⌜ IsWidth (width .bits) ⌝ }
+        ensures { λ r. ⌜ r ≡ settledBand (width .bits) (rule .c1) (rule .c2) ⌝ }
+    {
+        let half = width.half();
+        if half <= rule.c2 {
+            return Band::wheel(width.top(), true);
+        }
+        Band::span(width.add(rule.c1, rule.c2), width.add(rule.c1, half - 1))
     }
 
     // The band that holds the words from one to another, and no others.

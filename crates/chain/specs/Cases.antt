@@ -47,7 +47,7 @@ cases =
     -- 11
     ∷ case 4 (rule 3 0 0 2 ∷ rule 3 0 0 2 ∷ rule 2 0 3 0 ∷ []) (says (keeps 0 0 0) (link 0 2 2 ∷ link 3 15 0 ∷ []))
     -- 12
-    ∷ case 4 (rule 8 0 14 3 ∷ []) (says (keeps 2 1 13) [])
+    ∷ case 4 (rule 8 0 14 3 ∷ []) (says (keeps 2 1 5) [])
     ∷ []
 
 -- those of k words from p that fit, in rising order

@@ -3,17 +3,21 @@ use mathlib.Core.Path.{_≡_}
 use mathlib.Core.Bool.{Bool, true, not, _&&_, _||_, cond}
 use mathlib.Core.List.{List, [], _∷_}
 use Prim.Native.Nat.{ℕ, suc, _-_, _≤_}
-use lib.Dec.{leb, eqb}
+use lib.Dec.{leb, ltb, eqb}
 use lib.ListN.{getD}
 use lib.Bits.{bitAnd}
 use lib.Signed.{leZ}
-use Rattle.word.specs.Word.{top, plus, minus, signed}
+use Rattle.word.specs.Word.{top, half, plus, minus, signed}
 use Rattle.word.specs.Search.{climb, count, sink}
 use Rattle.rule.specs.declared.Rule.{Rule}
 
 -- a rule by its four numbers
 abbrev pub rule : (form sense c1 c2 : ℕ) → Rule
 rule form sense c1 c2 = record { form = form; sense = sense; c1 = c1; c2 = c2 }
+
+-- "settled: c2 <= (x - c1) and (x - c1) < half", where c1 is the tick of the power change and c2 the settling time
+abbrev pub settled : (w c1 c2 x : ℕ) → Bool
+settled w c1 c2 x = leb c2 (minus w x c1) && ltb (minus w x c1) (half w)
 
 -- The table, a row for each form from 1 to 8: what it says of the word x. (0 is no form.)
 unfoldable pub rows : (w c1 c2 x : ℕ) → List Bool
@@ -26,7 +30,7 @@ rows w c1 c2 x =
     ∷ leZ (signed w c1) (signed w x)
     ∷ eqb x c1
     ∷ eqb (bitAnd x c1) c2
-    ∷ leb c2 (minus w x c1)
+    ∷ settled w c1 c2 x
     ∷ []
 
 -- The word x meets the rule as written: what the form's row says. A number that is no form forbids nothing.

@@ -2,7 +2,7 @@
 ghost use mathlib.Core.Path.{_≡_};
 ghost use Prim.Native.Nat.{_≤_};
 ghost use Rattle.word.specs.Word.{IsWidth, top};
-ghost use Rattle.rule.specs.Meaning.{meets, written};
+ghost use Rattle.rule.specs.Meaning.{meets, settled, written};
 use word::Width;
 
 // A form of 1 to 8, a sense (0 as written, 1 negated) and two constants.
@@ -42,8 +42,21 @@ impl Rule {
             5 => width.signed(self.c1) <= width.signed(x),
             6 => x == self.c1,
             7 => x & self.c1 == self.c2,
-            8 => self.c2 <= width.sub(x, self.c1),
+            8 => self.settled(width, x),
             _ => true,
         }
+    }
+
+    // Whether x is settled: the time since the power change is at least c2, and below half. A word just before the power
+    // change is half or more past it, and is not.
+    fn settled(self, width: Width, x: u64) -> bool
+        requires { ⌜ IsWidth (width .bits) ⌝ }
+        ensures { λ r. ⌜ r ≡ settled (width .bits) (self .c1) (self .c2) x ⌝ }
+    {
+        let since = width.sub(x, self.c1);
+        if since < self.c2 {
+            return false;
+        }
+        since < width.half()
     }
 }

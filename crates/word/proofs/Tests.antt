@@ -2,9 +2,10 @@
 -- Assumes nothing.
 use mathlib.Core.Path.{_≡_, refl, sym}
 use mathlib.Core.Bool.{Bool, true, false, _&&_, false≢true}
-use Prim.Native.Nat.{ℕ, _≤_}
-use borrow.Author.Tests.{le-leb, leb-true}
-use lib.Dec.{leb}
+use Prim.Native.Nat.{ℕ, _-_, _≤_, _<_}
+use native.Mathlib.Omega.{arith}
+use borrow.Author.Tests.{le-leb, leb-true, lt-ltb, ltb-true}
+use lib.Dec.{leb, ltb}
 
 pub same-test : (a b : Bool) → (a ≡ true → b ≡ true) → (b ≡ true → a ≡ true) → a ≡ b
 same-test true b f g = sym (f refl)
@@ -17,3 +18,8 @@ both-pass false b e = absurd (false≢true e)
 
 pub leb-same : (a b c d : ℕ) → (a ≤ b → c ≤ d) → (c ≤ d → a ≤ b) → leb a b ≡ leb c d
 leb-same a b c d f g = same-test (leb a b) (leb c d) (λ e. le-leb c d (f (leb-true a b e))) (λ e. le-leb a b (g (leb-true c d e)))
+
+pub ltb-leb : (a b : ℕ) → 0 < b → ltb a b ≡ leb a (b - 1)
+ltb-leb a b h =
+    same-test (ltb a b) (leb a (b - 1)) (λ e. le-leb a (b - 1) (omega (arith, ltb-true a b e)))
+    (λ e. lt-ltb a b (omega (arith, leb-true a (b - 1) e)))

@@ -61,17 +61,11 @@ span-requires-5 c κs = search needs
 span-requires-6 : tie.Need-span-requires-6
 span-requires-6 c κs = search needs
 
-add-requires : tie.Need-add-requires
-add-requires c κs = search needs
-
-sub-requires-7 : tie.Need-sub-requires-7
-sub-requires-7 c κs = search needs
+settled-requires : tie.Need-settled-requires
+settled-requires c κs = search needs
 
 span-requires-7 : tie.Need-span-requires-7
 span-requires-7 c κs = search needs
-
-span-requires-8 : tie.Need-span-requires-8
-span-requires-8 c κs = search needs
 
 returns : tie.Need-returns
 unfolding writtenBands
@@ -113,15 +107,12 @@ returns-6 c =
 
 returns-7 : tie.Need-returns-7
 unfolding writtenBands
-returns-7 c =
-    c .span7 .ensures
-    ∙ ap₂ span (c .before .before .add .ensures) (c .before .sub7 .ensures)
-    ∙ sym (at-band _ _ 8 (c .before .before .before .match .keys7))
+returns-7 c = c .settled .ensures ∙ sym (at-band _ _ 8 (c .before .match .keys7))
 
 returns-8 : tie.Need-returns-8
 returns-8 c =
     let d = c .before .match .rest in
-    c .span8 .ensures
+    c .span7 .ensures
     ∙ ap₂ span refl (c .before .before .top .ensures)
     ∙ sym
     (no-band _ _ (d .0 .0 .0 .0 .0 .0 .1) (d .0 .0 .0 .0 .0 .1) (d .0 .0 .0 .0 .1) (d .0 .0 .0 .1) (d .0 .0 .1) (d .0 .1) (d .1))
@@ -146,10 +137,8 @@ written-spec =
     sub-span
     span-requires-5
     span-requires-6
-    add-requires
-    sub-requires-7
+    settled-requires
     span-requires-7
-    span-requires-8
     returns
     returns-2
     returns-3

@@ -35,8 +35,8 @@ signed-requires-3 c κs = search needs
 signed-requires-4 : tie.Need-signed-requires-4
 signed-requires-4 c κs = search needs
 
-sub-requires : tie.Need-sub-requires
-sub-requires c κs = search needs
+settled-requires : tie.Need-settled-requires
+settled-requires c κs = search needs
 
 returns : tie.Need-returns
 unfolding rows
@@ -78,7 +78,7 @@ returns-7 c =
 returns-8 : tie.Need-returns-8
 unfolding rows
 returns-8 c =
-    ap (leb (c .before .before .before .args .self .c2)) (c .before .sub .ensures) ∙ sym (at-row _ _ _ 8 (c .before .before .match .keys8))
+    c .settled .ensures ∙ sym (at-row _ _ _ 8 (c .before .match .keys8))
 
 returns-9 : tie.Need-returns-9
 returns-9 c =
@@ -99,7 +99,7 @@ written-spec =
     signed-requires-2
     signed-requires-3
     signed-requires-4
-    sub-requires
+    settled-requires
     returns
     returns-2
     returns-3
