@@ -8,7 +8,7 @@ use Rattle.word.specs.Word.{top, minus}
 use Rattle.rule.specs.declared.Rule.{Rule}
 use Rattle.rule.proofs.Forms.{by-form}
 use Rattle.band.specs.declared.Band.{Band}
-use Rattle.band.specs.Band.{seamless, span, wheel, writtenBand, writtenBands}
+use Rattle.band.specs.Band.{bySense, otherSide, seamless, span, wheel, writtenBand, writtenBands}
 
 module _ (w : ℕ) (b : Band) where
   pub whole-band : minus w (b .to) (b .from) ≡ top w → seamless w b ≡ wheel (top w) (b .inside)
@@ -42,3 +42,8 @@ module _ (w : ℕ) (r : Rule) where
       (at-band 7)
       (λ e. absurd (d8 e))
       (λ n h e. past-bands (rw e h)) (r .form) refl
+
+-- a negated rule's side
+pub negated-side : (s : ℕ) (b : Band) → (s ≡ 0 → ⊥) → otherSide b ≡ bySense s b
+unfolding bySense
+negated-side s b d = rw (ne-eqb s 0 d)
