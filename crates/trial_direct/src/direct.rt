@@ -33,6 +33,17 @@ fn signed(n: u64, a: u64) -> i64
     a as i64 - n as i64
 }
 
+// "c2 <= (x - c1) and (x - c1) < half", of n words.
+fn settled(n: u64, c1: u64, c2: u64, x: u64) -> bool
+    requires { ⌜ (c1 < n) × (x < n) × (n ≤ 256) ⌝ }
+{
+    let since = (x + n - c1) % n;
+    if since < c2 {
+        return false;
+    }
+    since < n / 2
+}
+
 // Whether x meets the rule, by the table of forms.
 pub fn meets(rule: Rule, width: Width, x: u64) -> bool
     requires { ⌜ Narrow (width .bits) ⌝ }
@@ -60,7 +71,7 @@ fn written(rule: Rule, width: Width, x: u64) -> bool
         5 => signed(n, c1) <= signed(n, x),
         6 => x == c1,
         7 => x & c1 == c2,
-        _ => c2 <= (x + n - c1) % n,
+        _ => settled(n, c1, c2, x),
     }
 }
 
