@@ -10,7 +10,7 @@ use Rattle.word.specs.Word.{top}
 use Rattle.word.proofs.Tests.{both-pass}
 use Rattle.rule.specs.declared.Rule.{Rule}
 use Rattle.rule.specs.Meaning.{AllLawful, Lawful}
-use Rattle.accept.specs.Accept.{acceptable, badConstant, badSense, every, refusalOf, ruleGrounds}
+use Rattle.accept.specs.Accept.{acceptable, badConstant, badSense, every, refusalOf, ruleGrounds, strayBit}
 use Rattle.accept.proofs.Grounds.{none-given}
 
 both-fail : (a b : Bool) → (a || b) ≡ false → (a ≡ false) × (b ≡ false)
@@ -32,8 +32,9 @@ plain-sense r e f =
 words : (w : ℕ) (r : Rule) → badConstant w r ≡ false → (r .c1 ≤ top w) × (r .c2 ≤ top w)
 unfolding badConstant
 words w r e =
-    let s = both-fail (ltb (top w) (r .c1) || ltb (top w) (r .c2)) (not (eqb (r .c2) 0) && (leb 4 (r .form) && leb (r .form) 6)) e in
-    let p = both-fail (ltb (top w) (r .c1)) (ltb (top w) (r .c2)) (s .0) in
+    let s = both-fail (ltb (top w) (r .c1) || ltb (top w) (r .c2) || strayBit r) (not (eqb (r .c2) 0) && (leb 4 (r .form) && leb (r .form) 6)) e in
+    let t = both-fail (ltb (top w) (r .c1) || ltb (top w) (r .c2)) (strayBit r) (s .0) in
+    let p = both-fail (ltb (top w) (r .c1)) (ltb (top w) (r .c2)) (t .0) in
     (ltb-false _ _ (p .0), ltb-false _ _ (p .1))
 
 lawful : (w : ℕ) (r : Rule) → acceptable w r ≡ true → Lawful w r

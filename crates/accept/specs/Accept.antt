@@ -2,6 +2,7 @@
 use mathlib.Core.Bool.{Bool, true, not, _&&_, _||_}
 use mathlib.Core.List.{List, [], _∷_}
 use Prim.Native.Nat.{ℕ}
+use lib.Bits.{bitAnd}
 use lib.Dec.{eqb, leb, ltb}
 use Rattle.word.specs.Word.{top}
 use Rattle.rule.specs.declared.Rule.{Rule}
@@ -15,11 +16,16 @@ badForm r = not (leb 1 (r .form) && leb (r .form) 8)
 unfoldable pub badSense : Rule → Bool
 badSense r = ltb 1 (r .sense) || eqb (r .sense) 1 && eqb (r .form) 7
 
--- "a constant above the top word, or c2 not zero in forms 4, 5, 6"
+-- "Form 7 with a bit in c2 that c1 lacks": the bits that the two share are not all of c2
+unfoldable pub strayBit : Rule → Bool
+strayBit r = eqb (r .form) 7 && not (eqb (bitAnd (r .c2) (r .c1)) (r .c2))
+
+-- "a constant above the top word, or c2 not zero in forms 4, 5, 6", and since K4 a stray bit in form 7
 unfoldable pub badConstant : ℕ → Rule → Bool
 badConstant w r =
     ltb (top w) (r .c1)
     || ltb (top w) (r .c2)
+    || strayBit r
     || not (eqb (r .c2) 0) && (leb 4 (r .form) && leb (r .form) 6)
 
 -- the rows of the table that look at the rule alone

@@ -4,7 +4,7 @@ ghost use Prim.Native.Nat.{_≤_};
 ghost use lib.ListN.{drop, length, take};
 ghost use Rattle.word.specs.Word.{IsWidth};
 ghost use Rattle.rule.specs.Meaning.{RULES};
-ghost use Rattle.accept.specs.Accept.{acceptable, badConstant, badForm, badSense, every, isNoRule, refusalOf};
+ghost use Rattle.accept.specs.Accept.{acceptable, badConstant, badForm, badSense, every, isNoRule, refusalOf, strayBit};
 use rule::Rule;
 use word::Width;
 
@@ -81,7 +81,7 @@ fn bad_sense(rule: Rule) -> bool
     false
 }
 
-// A constant above the top word, or c2 not zero in forms 4, 5, 6.
+// A constant above the top word, a bit in c2 that c1 lacks in form 7, or c2 not zero in forms 4, 5, 6.
 fn bad_constant(rule: Rule, width: Width) -> bool
     requires { ⌜ IsWidth (width .bits) ⌝ }
     ensures { λ r. ⌜ r ≡ badConstant (width .bits) rule ⌝ }
@@ -96,6 +96,9 @@ fn bad_constant(rule: Rule, width: Width) -> bool
     if top < c2 {
         return true;
     }
+    if stray_bit(rule) {
+        return true;
+    }
     if c2 == 0 {
         return false;
     }
@@ -103,6 +106,19 @@ fn bad_constant(rule: Rule, width: Width) -> bool
         return false;
     }
     form <= 6
+}
+
+// A bit in c2 that c1 lacks, in form 7.
+fn stray_bit(rule: Rule) -> bool
+    ensures { λ r. ⌜ r ≡ strayBit rule ⌝ }
+{
+    let form = rule.form;
+    let c1 = rule.c1;
+    let c2 = rule.c2;
+    if form != 7 {
+        return false;
+    }
+    c2 & c1 != c2
 }
 
 fn is_no_rule(rule: Rule) -> bool

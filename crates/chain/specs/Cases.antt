@@ -40,8 +40,8 @@ cases =
     ∷ case 4 (rule 3 0 5 3 ∷ rule 7 0 3 3 ∷ []) (says (keeps 1 11 11) [])
     -- 8
     ∷ case 4 (rule 3 0 5 3 ∷ rule 7 0 12 4 ∷ []) (says (keeps 0 0 0) (link 0 10 0 ∷ link 11 15 BITS ∷ []))
-    -- 9
-    ∷ case 4 (rule 7 0 1 2 ∷ []) (says (keeps 0 0 0) (link 0 15 BITS ∷ []))
+    -- in the place of 9, which is a refusal since K4: "Two form 7 rules that contradict each other stay accepted."
+    ∷ case 4 (rule 7 0 1 1 ∷ rule 7 0 1 0 ∷ []) (says (keeps 0 0 0) (link 0 15 BITS ∷ []))
     -- 10
     ∷ case 4 (rule 6 0 9 0 ∷ rule 6 1 9 0 ∷ []) (says (keeps 0 0 0) (link 0 8 0 ∷ link 9 9 1 ∷ link 10 15 0 ∷ []))
     -- 11
