@@ -27,7 +27,8 @@ pub const CASE2: usize = 2;
 
 pub const CASE8: usize = 9;
 
-// Cases 1 to 12 at width 4, case 1 at width 1 before them. Case 3 stands as written and negated, and at width 32, where the
+// Cases 1 to 12 at width 4, case 1 at width 1 before them. In the place of case 9, a refusal, stand two rules of form 7 that
+// contradict each other. Case 3 stands as written and negated, and at width 32, where the
 // words are too many to be said, last.
 const TABLE: [Row; ROWS] = [
     Row(1, 0, 0x3, 2, 0, 1, 0),
@@ -40,7 +41,7 @@ const TABLE: [Row; ROWS] = [
     Row(4, 0x4030_50d0, 0xe00f, 2, 0, 15, 0),
     Row(4, 0x3053_7033, 0x0800, 1, 11, 11, 0),
     Row(4, 0x3053_70c4, 0, 0, 0, 0, 0x0a00_bfff),
-    Row(4, 0x7012, 0, 0, 0, 0, 0x0fff),
+    Row(4, 0x7011_7010, 0, 0, 0, 0, 0x0fff),
     Row(4, 0x6090_6190, 0, 0, 0, 0, 0x0800_9901_af00),
     Row(4, 0x3002_3002_2030, 0, 0, 0, 0, 0x0202_3f00),
     Row(4, 0x80e3, 0x003e, 2, 1, 5, 0),

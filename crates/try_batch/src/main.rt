@@ -2,7 +2,7 @@
 // places that the paper gives and against the calls made one by one.
 //
 // The counts: for each case the number and the place, the 6 numbers of an answer and the 771 of a buffer. widths: 3 widths on
-// 3 lists. rules: 4 rules that are refused, at 5 places of 5. lengths: 3 lengths of 2 lists, lent enough and one number
+// 3 lists. rules: 7 rules that are refused and one that is not, at 5 places of 5. lengths: 3 lengths of 2 lists, lent enough and one number
 // less, and a 65th rule on both. known: one case, each of its numbers with a wrong expectation.
 mod case;
 
@@ -41,12 +41,17 @@ fn rules() -> Tally {
     tally
 }
 
-// A rule that is refused with 3, one with 4, and two with 5.
+// A rule that is refused with 3, one with 4, and two with 5; a stray bit of form 7, the lowest, a middle one and the top bit;
+// and a value that is its mask.
 fn each(place: usize) -> Tally {
     refused(place, rule(9, 0, 0, 0), 3)
         .plus(refused(place, rule(7, 1, 0, 0), 4))
         .plus(refused(place, rule(1, 0, 16, 0), 5))
         .plus(refused(place, rule(6, 0, 0, 1), 5))
+        .plus(refused(place, rule(7, 0, 6, 1), 5))
+        .plus(refused(place, rule(7, 0, 1, 2), 5))
+        .plus(refused(place, rule(7, 0, 7, 8), 5))
+        .plus(case::lent_enough(4, with(alike(), place, rule(7, 0, 6, 6)), 5, 0, 5))
 }
 
 fn refused(place: usize, rule: Rule, number: u64) -> Tally {

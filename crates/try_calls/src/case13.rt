@@ -20,6 +20,7 @@ pub fn all() -> Tally {
     widths(Sheet::blank())
         .plus(widths(opened(4)))
         .plus(rules(opened(4)))
+        .plus(bit_rules(opened(4)))
         .plus(sixty_five())
         .plus(asking())
         .plus(marks())
@@ -38,6 +39,14 @@ fn rules(sheet: Sheet) -> Tally {
         .plus(Tally::one(refused(sheet.add(rule(1, 0, 0, 16)), 5, sheet)))
         .plus(Tally::one(accepted(sheet.add(rule(1, 0, 15, 0)))))
         .plus(Tally::one(accepted(sheet.add(rule(1, 0, 0, 15)))))
+}
+
+// A bit of form 7 outside its mask, the lowest, a middle one (case 9) and the top bit; and a value that is its mask.
+fn bit_rules(sheet: Sheet) -> Tally {
+    Tally::one(refused(sheet.add(rule(7, 0, 6, 1)), 5, sheet))
+        .plus(Tally::one(refused(sheet.add(rule(7, 0, 1, 2)), 5, sheet)))
+        .plus(Tally::one(refused(sheet.add(rule(7, 0, 7, 8)), 5, sheet)))
+        .plus(Tally::one(accepted(sheet.add(rule(7, 0, 6, 6)))))
 }
 
 // The 64th rule stands after a mark, so that a step back strikes it alone.

@@ -85,11 +85,12 @@ fn form(sheet: Sheet) -> Tally {
 
 // 4 before 5.
 fn sense(sheet: Sheet) -> Tally {
-    adds(sheet, rule(7, 1, 16, 0), 4)
+    adds(sheet, rule(7, 1, 16, 0), 4).plus(adds(sheet, rule(7, 1, 6, 1), 4))
 }
 
 // 3, 4 and 5 before 6.
 fn places(full: Sheet) -> Tally {
     adds(full, rule(9, 0, 0, 0), 3).plus(adds(full, rule(1, 2, 0, 0), 4))
         .plus(adds(full, rule(6, 0, 0, 1), 5))
+        .plus(adds(full, rule(7, 0, 6, 1), 5))
 }
