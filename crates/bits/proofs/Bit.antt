@@ -37,6 +37,9 @@ bit-ext a b = same (max a b) a b (omega arith) (omega arith)
 pub and-twice : (x m : ℕ) → bitAnd (bitAnd x m) m ≡ bitAnd x m
 and-twice x m = bit-ext _ _ (λ k. simp bit-and (omega arith))
 
+pub or-twice : (x m : ℕ) → bitOr (bitOr x m) m ≡ bitOr x m
+or-twice x m = bit-ext _ _ (λ k. simp bit-or (omega arith))
+
 pub and-swap : (x m c : ℕ) → bitAnd (bitAnd x m) c ≡ bitAnd (bitAnd x c) m
 and-swap x m c = bit-ext _ _ (λ k. simp bit-and (omega arith))
 

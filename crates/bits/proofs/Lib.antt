@@ -1,5 +1,6 @@
 pub mod Bit
-pub mod Block
 pub mod Joined
+pub mod Masks
+pub mod Next
 pub mod Turn
 pub mod With

@@ -1,38 +1,17 @@
 -- The bits on the wheel of words turned round, x to the top word less x. A word and its turn have each bit of a mask once
 -- between them, so the turned bits are had by the turned words. Assumes nothing.
-use mathlib.Core.Path.{_≡_, refl, ap₂, _∙_, subst}
-use Prim.Native.Nat.{ℕ, zero, suc, _+_, _-_, _*_, _/_, _%_, _≤_, min}
-use native.Mathlib.Nat.{two-pow-succ}
+use mathlib.Core.Path.{_≡_, refl, subst}
+use Prim.Native.Nat.{ℕ, _-_, _≤_}
 use native.Mathlib.Omega.{arith}
 use borrow.Author.Tests.{eqb-true, eq-eqb}
-use lib.Bits.{bitAnd, bitXor, and-comm, and-step, and-le-r, xor-add-and}
+use lib.Bits.{bitAnd, bitXor, and-comm, and-le-r, xor-add-and}
 use Rattle.word.specs.Word.{top}
 use Rattle.word.proofs.Tests.{same-test}
-use Rattle.word.proofs.Widths.{top-suc}
 use Rattle.bits.specs.declared.Fixed.{Fixed}
 use Rattle.bits.specs.declared.Fixed.the-variants.{Bits, Clash}
 use Rattle.bits.specs.Fixed.{hasBits, turnedBits, Tidy, Within}
 use Rattle.bits.proofs.Bit.{and-twice}
-
--- the bits of a mask, shared out between a word and its turn
-shared : (w x m : ℕ) → x ≤ top w → m ≤ top w → bitAnd x m + bitAnd (top w - x) m ≡ m
-shared zero x m h l = omega (arith, top-suc 0, and-le-r x m, and-le-r (top 0 - x) m)
-shared (suc w) x m h l =
-    omega (
-      arith,
-      shared w (x / 2) (m / 2) (omega (arith, double)) (omega (arith, double)),
-      and-step x m,
-      and-step (top (suc w) - x) m ∙ ap₂ (λ (a b : ℕ). bitAnd a (m / 2) * 2 + min b (m % 2)) half odd,
-    )
-  where
-    double : top (suc w) ≡ top w + top w + 1
-    double = omega (arith, top-suc w, top-suc (suc w), two-pow-succ w)
-
-    half : (top (suc w) - x) / 2 ≡ top w - x / 2
-    half = omega (arith, double)
-
-    odd : (top (suc w) - x) % 2 ≡ 1 - x % 2
-    odd = omega (arith, double)
+use Rattle.bits.proofs.Masks.{shared}
 
 pub turned-bits : (w : ℕ) (f : Fixed) (x : ℕ) → Tidy f → Within w f → x ≤ top w → hasBits (turnedBits f) x ≡ hasBits f (top w - x)
 unfolding hasBits turnedBits Tidy Within

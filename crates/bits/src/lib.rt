@@ -65,21 +65,25 @@ impl Fixed {
         let Fixed::Bits { mask, value } = self else {
             return Found::Nothing;
         };
-        if p & mask == value {
+        // to set the mask's bits adds this gap to every word that has the bits: sought is the first number that has the whole
+        // mask from p and the gap on
+        let gap = mask - value;
+        if u64::MAX - gap < p {
+            return Found::Nothing;
+        }
+        let from = p + gap;
+        let missing = mask & !from;
+        if missing == 0 {
             return Found::At(p);
         }
-        let top = width.top();
-        // with larger and larger blocks of 2^k words: the block after p's own, where it has a word with the bits
-        for k in 0..width.bits {
-            let q = p >> k;
-            if q < top >> k {
-                let up = q + 1;
-                if up & (mask >> k) == value >> k {
-                    return Found::At((up << k) + value % (1 << k));
-                }
-            }
+        // above the highest missing bit it is as before, and from there down it has the mask's bits alone
+        let low = u64::MAX >> u64::leading_zeros(missing);
+        let x = (from & !low | mask) - gap;
+        // the mask may reach past the top word
+        if width.top() < x {
+            return Found::Nothing;
         }
-        Found::Nothing
+        Found::At(x)
     }
 
     // The same bits on the wheel of words turned round, where x stands at top - x.
