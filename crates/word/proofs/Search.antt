@@ -9,7 +9,7 @@ use native.Mathlib.Nat.{le-refl}
 use native.Mathlib.Decide.{decLt}
 use native.Mathlib.Omega.{arith}
 use Rattle.word.specs.declared.Found.the-variants.{At, Nothing}
-use Rattle.word.specs.Search.{first, climb, count, sink}
+use Rattle.word.specs.Search.{first, last, climb, count, sink}
 
 module _ (f : ℕ → Bool) where
   pub first-at : (k p x : ℕ) → p ≤ x → x < p + k → f x ≡ true → ((y : ℕ) → p ≤ y → y < x → f y ≡ false)
@@ -26,6 +26,15 @@ module _ (f : ℕ → Bool) where
   unfolding first
   first-none zero p n = refl
   first-none (suc k) p n = rw (n p (omega arith) (omega arith), first) (first-none k (suc p) (λ y a b. n y (omega arith) (omega arith)))
+
+  pub last-at : (k x : ℕ) → x < k → f x ≡ true → ((y : ℕ) → x < y → y < k → f y ≡ false) → last f k ≡ At x
+  unfolding last
+  last-at zero x h t n = absurd (omega arith)
+  last-at (suc k) x h t n = go (decLt x k) (λ q. last-at k x q t (λ y a b. n y a (omega arith)))
+    where
+      go : Dec (x < k) → (x < k → last f k ≡ At x) → last f (suc k) ≡ At x
+      go (yes q) later = rw (n k q (omega arith), last) (later q)
+      go (no q) later = let e : k ≡ x = omega arith in rw (ap f e ∙ t, last) (ap At e)
 
   pub climb-to : (k p q : ℕ) → p ≤ q → q ≤ p + k → ((y : ℕ) → p < y → y ≤ q → f y ≡ false) → (q ≡ p + k) ⊎ (f (suc q) ≡ true)
       → climb f k p ≡ q

@@ -1,0 +1,117 @@
+-- The facts about the four operations, once over the width: AND, OR and XOR work on each bit by itself, AND and OR are each
+-- other's turned version, XOR is its own with one word turned, NOT is the turn itself, and NOT and XOR undo themselves. Turned
+-- round, a word and its turn share the bits of any other word between them; the rest is sums. Assumes nothing.
+use mathlib.Core.Path.{_≡_, refl, ap, ap₂, _∙_}
+use Prim.Native.Nat.{ℕ, zero, suc, _+_, _-_, _*_, _/_, _%_, _^_, _≤_, _<_, min}
+use native.Mathlib.Nat.{div-add-mod', mod-lt, two-pow-succ}
+use native.Mathlib.Omega.{arith}
+use lib.Arith.{bin-ind}
+use lib.Bits.{
+  and-block,
+  and-comm,
+  and-le-l,
+  and-le-r,
+  and-lt,
+  and-step,
+  bitAnd,
+  bitOr,
+  bitXor,
+  differ,
+  or-add-and,
+  or-block,
+  or-lt,
+  xor-add-and,
+  xor-block,
+  xor-comm,
+  xor-lt,
+  xor-mod,
+  xor-self,
+  xor-shr,
+  xor-step,
+}
+use Rattle.word.specs.Word.{top}
+use Rattle.word.proofs.Widths.{top-suc}
+use Rattle.span.specs.declared.steps.Pair.{Pair}
+use Rattle.span.specs.declared.steps.Pair.the-variants.{And, Or, Xor}
+use Rattle.span.specs.Step.{both}
+
+-- the operation works on the k low bits and on those above apart
+pub record Bitwise (f : ℕ → ℕ → ℕ) : Type 0 where
+  pub block : (k a b r s : ℕ) → r < 2 ^ k → s < 2 ^ k → f (a * 2 ^ k + r) (b * 2 ^ k + s) ≡ f a b * 2 ^ k + f r s
+  pub bound : (k a b : ℕ) → a < 2 ^ k → b < 2 ^ k → f a b < 2 ^ k
+
+pub and-bitwise : Bitwise bitAnd
+and-bitwise = record { block = and-block; bound = and-lt }
+
+pub or-bitwise : Bitwise bitOr
+or-bitwise = record { block = or-block; bound = or-lt }
+
+pub xor-bitwise : Bitwise bitXor
+xor-bitwise = record { block = xor-block; bound = xor-lt }
+
+pub pair-bitwise : (p : Pair) → Bitwise (both p)
+unfolding both
+pair-bitwise And = and-bitwise
+pair-bitwise Or = or-bitwise
+pair-bitwise Xor = xor-bitwise
+
+-- the bits of b, shared out between a and its turn
+shared : (w a b : ℕ) → a ≤ top w → b ≤ top w → bitAnd a b + bitAnd (top w - a) b ≡ b
+shared zero a b h l = omega (arith, top-suc 0, and-le-r a b, and-le-r (top 0 - a) b)
+shared (suc w) a b h l =
+    omega (
+      arith,
+      shared w (a / 2) (b / 2) (omega (arith, double)) (omega (arith, double)),
+      and-step a b,
+      and-step (top (suc w) - a) b ∙ ap₂ (λ (p q : ℕ). bitAnd p (b / 2) * 2 + min q (b % 2)) half odd,
+    )
+  where
+    double : top (suc w) ≡ top w + top w + 1
+    double = omega (arith, top-suc w, top-suc (suc w), two-pow-succ w)
+
+    half : (top (suc w) - a) / 2 ≡ top w - a / 2
+    half = omega (arith, double)
+
+    odd : (top (suc w) - a) % 2 ≡ 1 - a % 2
+    odd = omega (arith, double)
+
+module _ (w a b : ℕ) (ha : a ≤ top w) (hb : b ≤ top w) where
+  shares : (bitAnd a b + bitAnd (top w - a) b ≡ b) × (bitAnd (top w - a) b + bitAnd (top w - a) (top w - b) ≡ top w - a)
+  shares = (
+    shared w a b ha hb,
+    omega (arith, shared w b (top w - a) hb (omega arith), and-comm (top w - a) b, and-comm (top w - a) (top w - b)),
+  )
+
+  pub and-turned : bitAnd a b + bitOr (top w - a) (top w - b) ≡ top w
+  and-turned = omega (arith, shares, or-add-and (top w - a) (top w - b))
+
+  pub or-turned : bitOr a b + bitAnd (top w - a) (top w - b) ≡ top w
+  or-turned = omega (arith, shares, or-add-and a b)
+
+  pub xor-turned : bitXor a b + bitXor (top w - a) b ≡ top w
+  xor-turned = omega (arith, shares, xor-add-and a b, xor-add-and (top w - a) b)
+
+pub not-turns : (w a : ℕ) → a ≤ top w → bitXor a (top w) ≡ top w - a
+not-turns w a h =
+    omega (arith, shared w a (top w) h (omega arith), and-le-l a (top w), and-le-l (top w - a) (top w), xor-add-and a (top w))
+
+digit-back : (p q : ℕ) → p < 2 → q < 2 → differ (bitXor p q) q ≡ p
+digit-back zero zero h l = refl
+digit-back zero (suc zero) h l = refl
+digit-back (suc zero) zero h l = refl
+digit-back (suc zero) (suc zero) h l = refl
+digit-back zero (suc (suc q)) h l = absurd (omega arith)
+digit-back (suc zero) (suc (suc q)) h l = absurd (omega arith)
+digit-back (suc (suc p)) q h l = absurd (omega arith)
+
+pub xor-back : (a b : ℕ) → bitXor (bitXor a b) b ≡ a
+xor-back =
+    bin-ind (λ (n : ℕ). (b : ℕ) → bitXor (bitXor n b) b ≡ n) xor-self
+    (λ n ih b.
+    xor-step (bitXor n b) b
+    ∙ ap₂ (λ (p q : ℕ). bitXor p (b / 2) * 2 + differ q (b % 2)) (xor-shr n b 1) (xor-mod n b 1)
+    ∙ ap₂ (λ (p q : ℕ). p * 2 + q) (ih (b / 2)) (digit-back (n % 2) (b % 2) (mod-lt n (omega arith)) (mod-lt b (omega arith)))
+    ∙ div-add-mod' n 2)
+
+pub xor-back-left : (a b : ℕ) → bitXor (bitXor a b) a ≡ b
+xor-back-left a b = ap (λ (n : ℕ). bitXor n a) (xor-comm a b) ∙ xor-back b a

@@ -1,0 +1,4 @@
+pub mod Interval
+pub mod Join
+pub mod Span
+pub mod Step
