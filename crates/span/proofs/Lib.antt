@@ -1,7 +1,9 @@
 pub mod Ends
+pub mod Exact
 pub mod Halves
 pub mod Joining
 pub mod Ops
+pub mod Outcome
 pub mod Searched
 pub mod Settled
 pub mod Turn

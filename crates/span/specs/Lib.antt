@@ -1,3 +1,4 @@
+pub mod Demand
 pub mod Interval
 pub mod Join
 pub mod Span
