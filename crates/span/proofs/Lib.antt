@@ -8,3 +8,4 @@ pub mod Searched
 pub mod Settled
 pub mod Turn
 pub mod Way
+pub mod Worked
