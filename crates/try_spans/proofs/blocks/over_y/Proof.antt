@@ -1,0 +1,70 @@
+-- `blocks::over_y` is safe and ends. The measure is the blocks left. Assumes nothing.
+use Prim.Native.Nat.{_-_, _≤_}
+use borrow.Author.Needs.{needs}
+use Rattle.try_spans.proofs.blocks.over_y.Statement.{statement}
+use Rattle.try_spans.proofs.blocks.over_y.Tie as tie
+
+abbrev Inv-loop : tie.InvT-loop
+Inv-loop op top p ones y wide₀ q₀ counter₀ wide q counter = counter ≤ 128
+
+abbrev μ-loop : tie.MeasureT-loop
+μ-loop op top p ones y wide₀ q₀ counter₀ wide q counter = 128 - counter
+
+loop-holds : tie.Need-loop-holds Inv-loop μ-loop
+loop-holds c = search needs
+
+free-requires : tie.Need-free-requires Inv-loop μ-loop
+free-requires c κs = search needs
+
+least-requires : tie.Need-least-requires Inv-loop μ-loop
+least-requires c κs = search needs
+
+widened-requires : tie.Need-widened-requires Inv-loop μ-loop
+widened-requires c κs = search needs
+
+most-requires : tie.Need-most-requires Inv-loop μ-loop
+most-requires c κs = search needs
+
+widened-requires-2 : tie.Need-widened-requires-2 Inv-loop μ-loop
+widened-requires-2 c κs = search needs
+
+wrapping-sub-u64-requires : tie.Need-wrapping-sub-u64-requires Inv-loop μ-loop
+wrapping-sub-u64-requires c κs = search needs
+
+returns : tie.Need-returns Inv-loop μ-loop
+returns c = search needs
+
+wrapping-add-u64-requires : tie.Need-wrapping-add-u64-requires Inv-loop μ-loop
+wrapping-add-u64-requires c κs = search needs
+
+add-counter : tie.Need-add-counter Inv-loop μ-loop
+add-counter c = search needs
+
+loop-less : tie.Need-loop-less Inv-loop μ-loop
+loop-less c = search needs
+
+loop-again : tie.Need-loop-again Inv-loop μ-loop
+loop-again c = search needs
+
+returns-2 : tie.Need-returns-2 Inv-loop μ-loop
+returns-2 c = search needs
+
+pub over-y-spec : {M : Type 1} → statement M
+over-y-spec =
+    tie.close
+    (tie.spec
+    Inv-loop
+    μ-loop
+    loop-holds
+    free-requires
+    least-requires
+    widened-requires
+    most-requires
+    widened-requires-2
+    wrapping-sub-u64-requires
+    returns
+    wrapping-add-u64-requires
+    add-counter
+    loop-less
+    loop-again
+    returns-2)
