@@ -2,15 +2,12 @@
 // what is refused. How many comparisons there are follows from how many intervals there are: n words have n(n + 1)/2, so widths 1
 // to 4 have 3, 10, 36 and 136, which is 19,901 pairs, and widths 1 to 3 have 47,683 triples; each is tried for four operations.
 // Seven corners have 28 intervals, which is 784 pairs, at four widths, with three intervals of h and four operations.
-mod blocks;
-mod expected;
-mod made;
-mod words;
-
-use expected::Way;
 use span::Interval;
 use span::Op;
 use trial_direct::tally::Tally;
+use trial_spans::expected;
+use trial_spans::expected::Way;
+use trial_spans::made;
 
 fn main() {
     pairs_over_widths(Way::Words).print(b"pairs, word by word:");

@@ -1,8 +1,8 @@
 -- `words::over_y` is safe and ends. The measure is the words left. Assumes nothing.
 use Prim.Native.Nat.{_-_, _≤_}
 use borrow.Author.Needs.{needs}
-use Rattle.try_spans.proofs.words.over_y.Statement.{statement}
-use Rattle.try_spans.proofs.words.over_y.Tie as tie
+use Rattle.trial_spans.proofs.words.over_y.Statement.{statement}
+use Rattle.trial_spans.proofs.words.over_y.Tie as tie
 
 abbrev Inv-loop : tie.InvT-loop
 Inv-loop op top a wide₀ low high b₀ wide b = low ≤ b

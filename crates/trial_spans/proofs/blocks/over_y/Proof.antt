@@ -1,8 +1,8 @@
 -- `blocks::over_y` is safe and ends. The measure is the blocks left. Assumes nothing.
 use Prim.Native.Nat.{_-_, _≤_}
 use borrow.Author.Needs.{needs}
-use Rattle.try_spans.proofs.blocks.over_y.Statement.{statement}
-use Rattle.try_spans.proofs.blocks.over_y.Tie as tie
+use Rattle.trial_spans.proofs.blocks.over_y.Statement.{statement}
+use Rattle.trial_spans.proofs.blocks.over_y.Tie as tie
 
 abbrev Inv-loop : tie.InvT-loop
 Inv-loop op top p ones y wide₀ q₀ counter₀ wide q counter = counter ≤ 128

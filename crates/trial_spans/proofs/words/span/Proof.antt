@@ -1,8 +1,8 @@
 -- `words::span` is safe and ends. The measure is the words left. Assumes nothing.
 use Prim.Native.Nat.{_-_, _≤_}
 use borrow.Author.Needs.{needs}
-use Rattle.try_spans.proofs.words.span.Statement.{statement}
-use Rattle.try_spans.proofs.words.span.Tie as tie
+use Rattle.trial_spans.proofs.words.span.Statement.{statement}
+use Rattle.trial_spans.proofs.words.span.Tie as tie
 
 abbrev Inv-loop : tie.InvT-loop
 Inv-loop op top y s₀ low high a₀ s a = low ≤ a

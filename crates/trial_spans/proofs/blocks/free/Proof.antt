@@ -1,8 +1,8 @@
 -- `blocks::free` is safe and ends. The measure is the bits left. Assumes nothing.
 use Prim.Native.Nat.{_-_, _≤_}
 use borrow.Author.Needs.{needs}
-use Rattle.try_spans.proofs.blocks.free.Statement.{statement}
-use Rattle.try_spans.proofs.blocks.free.Tie as tie
+use Rattle.trial_spans.proofs.blocks.free.Statement.{statement}
+use Rattle.trial_spans.proofs.blocks.free.Tie as tie
 
 abbrev Inv-loop : tie.InvT-loop
 Inv-loop p high ones₀ k₀ ones k = k ≤ 64

@@ -1,8 +1,8 @@
 -- `blocks::span` is safe and ends. The measure is the blocks left. Assumes nothing.
 use Prim.Native.Nat.{_-_, _≤_}
 use borrow.Author.Needs.{needs}
-use Rattle.try_spans.proofs.blocks.span.Statement.{statement}
-use Rattle.try_spans.proofs.blocks.span.Tie as tie
+use Rattle.trial_spans.proofs.blocks.span.Statement.{statement}
+use Rattle.trial_spans.proofs.blocks.span.Tie as tie
 
 abbrev Inv-loop : tie.InvT-loop
 Inv-loop op top x y s₀ p₀ counter₀ s p counter = counter ≤ 128
