@@ -2,35 +2,15 @@
 -- itself. Each law goes by halves, or by a block of low bits and the rest. Assumes nothing.
 use mathlib.Core.Path.{_≡_, sym, ap, ap₂, _∙_, subst}
 use Prim.Native.Nat.{ℕ, zero, suc, _+_, _-_, _*_, _/_, _%_, _^_, _≤_, _<_, min}
-use native.Mathlib.Nat.{add-zero, two-pow-succ, mul-le-mul-right, mod-lt, mod-eq-of-lt, div-eq-of-lt}
+use native.Mathlib.Nat.{add-zero, mul-le-mul-right, mod-lt, mod-eq-of-lt, div-eq-of-lt}
 use native.Mathlib.Omega.{arith}
 use lib.Arith.{half-le}
 use lib.Bits.{bitAnd, bitOr, and-comm, and-step, and-le-l, and-le-r, and-shr, and-mod, and-zero-l}
 use lib.Bits.{or-zero-l, or-zero-r, or-lt, or-shr, or-mod, or-block, or-add-and, or-disjoint}
 use lib.Pow.{pow-pos, split, shr-mono}
 use Rattle.word.specs.Word.{top}
-use Rattle.word.proofs.Widths.{top-suc}
+use Rattle.word.proofs.Shared.{shared}
 use Rattle.bits.proofs.Bit.{and-swap, and-both, or-twice}
-
--- the bits of a mask, shared out between a word and its turn
-pub shared : (w x m : ℕ) → x ≤ top w → m ≤ top w → bitAnd x m + bitAnd (top w - x) m ≡ m
-shared zero x m h l = omega (arith, top-suc 0, and-le-r x m, and-le-r (top 0 - x) m)
-shared (suc w) x m h l =
-    omega (
-      arith,
-      shared w (x / 2) (m / 2) (omega (arith, double)) (omega (arith, double)),
-      and-step x m,
-      and-step (top (suc w) - x) m ∙ ap₂ (λ (a b : ℕ). bitAnd a (m / 2) * 2 + min b (m % 2)) half odd,
-    )
-  where
-    double : top (suc w) ≡ top w + top w + 1
-    double = omega (arith, top-suc w, top-suc (suc w), two-pow-succ w)
-
-    half : (top (suc w) - x) / 2 ≡ top w - x / 2
-    half = omega (arith, double)
-
-    odd : (top (suc w) - x) % 2 ≡ 1 - x % 2
-    odd = omega (arith, double)
 
 -- what a lacks of the mask
 abbrev pub lack : (a m : ℕ) → ℕ

@@ -7,11 +7,11 @@ use borrow.Author.Tests.{eqb-true, eq-eqb}
 use lib.Bits.{bitAnd, bitXor, and-comm, and-le-r, xor-add-and}
 use Rattle.word.specs.Word.{top}
 use Rattle.word.proofs.Tests.{same-test}
+use Rattle.word.proofs.Shared.{shared}
 use Rattle.bits.specs.declared.Fixed.{Fixed}
 use Rattle.bits.specs.declared.Fixed.the-variants.{Bits, Clash}
 use Rattle.bits.specs.Fixed.{hasBits, turnedBits, Tidy, Within}
 use Rattle.bits.proofs.Bit.{and-twice}
-use Rattle.bits.proofs.Masks.{shared}
 
 pub turned-bits : (w : ℕ) (f : Fixed) (x : ℕ) → Tidy f → Within w f → x ≤ top w → hasBits (turnedBits f) x ≡ hasBits f (top w - x)
 unfolding hasBits turnedBits Tidy Within

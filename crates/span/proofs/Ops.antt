@@ -2,17 +2,15 @@
 -- other's turned version, XOR is its own with one word turned, NOT is the turn itself, and NOT and XOR undo themselves. Turned
 -- round, a word and its turn share the bits of any other word between them; the rest is sums. Assumes nothing.
 use mathlib.Core.Path.{_≡_, refl, ap, ap₂, _∙_}
-use Prim.Native.Nat.{ℕ, zero, suc, _+_, _-_, _*_, _/_, _%_, _^_, _≤_, _<_, min}
-use native.Mathlib.Nat.{div-add-mod', mod-lt, two-pow-succ}
+use Prim.Native.Nat.{ℕ, zero, suc, _+_, _-_, _*_, _/_, _%_, _^_, _≤_, _<_}
+use native.Mathlib.Nat.{div-add-mod', mod-lt}
 use native.Mathlib.Omega.{arith}
 use lib.Arith.{bin-ind}
 use lib.Bits.{
   and-block,
   and-comm,
   and-le-l,
-  and-le-r,
   and-lt,
-  and-step,
   bitAnd,
   bitOr,
   bitXor,
@@ -30,7 +28,7 @@ use lib.Bits.{
   xor-step,
 }
 use Rattle.word.specs.Word.{top}
-use Rattle.word.proofs.Widths.{top-suc}
+use Rattle.word.proofs.Shared.{shared}
 use Rattle.span.specs.declared.steps.Pair.{Pair}
 use Rattle.span.specs.declared.steps.Pair.the-variants.{And, Or, Xor}
 use Rattle.span.specs.Step.{both}
@@ -54,26 +52,6 @@ unfolding both
 pair-bitwise And = and-bitwise
 pair-bitwise Or = or-bitwise
 pair-bitwise Xor = xor-bitwise
-
--- the bits of b, shared out between a and its turn
-shared : (w a b : ℕ) → a ≤ top w → b ≤ top w → bitAnd a b + bitAnd (top w - a) b ≡ b
-shared zero a b h l = omega (arith, top-suc 0, and-le-r a b, and-le-r (top 0 - a) b)
-shared (suc w) a b h l =
-    omega (
-      arith,
-      shared w (a / 2) (b / 2) (omega (arith, double)) (omega (arith, double)),
-      and-step a b,
-      and-step (top (suc w) - a) b ∙ ap₂ (λ (p q : ℕ). bitAnd p (b / 2) * 2 + min q (b % 2)) half odd,
-    )
-  where
-    double : top (suc w) ≡ top w + top w + 1
-    double = omega (arith, top-suc w, top-suc (suc w), two-pow-succ w)
-
-    half : (top (suc w) - a) / 2 ≡ top w - a / 2
-    half = omega (arith, double)
-
-    odd : (top (suc w) - a) % 2 ≡ 1 - a % 2
-    odd = omega (arith, double)
 
 module _ (w a b : ℕ) (ha : a ≤ top w) (hb : b ≤ top w) where
   shares : (bitAnd a b + bitAnd (top w - a) b ≡ b) × (bitAnd (top w - a) b + bitAnd (top w - a) (top w - b) ≡ top w - a)

@@ -3,6 +3,7 @@ pub mod Count
 pub mod Cut
 pub mod Search
 pub mod Searched
+pub mod Shared
 pub mod Signed
 pub mod Slips
 pub mod Sums
