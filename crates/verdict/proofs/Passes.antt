@@ -74,7 +74,7 @@ module _ (w : ℕ) (width : 1 ≤ w) where
   joint (r ∷ rs) l x h =
       shared r (l .0) x h (allHold (map (bandOf w) rs) x) (meets7 w rs x) ∙ ap (λ (b : Bool). meets w r x && b) (joint rs (l .1) x h)
 
-  passes-fits : (rs : List Rule) → AllLawful w rs → (x : ℕ) → x ≤ top w → passes (map (bandOf w) rs) (fixedBits rs) x ≡ fits w rs x
+  pub passes-fits : (rs : List Rule) → AllLawful w rs → (x : ℕ) → x ≤ top w → passes (map (bandOf w) rs) (fixedBits rs) x ≡ fits w rs x
   unfolding passes
   passes-fits rs l x h = ap (λ (b : Bool). allHold (map (bandOf w) rs) x && b) (fixed-bits w rs x l) ∙ joint rs l x h
 
