@@ -1,0 +1,5 @@
+pub mod Accepted
+pub mod Every
+pub mod Going
+pub mod Stepping
+pub mod Unchanged

@@ -1,0 +1,98 @@
+-- `refusal` meets its contract: each way out is a row of the definition. Assumes nothing.
+use mathlib.Core.Path.{_≡_, sym, ap, _∙_}
+use mathlib.Core.Bool.{true}
+use Prim.Native.Nat.{ℕ}
+use borrow.Author.Needs.{needs}
+use borrow.Author.Tests.{not-false, not-true}
+use Rattle.word.specs.Word.{top}
+use Rattle.span.specs.Join.{isWidth, within}
+use Rattle.net.specs.Net.{every, fits, refusal, wordAt}
+use Rattle.net.proofs.Accepted.{count-fits, width-fits}
+use Rattle.net.proofs.Net.refusal.Statement.{statement}
+use Rattle.net.proofs.Net.refusal.Tie as tie
+
+-- past the refusals with 16 and 2
+module _ (c : tie.Else2) where
+  fit : let net = c .before .before .before .before .before .before .args .self in fits (net .count) (net .joins) (net .joined) ≡ true
+  fit = sym (c .before .before .before .fits2 .ensures) ∙ not-false _ (c .before .if1 .left)
+
+  wide : isWidth (c .before .before .before .before .before .before .args .self .width) ≡ true
+  wide = sym (c .before .before .is-width .ensures) ∙ not-false _ (c .if2 .left)
+
+-- what was tested of the bounds
+inside : (c : tie.After-all-within) →
+    let net = c .before .before .before .before .before .before .before .before .args .self in
+    every (net .count) (λ k. within (top (net .width)) (wordAt (net .words) k)) ≡ c .all-within .result
+inside c =
+    let net = c .before .before .before .before .before .before .before .before .args .self in
+    ap (λ (t : ℕ). every (net .count) (λ k. within t (wordAt (net .words) k))) (sym (c .before .top .ensures)) ∙ sym (c .all-within .ensures)
+
+fits-requires : tie.Need-fits-requires
+fits-requires c κs = search needs
+
+is-width-requires : tie.Need-is-width-requires
+is-width-requires c κs = search needs
+
+returns : tie.Need-returns
+unfolding refusal
+returns c = simp (sym (c .before .before .fits2 .ensures) ∙ not-true _ (c .if1 .taken))
+
+returns-2 : tie.Need-returns-2
+unfolding refusal
+returns-2 c =
+    let n = c .before .before in
+    simp (sym (n .before .fits2 .ensures) ∙ not-false _ (c .before .if1 .left), sym (n .is-width .ensures) ∙ not-true _ (c .if2 .taken))
+
+top-requires : tie.Need-top-requires
+top-requires c κs = width-fits (wide c)
+
+all-within-requires : tie.Need-all-within-requires
+all-within-requires c κs = count-fits _ _ _ (fit (c .before))
+
+returns-3 : tie.Need-returns-3
+unfolding refusal
+returns-3 c =
+    let b = c .before .before .before in
+    simp (fit b, wide b, inside (c .before) ∙ not-true _ (c .if3 .taken))
+
+none-hollow-requires : tie.Need-none-hollow-requires
+none-hollow-requires c κs = count-fits _ _ _ (fit (c .before .before .before))
+
+returns-4 : tie.Need-returns-4
+unfolding refusal
+returns-4 c =
+    let n = c .before .before .before in
+    let b = n .before .before in
+    simp (
+      fit b,
+      wide b,
+      inside n ∙ not-false _ (c .before .before .if3 .left),
+      sym (c .before .none-hollow .ensures) ∙ not-true _ (c .if4 .taken),
+    )
+
+returns-5 : tie.Need-returns-5
+unfolding refusal
+returns-5 c =
+    let n = c .before .before .before in
+    let b = n .before .before in
+    simp (
+      fit b,
+      wide b,
+      inside n ∙ not-false _ (c .before .before .if3 .left),
+      sym (c .before .none-hollow .ensures) ∙ not-false _ (c .if4 .left),
+    )
+
+pub refusal-spec : {M : Type 1} → statement M
+refusal-spec =
+    tie.close
+    (tie.spec
+    fits-requires
+    is-width-requires
+    returns
+    returns-2
+    top-requires
+    all-within-requires
+    returns-3
+    none-hollow-requires
+    returns-4
+    returns-5)

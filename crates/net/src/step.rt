@@ -1,0 +1,130 @@
+// One step of a net: the intervals of the words that a join names, cut by its results.
+ghost use mathlib.Core.Path.{_≡_};
+ghost use mathlib.Core.Bool.{_&&_, _||_};
+ghost use Prim.Native.Nat.{_<_, min, max};
+ghost use Rattle.span.specs.Interval.{cut, hollow};
+ghost use Rattle.span.specs.Join.{anyHollow};
+ghost use Rattle.net.specs.Net.{Named, WORDS};
+ghost use Rattle.net.specs.Step.{cutAt, same, stepped};
+use crate::Join;
+use crate::Net;
+use span::Interval;
+
+// What a step comes to: whether a cut is empty, whether no word changed, and the words that it leaves.
+pub struct Stepped {
+    pub empty: bool,
+    pub quiet: bool,
+    pub words: [Interval; Net::WORDS],
+}
+
+// The cuts by a join. All of them read the intervals as given, and a word that is named twice is cut by all its results. Where one is
+// empty, the words stay.
+pub fn step(width: u64, join: Join, words: [Interval; Net::WORDS]) -> Stepped
+    requires { ⌜ Named WORDS join ⌝ }
+    ensures { λ r. ⌜ r ≡ stepped width join words ⌝ }
+{
+    let op = join.op;
+    let h = join.h;
+    let x = join.x;
+    let y = join.third();
+    let old_h = words[h];
+    let old_x = words[x];
+    let old_y = words[y];
+    let answer = span::join(width, op, old_h, old_x, old_y);
+    let by_h = answer.h;
+    let by_x = answer.x;
+    let by_y = answer.y;
+    let none = answer.empty;
+    let next = cut_at(cut_at(cut_at(words, h, by_h), x, by_x), y, by_y);
+    let new_h = next[h];
+    let new_x = next[x];
+    let new_y = next[y];
+    if any_empty(none, new_h, new_x, new_y) {
+        return Stepped {
+            empty: true,
+            quiet: true,
+            words,
+        };
+    }
+    Stepped {
+        empty: false,
+        quiet: unmoved(same(old_h, new_h), same(old_x, new_x), same(old_y, new_y)),
+        words: next,
+    }
+}
+
+// The words with the one at a place cut.
+fn cut_at(words: [Interval; Net::WORDS], place: usize, by: Interval) -> [Interval; Net::WORDS]
+    requires { ⌜ place < WORDS ⌝ }
+    ensures { λ r. ⌜ r ≡ cutAt place by words ⌝ }
+{
+    let mut next = words;
+    next[place] = cut(words[place], by);
+    next
+}
+
+// The words that lie in both.
+fn cut(one: Interval, other: Interval) -> Interval
+    ensures { λ r. ⌜ r ≡ cut one other ⌝ }
+{
+    Interval {
+        low: larger(one.low, other.low),
+        high: smaller(one.high, other.high),
+    }
+}
+
+fn larger(a: u64, b: u64) -> u64
+    ensures { λ r. ⌜ r ≡ max a b ⌝ }
+{
+    if a < b { b } else { a }
+}
+
+fn smaller(a: u64, b: u64) -> u64
+    ensures { λ r. ⌜ r ≡ min a b ⌝ }
+{
+    if a < b { a } else { b }
+}
+
+// Whether a cut is empty.
+fn any_empty(none: bool, h: Interval, x: Interval, y: Interval) -> bool
+    ensures { λ r. ⌜ r ≡ (none || anyHollow h x y) ⌝ }
+{
+    if none {
+        return true;
+    }
+    if hollow(h) {
+        return true;
+    }
+    if hollow(x) {
+        return true;
+    }
+    hollow(y)
+}
+
+// Whether its low end is above its high end.
+pub fn hollow(interval: Interval) -> bool
+    ensures { λ r. ⌜ r ≡ hollow interval ⌝ }
+{
+    interval.high < interval.low
+}
+
+fn same(one: Interval, other: Interval) -> bool
+    ensures { λ r. ⌜ r ≡ same one other ⌝ }
+{
+    if one.low != other.low {
+        return false;
+    }
+    one.high == other.high
+}
+
+fn unmoved(h: bool, x: bool, y: bool) -> bool
+    ensures { λ r. ⌜ r ≡ (h && (x && y)) ⌝ }
+{
+    if !h {
+        return false;
+    }
+    if !x {
+        return false;
+    }
+    y
+}
