@@ -1,5 +1,10 @@
 pub mod Accepted
+pub mod Cuts
 pub mod Every
 pub mod Going
+pub mod Kept
+pub mod Outcome
+pub mod Reached
+pub mod Round
 pub mod Stepping
 pub mod Unchanged

@@ -1,3 +1,4 @@
+pub mod Demand
 pub mod Net
 pub mod Run
 pub mod Step

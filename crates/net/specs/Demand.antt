@@ -1,0 +1,42 @@
+-- What is asked of a net, in the paper's words: statements for the definitions to be laid beside.
+use mathlib.Core.Path.{_≡_}
+use mathlib.Core.Bool.{false}
+use mathlib.Core.List.{List}
+use Prim.Native.Nat.{ℕ, _<_}
+use Rattle.span.specs.declared.Interval.{Interval}
+use Rattle.span.specs.Interval.{In}
+use Rattle.span.specs.Span.{result}
+use Rattle.net.specs.declared.Ended.{Ended}
+use Rattle.net.specs.declared.Ended.the-variants.{Empty, Refused, Spent, Steady}
+use Rattle.net.specs.declared.Join.{Join}
+use Rattle.net.specs.declared.Net.{Net}
+use Rattle.net.specs.Net.{joinAt, wordAt}
+use Rattle.net.specs.Run.{Stop, goes}
+use Rattle.net.specs.Step.{after, emptied}
+
+-- an assignment, a word for each place, gives words of the first n intervals
+abbrev pub AllIn : ℕ → List Interval → (ℕ → ℕ) → Type 0
+AllIn n ws v = (k : ℕ) → k < n → In (wordAt ws k) (v k)
+
+-- an "assignment inside the given intervals that satisfies all joins"
+pub record Solution (net : Net) (v : ℕ → ℕ) : Type 0 where
+  pub inside : AllIn (net .count) (net .words) v
+  pub joins : (k : ℕ) → k < net .joined →
+      let j = joinAt (net .joins) k in
+      v (j .h) ≡ result (net .width) (j .op) (v (j .x)) (v (j .y))
+
+-- a join that cannot change the words: a step by it leaves them as they are, and finds no empty cut
+pub record Still (w : ℕ) (j : Join) (ws : List Interval) : Type 0 where
+  pub same : after w j ws ≡ ws
+  pub full : emptied w j ws ≡ false
+
+-- a run that ended in "spent" goes on from where it stood; any other has ended
+unfoldable pub resumed : Ended → (on ended : Stop) → Stop
+resumed (Refused n) on o = o
+resumed Empty on o = o
+resumed Steady on o = o
+resumed Spent on o = on
+
+-- so many steps more
+unfoldable pub onward : (w : ℕ) (js : List Join) (m more : ℕ) → Stop → Stop
+onward w js m more o = resumed (o .how) (goes w js m more (o .at)) o
