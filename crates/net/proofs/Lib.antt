@@ -8,3 +8,4 @@ pub mod Reached
 pub mod Round
 pub mod Stepping
 pub mod Unchanged
+pub mod Worked

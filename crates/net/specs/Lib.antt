@@ -1,3 +1,4 @@
+pub mod Cases
 pub mod Demand
 pub mod Net
 pub mod Run
