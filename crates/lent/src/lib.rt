@@ -1,0 +1,93 @@
+// Bands in lent arrays, laid once and swept as often as is asked: nothing is copied on the way.
+ghost use mathlib.Core.Path.{_≡_};
+ghost use lib.ListN.{take};
+ghost use Rattle.word.specs.Word.{IsWidth, top};
+ghost use Rattle.bits.specs.Fixed.{Tidy, Within};
+ghost use Rattle.lent.specs.Kept.{Bounds, Ends, keptBy};
+ghost use Rattle.lent.specs.Lent.{Lie, zipped};
+use bits::Fixed;
+use rule::Rule;
+use verdict::Kept;
+use word::Found;
+use word::Width;
+
+mod places;
+mod sweep;
+
+pub use places::band_at;
+pub use places::lay;
+
+// What is kept of the first n bands and the bits, where no word below low and none above high passes. The largest word that
+// passes is the smallest on the wheel turned round, turned back.
+pub fn solve(
+    from: &[u64; Rule::LIMIT],
+    to: &[u64; Rule::LIMIT],
+    side: &[bool; Rule::LIMIT],
+    n: usize,
+    fixed: Fixed,
+    width: Width,
+    low: u64,
+    high: u64,
+) -> Kept
+    requires { ⌜ IsWidth (width .bits) ⌝ }
+    requires { ⌜ Lie (top (width .bits)) n (zipped (now from) (now to) (now side)) ⌝ }
+    requires { ⌜ Tidy fixed × Within (width .bits) fixed ⌝ }
+    requires { ⌜ Ends (width .bits) (take n (zipped (now from) (now to) (now side))) fixed low high ⌝ }
+    ensures { λ r. ⌜ r ≡ keptBy (width .bits) (take n (zipped (now (from .entry)) (now (to .entry)) (now (side .entry)))) fixed ⌝ }
+{
+    let none = Kept {
+        verdict: 0,
+        smallest: 0,
+        largest: 0,
+    };
+    let Found::At(smallest) = sweep::sweep(from, to, side, n, false, fixed, width, low) else {
+        return none;
+    };
+    let top = width.top();
+    let mirrored = fixed.turned();
+    let Found::At(last) = sweep::sweep(from, to, side, n, true, mirrored, width, top - high) else {
+        return none;
+    };
+    let largest = top - last;
+    let verdict = if smallest == largest { 1 } else { 2 };
+    Kept {
+        verdict,
+        smallest,
+        largest,
+    }
+}
+
+// What is kept once there are more rules, from what was kept before: none stays none, and the search starts at the old ends.
+pub fn narrowed(
+    from: &[u64; Rule::LIMIT],
+    to: &[u64; Rule::LIMIT],
+    side: &[bool; Rule::LIMIT],
+    n: usize,
+    fixed: Fixed,
+    width: Width,
+    before: Kept,
+) -> Kept
+    requires { ⌜ IsWidth (width .bits) ⌝ }
+    requires { ⌜ Lie (top (width .bits)) n (zipped (now from) (now to) (now side)) ⌝ }
+    requires { ⌜ Tidy fixed × Within (width .bits) fixed ⌝ }
+    requires { ⌜ Bounds (width .bits) (take n (zipped (now from) (now to) (now side))) fixed before ⌝ }
+    ensures { λ r. ⌜ r ≡ keptBy (width .bits) (take n (zipped (now (from .entry)) (now (to .entry)) (now (side .entry)))) fixed ⌝ }
+{
+    if before.verdict == 0 {
+        return Kept {
+            verdict: 0,
+            smallest: 0,
+            largest: 0,
+        };
+    }
+    solve(
+        from,
+        to,
+        side,
+        n,
+        fixed,
+        width,
+        before.smallest,
+        before.largest,
+    )
+}
