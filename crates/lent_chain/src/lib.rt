@@ -1,0 +1,48 @@
+// The chain of links that shows why no word fits, written from bands in lent arrays into a lent buffer.
+ghost use mathlib.Core.Path.{_≡_};
+ghost use mathlib.Core.List.{List, _++_};
+ghost use Prim.Native.Nat.{_*_, _≤_};
+ghost use lib.ListN.{drop, length, take};
+ghost use Rattle.word.specs.Word.{IsWidth, top};
+ghost use Rattle.rule.specs.declared.Rule.{Rule as RuleOf};
+ghost use Rattle.chain.specs.Links.{chainRoom, links, numbersOf};
+ghost use Rattle.lent.specs.Lent.{Lie, zipped};
+ghost use Rattle.lent_chain.specs.OfRules.{OfRules};
+use bits::Fixed;
+use chain::Link;
+use rule::Rule;
+use word::Width;
+
+mod reach;
+mod step;
+
+// Writes the chain of the first n bands and the bits, which no word passes, three numbers a link, and says how many links it has.
+pub fn write(
+    from: &[u64; Rule::LIMIT],
+    to: &[u64; Rule::LIMIT],
+    side: &[bool; Rule::LIMIT],
+    n: usize,
+    fixed: Fixed,
+    width: Width,
+    out: &mut [u64],
+) -> usize
+    requires { ⌜ IsWidth (width .bits) ⌝ }
+    requires { ⌜ Lie (top (width .bits)) n (zipped (now from) (now to) (now side)) ⌝ }
+    requires { ⌜ ((rs : List RuleOf) × OfRules (width .bits) (take n (zipped (now from) (now to) (now side))) fixed rs) ⌝ }
+    requires { ⌜ chainRoom n ≤ length (now out) ⌝ }
+    ensures { λ r. ⌜ ((rs : List RuleOf) → OfRules (width .bits) (take n (zipped (now (from .entry)) (now (to .entry)) (now (side .entry)))) fixed rs → (r ≡ length (links (width .bits) rs)) × (now (out .exit) ≡ numbersOf (links (width .bits) rs) ++ drop (3 * r) (now (out .entry)))) ⌝ }
+{
+    let top = width.top();
+    let mut count = 0;
+    let mut p = 0;
+    loop {
+        let link = step::link_at(from, to, side, n, fixed, width, p);
+        step::put(&mut *out, Link::NUMBERS * count, link);
+        count += 1;
+        if link.to == top {
+            break;
+        }
+        p = link.to + 1;
+    }
+    count
+}
