@@ -1,0 +1,141 @@
+// The sheet laid out once and lent to every call: its rules, its marks and its rules' bands in arrays of numbers, and a small
+// head by value.
+ghost use mathlib.Core.Path.{_≡_};
+ghost use lib.ListN.{length};
+ghost use Rattle.rule.specs.Meaning.{RULES};
+ghost use Rattle.sheet.specs.Page.{MARKS};
+ghost use Rattle.places.specs.Places.{rulesIn};
+ghost use Rattle.lent_sheet.specs.Held.{Held, Room, packed, stood};
+use bits::Fixed;
+use places::NUMBERS;
+use rule::Rule;
+use sheet::Sheet;
+use verdict::Kept;
+use word::Width;
+
+pub mod drawing;
+mod shape;
+
+// What a sheet has beside its arrays: whether the record is a sheet at all, its numbers, and the bits that its rules fix.
+pub struct Head {
+    pub stands: bool,
+    pub width: u64,
+    pub count: usize,
+    pub marked: usize,
+    pub kept: Kept,
+    pub fixed: Fixed,
+}
+
+// Lays a record out, sheet or not, and tests whether it is one.
+pub fn lay_out(
+    sheet: Sheet,
+    rules: &mut [u64; NUMBERS],
+    marks: &mut [usize; Sheet::MARKS],
+    from: &mut [u64; Rule::LIMIT],
+    to: &mut [u64; Rule::LIMIT],
+    side: &mut [bool; Rule::LIMIT],
+) -> Head
+    requires { ⌜ Room (now rules) (now marks) (now from) (now to) (now side) ⌝ }
+    ensures { λ r. ⌜ packed r (now (rules .exit)) (now (marks .exit)) ≡ sheet ⌝ }
+    ensures { λ r. ⌜ Held r (now (rules .exit)) (now (marks .exit)) (now (from .exit)) (now (to .exit)) (now (side .exit)) ⌝ }
+{
+    let laid = sheet.rules;
+    let set = sheet.marks;
+    let kept = sheet.kept;
+    places::lay_out(&mut *rules, laid);
+    set_marks(&mut *marks, set);
+    let head = Head {
+        stands: false,
+        width: sheet.width,
+        count: sheet.count,
+        marked: sheet.marked,
+        kept,
+        fixed: Fixed::Bits { mask: 0, value: 0 },
+    };
+    tested(head, &*rules, &*marks, &mut *from, &mut *to, &mut *side)
+}
+
+// The marks of a record, laid out.
+fn set_marks(marks: &mut [usize; Sheet::MARKS], set: [usize; Sheet::MARKS])
+    ensures { λ _. ⌜ (now (marks .exit) ≡ set) × (length (now (marks .exit)) ≡ MARKS) ⌝ }
+{
+    *marks = set;
+}
+
+// The head with the test whether the record is a sheet and, where it is and is not blank, its bands drawn.
+fn tested(
+    head: Head,
+    rules: &[u64; NUMBERS],
+    marks: &[usize; Sheet::MARKS],
+    from: &mut [u64; Rule::LIMIT],
+    to: &mut [u64; Rule::LIMIT],
+    side: &mut [bool; Rule::LIMIT],
+) -> Head
+    requires { ⌜ Room (now rules) (now marks) (now from) (now to) (now side) ⌝ }
+    ensures { λ r. ⌜ packed r (now (rules .entry)) (now (marks .entry)) ≡ packed head (now (rules .entry)) (now (marks .entry)) ⌝ }
+    ensures { λ r. ⌜ Held r (now (rules .entry)) (now (marks .entry)) (now (from .exit)) (now (to .exit)) (now (side .exit)) ⌝ }
+{
+    let width = head.width;
+    let count = head.count;
+    let kept = head.kept;
+    if width == 0 {
+        return head.standing(shape::blank(head, rules, marks));
+    }
+    if !shape::shaped(head, rules, marks) {
+        return head.standing(false);
+    }
+    drawing::draw(
+        rules,
+        &mut *from,
+        &mut *to,
+        &mut *side,
+        count,
+        Width { bits: width },
+    );
+    let fixed = drawing::bits_of(rules, count);
+    let bits = Width { bits: width };
+    let found = lent::solve(&*from, &*to, &*side, count, fixed, bits, 0, bits.top());
+    Head {
+        stands: shape::same_kept(kept, found),
+        width,
+        count,
+        marked: head.marked,
+        kept,
+        fixed,
+    }
+}
+
+// Packs the record that the head and the arrays stand for.
+pub fn pack(head: Head, rules: &[u64; NUMBERS], marks: &[usize; Sheet::MARKS]) -> Sheet
+    requires { ⌜ length (rulesIn (now rules)) ≡ RULES ⌝ }
+    ensures { λ r. ⌜ r ≡ packed head (now (rules .entry)) (now (marks .entry)) ⌝ }
+{
+    let kept = head.kept;
+    let laid = places::pack(rules);
+    let set = *marks;
+    Sheet {
+        width: head.width,
+        rules: laid,
+        count: head.count,
+        marks: set,
+        marked: head.marked,
+        kept,
+    }
+}
+
+impl Head {
+    fn standing(self, stands: bool) -> Head
+        ensures { λ r. ⌜ r ≡ stood self stands ⌝ }
+    {
+        let kept = self.kept;
+        let fixed = self.fixed;
+        Head {
+            stands,
+            width: self.width,
+            count: self.count,
+            marked: self.marked,
+            kept,
+            fixed,
+        }
+    }
+}
