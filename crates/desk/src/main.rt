@@ -13,7 +13,7 @@ fn main() {
     let came = talk.came;
     if let Came::Nothing = came {
         let mut out = io::large_buffer();
-        let n = desk.finish(&mut out);
+        let n = lent_exchange::finish(desk, &mut out);
         output::send(&out[..n]);
     }
 }

@@ -98,7 +98,7 @@ fn serve(desk: Desk, part: &[u8], out: &mut [u8]) -> Served
     let mut desk = desk;
     let mut at = 0;
     while at < part.len() {
-        let fed = desk.feed(&part[at..], &mut *out);
+        let fed = lent_exchange::feed(desk, &part[at..], &mut *out);
         let written = fed.written;
         desk = fed.desk;
         at = at + fed.used;

@@ -1,6 +1,9 @@
-// The exchange of lines and answers, a part of the input at a time.
+// The exchange of lines and answers, a part of the input at a time: lines, what is held of one that is cut, and what feeding a part
+// promises.
+ghost use mathlib.Core.Path.{_≡_};
+ghost use Rattle.sheet.specs.Page.{blank};
+ghost use Rattle.exchange.specs.Begun.{desk, none};
 
-mod feeding;
 mod holding;
 mod lines;
 
@@ -30,4 +33,16 @@ pub struct Fed {
 
 impl Begun {
     pub const HELD: usize = Frame::LONGEST + 1;
+}
+
+impl Desk {
+    // Before the first byte: the blank sheet, and no line.
+    pub fn new() -> Desk
+        ensures { λ r. ⌜ r ≡ desk blank none ⌝ }
+    {
+        Desk {
+            sheet: Sheet::blank(),
+            begun: Begun::none(),
+        }
+    }
 }

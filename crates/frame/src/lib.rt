@@ -1,8 +1,11 @@
-// Lines of hexadecimal: which frame a line is, and how a call's answer is written.
+// Lines of hexadecimal: which frame a line is, and how an answer is written.
 mod answers;
 mod reading;
 
-pub use answers::answer;
+pub use answers::kept_line;
+pub use answers::put_line;
+pub use answers::put_links;
+pub use answers::put_number;
 use chain::Link;
 pub use reading::decode;
 use rule::Rule;

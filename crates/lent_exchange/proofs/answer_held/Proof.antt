@@ -3,9 +3,9 @@ use mathlib.Core.Path.{sym}
 use native.Mathlib.Omega.{arith}
 use borrow.Author.Needs.{needs}
 use lib.Seq.{length-take-le, take-all}
 use Rattle.exchange.specs.Begun.{begunLine}
-use Rattle.exchange.proofs.feeding.answer_held.Statement.{statement}
-use Rattle.exchange.proofs.feeding.answer_held.Tie as tie
+use Rattle.lent_exchange.proofs.answer_held.Statement.{statement}
+use Rattle.lent_exchange.proofs.answer_held.Tie as tie
 
 slice-aggregate-answer : tie.Need-slice-aggregate-answer
 slice-aggregate-answer c = search needs
@@ -18,13 +18,16 @@ same-length c = search needs
 
 returns : tie.Need-returns
 unfolding begunLine
-returns c = let a = c .before .before .before .before .before .before .before .args in rw (take-all (a .len) (a .t2) (omega arith)) (c .before .before .answer .ensures)
+returns c =
+    let a = c .before .before .before .before .before .before .before .before .before .before .before .before .before .args in
+    let r = c .before .before .answer .ensures in
+    (rw (take-all (a .len) (a .t8) (omega (arith, c .before .before .before .before .before .before .before .before .before .before .before))) (r .0), r .1)
 
 array-share-prefix-bytes : tie.Need-array-share-prefix-bytes
 array-share-prefix-bytes c = search needs
 
 slice-aggregate-answer-2 : tie.Need-slice-aggregate-answer-2
-slice-aggregate-answer-2 c = sym (length-take-le (c .before .before .before .args .len) (c .before .before .before .args .t2) (omega arith))
+slice-aggregate-answer-2 c = let a = c .before .before .before .before .before .before .before .before .before .args in sym (length-take-le (a .len) (a .t8) (omega arith))
 
 answer-requires-2 : tie.Need-answer-requires-2
 answer-requires-2 c κs = search needs

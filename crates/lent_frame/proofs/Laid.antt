@@ -1,0 +1,27 @@
+-- From what a call on the arrays promises to what its line's answer promises. Assumes nothing.
+use mathlib.Core.Path.{_≡_, sym, ap, subst}
+use mathlib.Core.Bool.{Bool}
+use mathlib.Core.List.{List, [], _∷_}
+use Prim.Native.Nat.{ℕ}
+use Rattle.sheet.specs.declared.Sheet.{Sheet}
+use Rattle.sheet.specs.Calls.{Call}
+use Rattle.frame.specs.declared.Frame.{Frame}
+use Rattle.frame.specs.Answers.{lineBytes, numberLine}
+use Rattle.frame.specs.Calls.{MadeCall, callOf, makes}
+use Rattle.frame.specs.Frames.{frameOf}
+use Rattle.frame.specs.Statements.{PutAt, Said, answered}
+use Rattle.frame.proofs.Saying.{number-answered}
+use Rattle.lent_sheet.specs.declared.Head.{Head}
+use Rattle.lent_sheet.specs.Held.{Held, packed}
+use Rattle.lent_calls.specs.Statements.{After}
+use Rattle.lent_frame.specs.Statements.{LaidAnswered}
+
+pub laid-number : {s : Sheet} (line : List ℕ) {b b′ : List ℕ} {at end n : ℕ} {h k : Head} {rules marks from to : List ℕ} {side : List Bool} {f : Frame} (c : Call)
+    → f ≡ frameOf line → callOf f ≡ makes c → After s c n h rules marks from to side → k ≡ h → PutAt b at (lineBytes (numberLine n)) b′ end
+    → LaidAnswered s line b at b′ k rules marks from to side end
+laid-number {s} line {n} {h} {k} {rules} {marks} {from} {to} {side} c e q a p l =
+    record {
+      answered = number-answered line _ n e (subst (λ (m : MadeCall). Said s m (packed h rules marks) (numberLine n ∷ [])) (sym q) (answered c _ (a .outcome)))
+          (ap (λ (j : Head). packed j rules marks) p) l;
+      held = subst (λ (j : Head). Held j rules marks from to side) (sym p) (a .held);
+    }
