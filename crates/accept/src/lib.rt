@@ -121,7 +121,8 @@ fn stray_bit(rule: Rule) -> bool
     c2 & c1 != c2
 }
 
-fn is_no_rule(rule: Rule) -> bool
+// Whether a place has no rule: zeros.
+pub fn is_no_rule(rule: Rule) -> bool
     ensures { λ r. ⌜ r ≡ isNoRule rule ⌝ }
 {
     let form = rule.form;

@@ -14,6 +14,9 @@ use word::Width;
 mod reach;
 mod step;
 
+pub use step::gap;
+pub use step::put;
+
 // The furthest that a rule outside form 7 reaches from a word that fails it, and that rule's number.
 pub enum Far {
     To { reach: u64, rule: u64 },

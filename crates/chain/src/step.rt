@@ -39,7 +39,7 @@ pub fn link_at(bands: [Band; Rule::LIMIT], n: usize, fixed: Fixed, width: Width,
 }
 
 // The last word before the next one above p that has the bits, or the top word where there is none.
-fn gap(fixed: Fixed, width: Width, p: u64) -> u64
+pub fn gap(fixed: Fixed, width: Width, p: u64) -> u64
     requires { ⌜ IsWidth (width .bits) ⌝ }
     requires { ⌜ Tidy fixed × (p ≤ top (width .bits)) ⌝ }
     ensures { λ r. ⌜ r ≡ gapOn fixed (top (width .bits)) p ⌝ }

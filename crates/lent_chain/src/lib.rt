@@ -37,7 +37,7 @@ pub fn write(
     let mut p = 0;
     loop {
         let link = step::link_at(from, to, side, n, fixed, width, p);
-        step::put(&mut *out, Link::NUMBERS * count, link);
+        chain::put(&mut *out, Link::NUMBERS * count, link);
         count += 1;
         if link.to == top {
             break;

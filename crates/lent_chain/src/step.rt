@@ -1,18 +1,16 @@
 // One link: where it ends, why, and how it is written.
 ghost use mathlib.Core.Path.{_≡_};
-ghost use mathlib.Core.List.{_++_, _∷_};
-ghost use Prim.Native.Nat.{_+_, _≤_};
-ghost use lib.ListN.{drop, length, take};
+ghost use Prim.Native.Nat.{_≤_};
+ghost use lib.ListN.{take};
 ghost use Rattle.word.specs.Word.{IsWidth, top};
 ghost use Rattle.bits.specs.Fixed.{Tidy};
-ghost use Rattle.chain.specs.OnBands.{gapOn, linkOn};
+ghost use Rattle.chain.specs.OnBands.{linkOn};
 ghost use Rattle.lent.specs.Lent.{Lie, zipped};
 use crate::reach;
 use bits::Fixed;
 use chain::Far;
 use chain::Link;
 use rule::Rule;
-use word::Found;
 use word::Width;
 
 // The link that starts at p.
@@ -38,34 +36,8 @@ pub fn link_at(
         },
         Far::Nowhere => Link {
             from: p,
-            to: gap(fixed, width, p),
+            to: chain::gap(fixed, width, p),
             reason: Link::BITS,
         },
     }
-}
-
-// The last word before the next one above p that has the bits, or the top word where there is none.
-fn gap(fixed: Fixed, width: Width, p: u64) -> u64
-    requires { ⌜ IsWidth (width .bits) ⌝ }
-    requires { ⌜ Tidy fixed × (p ≤ top (width .bits)) ⌝ }
-    ensures { λ r. ⌜ r ≡ gapOn fixed (top (width .bits)) p ⌝ }
-{
-    let top = width.top();
-    if p == top {
-        return top;
-    }
-    let Found::At(x) = fixed.next(width, p + 1) else {
-        return top;
-    };
-    x - 1
-}
-
-// Writes a link's three numbers.
-pub fn put(out: &mut [u64], at: usize, link: Link)
-    requires { ⌜ at + 3 ≤ length (now out) ⌝ }
-    ensures { λ _. ⌜ now (out .exit) ≡ take at (now (out .entry)) ++ link .from ∷ link .to ∷ link .reason ∷ drop (at + 3) (now (out .entry)) ⌝ }
-{
-    out[at] = link.from;
-    out[at + 1] = link.to;
-    out[at + 2] = link.reason;
 }

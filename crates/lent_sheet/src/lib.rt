@@ -96,7 +96,7 @@ fn tested(
     let bits = Width { bits: width };
     let found = lent::solve(&*from, &*to, &*side, count, fixed, bits, 0, bits.top());
     Head {
-        stands: shape::same_kept(kept, found),
+        stands: sheet::same_kept(kept, found),
         width,
         count,
         marked: head.marked,

@@ -7,7 +7,7 @@ ghost use lib.ListN.{drop, length, take};
 ghost use Rattle.rule.specs.Meaning.{RULES};
 ghost use Rattle.accept.specs.Accept.{every};
 ghost use Rattle.sheet.specs.Page.{MARKS, WIDEST};
-ghost use Rattle.sheet.specs.Shape.{isSheet, isZero, marksShaped, rising, sameKept, wellShaped};
+ghost use Rattle.sheet.specs.Shape.{isSheet, isZero, marksShaped, rising, wellShaped};
 ghost use Rattle.places.specs.Places.{rulesIn};
 ghost use Rattle.lent_sheet.specs.Held.{packed};
 use crate::Head;
@@ -36,7 +36,7 @@ pub fn blank(head: Head, rules: &[u64; NUMBERS], marks: &[usize; Sheet::MARKS]) 
     if !all_zero(marks, 0) {
         return false;
     }
-    same_kept(
+    sheet::same_kept(
         kept,
         Kept {
             verdict: 0,
@@ -110,19 +110,4 @@ fn all_zero(marks: &[usize; Sheet::MARKS], m: usize) -> bool
         }
     }
     true
-}
-
-pub fn same_kept(a: Kept, b: Kept) -> bool
-    ensures { λ r. ⌜ r ≡ sameKept a b ⌝ }
-{
-    let verdict = a.verdict;
-    let smallest = a.smallest;
-    let largest = a.largest;
-    if verdict != b.verdict {
-        return false;
-    }
-    if smallest != b.smallest {
-        return false;
-    }
-    largest == b.largest
 }

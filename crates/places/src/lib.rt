@@ -61,7 +61,7 @@ pub fn none_from(rules: &[u64; NUMBERS], n: usize) -> bool
     ensures { λ r. ⌜ r ≡ every isNoRule (drop n (rulesIn (now (rules .entry)))) ⌝ }
 {
     for i in n..Rule::LIMIT {
-        if !is_no_rule(rule_at(rules, i)) {
+        if !accept::is_no_rule(rule_at(rules, i)) {
             return false;
         }
     }
@@ -110,23 +110,4 @@ pub fn pack(rules: &[u64; NUMBERS]) -> [Rule; Rule::LIMIT]
         packed[i] = rule_at(rules, i);
     }
     packed
-}
-
-fn is_no_rule(rule: Rule) -> bool
-    ensures { λ r. ⌜ r ≡ isNoRule rule ⌝ }
-{
-    let form = rule.form;
-    let sense = rule.sense;
-    let c1 = rule.c1;
-    let c2 = rule.c2;
-    if form != 0 {
-        return false;
-    }
-    if sense != 0 {
-        return false;
-    }
-    if c1 != 0 {
-        return false;
-    }
-    c2 == 0
 }

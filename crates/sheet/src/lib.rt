@@ -14,6 +14,7 @@ mod shape;
 pub use asking::refusal;
 use chain::Link;
 use rule::Rule;
+pub use shape::same_kept;
 use verdict::Kept;
 
 // A rule desk's sheet: the width, the rules in force in the order added, for each mark in force how many rules there were

@@ -128,7 +128,8 @@ fn all_zero(marks: [usize; Sheet::MARKS], m: usize) -> bool
     true
 }
 
-fn same_kept(a: Kept, b: Kept) -> bool
+// Whether the two agree in all three numbers.
+pub fn same_kept(a: Kept, b: Kept) -> bool
     ensures { λ r. ⌜ r ≡ sameKept a b ⌝ }
 {
     let verdict = a.verdict;
