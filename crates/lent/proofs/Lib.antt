@@ -1,3 +1,4 @@
-pub mod Rules
-pub mod Solved
+pub mod OneMore
+pub mod Passes
+pub mod Steps
 pub mod Zipped

@@ -7,9 +7,8 @@ use Prim.Native.Nat.{ℕ, zero, suc, _<_}
 use native.Mathlib.Omega.{arith}
 use lib.ListN.{getD, length, length-map, set}
 use Rattle.band.specs.declared.Band.{Band}
-use Rattle.band.specs.Band.{AllLaid, Laid, turnedBand}
+use Rattle.band.specs.Band.{Laid, turnedBand}
 use Rattle.band.proofs.Turn.{turned-laid}
-use Rattle.verdict.proofs.Passes.{turned-all-laid}
 use Rattle.lent.specs.Lent.{allSeen, band, seen, zipped}
 
 pub zipped-at : (from to : List ℕ) (side : List Bool) (i : ℕ) (d : Band) → i < length (zipped from to side)
@@ -50,10 +49,6 @@ module _ (turned : Bool) (t : ℕ) where
   pub seen-laid : (b : Band) → Laid t b → Laid t (seen turned t b)
   unfolding seen
   seen-laid b l = elim turned [ true ↦ turned-laid t b l | false ↦ l ]
-
-  pub all-seen-laid : (bs : List Band) → AllLaid t bs → AllLaid t (allSeen turned t bs)
-  unfolding allSeen
-  all-seen-laid bs l = elim turned [ true ↦ turned-all-laid t bs l | false ↦ l ]
 
   -- seen on the wheel turned round, or as it stands
   pub seen-turned : (b : Band) → turned ≡ true → turnedBand t b ≡ seen turned t b

@@ -4,7 +4,7 @@ ghost use Prim.Native.Nat.{_<_};
 ghost use lib.ListN.{getD, length, set};
 ghost use Rattle.rule.specs.Meaning.{RULES};
 ghost use Rattle.band.specs.Band.{Laid};
-ghost use Rattle.verdict.specs.Bands.{blankBand};
+ghost use Rattle.lent.specs.Bands.{blankBand};
 ghost use Rattle.lent.specs.Lent.{seen, zipped};
 use band::Band;
 use rule::Rule;

@@ -1,4 +1,3 @@
-pub mod Passes
 pub mod Right
-pub mod Steps
-pub mod Stores
+pub mod Rules
+pub mod Solved

@@ -1,3 +1,3 @@
-pub mod Bands
 pub mod Demand
 pub mod Kept
+pub mod OnBands

@@ -1,42 +1,32 @@
-// The bands of a list of rules, laid once for all the steps of a sweep.
+// The bands of rules that come by value, laid once for all the steps of a sweep.
 ghost use mathlib.Core.Path.{_≡_};
-ghost use mathlib.Core.List.{map, _++_};
-ghost use Prim.Native.Nat.{_-_, _≤_};
-ghost use lib.ListN.{drop, take};
+ghost use mathlib.Core.List.{map};
+ghost use Prim.Native.Nat.{_≤_};
+ghost use lib.ListN.{length, take};
 ghost use Rattle.word.specs.Word.{IsWidth};
 ghost use Rattle.rule.specs.Meaning.{RULES};
-ghost use Rattle.band.specs.Band.{AllLaid, turnedBand};
-ghost use Rattle.verdict.specs.Bands.{bandsOf};
+ghost use Rattle.band.specs.Band.{bandOf};
+ghost use Rattle.lent.specs.Lent.{zipped};
 use band::Band;
 use rule::Rule;
 use word::Width;
 
-// The bands of the first n rules, and blank ones after them.
-pub fn lay(rules: [Rule; Rule::LIMIT], n: usize, width: Width) -> [Band; Rule::LIMIT]
+// Lays the bands of the first n rules.
+pub fn lay(
+    rules: [Rule; Rule::LIMIT],
+    n: usize,
+    width: Width,
+    from: &mut [u64; Rule::LIMIT],
+    to: &mut [u64; Rule::LIMIT],
+    side: &mut [bool; Rule::LIMIT],
+)
     requires { ⌜ IsWidth (width .bits) ⌝ }
-    requires { ⌜ n ≤ RULES ⌝ }
-    ensures { λ r. ⌜ r ≡ bandsOf (width .bits) (take n rules) ⌝ }
+    requires { ⌜ (n ≤ RULES) × (length (zipped (now from) (now to) (now side)) ≡ RULES) ⌝ }
+    ensures { λ _. ⌜ take n (zipped (now (from .exit)) (now (to .exit)) (now (side .exit))) ≡ map (bandOf (width .bits)) (take n rules) ⌝ }
+    ensures { λ _. ⌜ length (zipped (now (from .exit)) (now (to .exit)) (now (side .exit))) ≡ RULES ⌝ }
 {
-    let blank = Band {
-        from: 0,
-        to: 0,
-        inside: false,
-    };
-    let mut bands = [blank; Rule::LIMIT];
     for i in 0..n {
-        bands[i] = Band::of(rules[i], width);
+        let band = Band::of(rules[i], width);
+        lent::lay(&mut *from, &mut *to, &mut *side, i, band);
     }
-    bands
-}
-
-// The first n bands turned round, and the others as they are.
-pub fn turn(bands: [Band; Rule::LIMIT], n: usize, top: u64) -> [Band; Rule::LIMIT]
-    requires { ⌜ (n ≤ RULES) × AllLaid top (take n bands) ⌝ }
-    ensures { λ r. ⌜ r ≡ map (turnedBand top) (take n bands) ++ drop n bands ⌝ }
-{
-    let mut turned = bands;
-    for j in 0..n {
-        turned[j] = bands[j].turned(top);
-    }
-    turned
 }

@@ -7,11 +7,10 @@ ghost use Rattle.rule.specs.Meaning.{AllLawful, RULES};
 ghost use Rattle.verdict.specs.Kept.{kept};
 use bits::Fixed;
 use rule::Rule;
-use word::Found;
 use word::Width;
 
 pub mod bands;
-mod sweep;
+pub mod laid;
 
 // The verdict (0 none, 1 one, 2 many) and the smallest and largest fitting word; for none both are 0.
 pub struct Kept {
@@ -20,33 +19,16 @@ pub struct Kept {
     pub largest: u64,
 }
 
-// What is kept of the first n rules. The largest fitting word is the smallest on the wheel turned round, turned back.
+// What is kept of the first n rules: their bands are laid, and the search may start at either end of the wheel.
 pub fn solve(rules: [Rule; Rule::LIMIT], n: usize, width: Width) -> Kept
     requires { ⌜ IsWidth (width .bits) ⌝ }
     requires { ⌜ (n ≤ RULES) × AllLawful (width .bits) (take n rules) ⌝ }
     ensures { λ r. ⌜ r ≡ kept (width .bits) (take n rules) ⌝ }
 {
-    let none = Kept {
-        verdict: 0,
-        smallest: 0,
-        largest: 0,
-    };
-    let laid = bands::lay(rules, n, width);
+    let mut from = [0; Rule::LIMIT];
+    let mut to = [0; Rule::LIMIT];
+    let mut side = [false; Rule::LIMIT];
+    bands::lay(rules, n, width, &mut from, &mut to, &mut side);
     let fixed = Fixed::of(rules, n);
-    let Found::At(smallest) = sweep::sweep(laid, n, fixed, width, 0) else {
-        return none;
-    };
-    let top = width.top();
-    let turned = bands::turn(laid, n, top);
-    let turned_bits = fixed.turned();
-    let Found::At(last) = sweep::sweep(turned, n, turned_bits, width, 0) else {
-        return none;
-    };
-    let largest = top - last;
-    let verdict = if smallest == largest { 1 } else { 2 };
-    Kept {
-        verdict,
-        smallest,
-        largest,
-    }
+    laid::solve(&from, &to, &side, n, fixed, width, 0, width.top())
 }

@@ -4,7 +4,7 @@ use mathlib.Core.Bool.{false}
 use borrow.Author.Needs.{needs}
 use lib.ListN.{getD}
 use Rattle.band.specs.Band.{Laid, turnedBand}
-use Rattle.verdict.specs.Bands.{blankBand}
+use Rattle.lent.specs.Bands.{blankBand}
 use Rattle.lent.specs.Lent.{band, zipped}
 use Rattle.lent.proofs.Zipped.{seen-plain, seen-turned, zipped-at}
 use Rattle.lent.proofs.places.band_at.Statement.{statement}

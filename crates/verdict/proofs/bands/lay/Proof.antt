@@ -1,28 +1,28 @@
--- `lay` meets its contract. The loop's invariant: the bands so far are those of the rules passed, and blank ones after
--- them. Assumes nothing.
-use mathlib.Core.Path.{_≡_, refl, sym, ap, ap₂, _∙_}
-use mathlib.Core.List.{List}
-use Prim.Native.Nat.{ℕ, _-_, _≤_, _<_}
+-- `lay` meets its contract. The loop's invariant: the bands so far are those of the rules passed. The measure is the rules left.
+-- Assumes nothing.
+use mathlib.Core.Path.{_≡_, refl, sym, ap, _∙_}
+use mathlib.Core.List.{map}
+use Prim.Native.Nat.{ℕ, _+_, _-_, _≤_}
 use native.Mathlib.Numerals.{add-one}
 use native.Mathlib.Omega.{arith}
 use borrow.Author.Needs.{needs}
-use lib.ListN.{set, take}
+use lib.ListN.{getD, length, length-set, set, take}
 use Rattle.rule.specs.Meaning.{RULES, rule}
-use Rattle.band.specs.declared.Band.{Band}
-use Rattle.verdict.specs.Bands.{bandsOf}
-use Rattle.verdict.proofs.Stores.{bands-suc}
+use Rattle.band.specs.Band.{bandOf}
+use Rattle.lent.specs.Lent.{zipped}
+use Rattle.lent.proofs.OneMore.{map-suc}
 use Rattle.verdict.proofs.bands.lay.Statement.{statement}
 use Rattle.verdict.proofs.bands.lay.Tie as tie
 
 abbrev Inv-loop : tie.InvT-loop
-Inv-loop n width rules bands₀ i₀ bands i = (i ≤ n) × (bands ≡ bandsOf (width .bits) (take i rules))
+Inv-loop n width from₀ to₀ side₀ rules i₀ from to side i =
+    (i ≤ n) × (length (zipped from to side) ≡ RULES) × (take i (zipped from to side) ≡ map (bandOf (width .bits)) (take i rules))
 
 abbrev μ-loop : tie.MeasureT-loop
-μ-loop n width rules bands₀ i₀ bands i = n - i
+μ-loop n width from₀ to₀ side₀ rules i₀ from to side i = n - i
 
 loop-holds : tie.Need-loop-holds Inv-loop μ-loop
-unfolding bandsOf
-loop-holds c = (omega arith, refl)
+loop-holds c = (omega arith, c .pre .1 .1, refl)
 
 mul-of : tie.Need-mul-of Inv-loop μ-loop
 mul-of c = search needs
@@ -33,11 +33,8 @@ array-copy-out-of c = search needs
 of-requires : tie.Need-of-requires Inv-loop μ-loop
 of-requires c κs = search needs
 
-mul-bands : tie.Need-mul-bands Inv-loop μ-loop
-mul-bands c = search needs
-
-array-set-from-bands : tie.Need-array-set-from-bands Inv-loop μ-loop
-array-set-from-bands c = search needs
+lay-requires : tie.Need-lay-requires Inv-loop μ-loop
+lay-requires c κs = omega arith
 
 add-i : tie.Need-add-i Inv-loop μ-loop
 add-i c = search needs
@@ -47,19 +44,30 @@ loop-less c = omega arith
 
 loop-again : tie.Need-loop-again Inv-loop μ-loop
 loop-again c =
-    let l = c .before .before .before in
-    let rules = l .before .args .t1 in
-    let h : l .loop .i < RULES = omega arith in (
+    let o = c .before .before .before .before in
+    let l = o .before .before .before in
+    let i = l .loop .i in
+    let w = l .before .args .width .bits in
+    let rs = l .before .args .t1 in
+    let z = zipped (l .loop .from) (l .loop .to) (l .loop .side) in (
       omega arith,
-      ap₂ (λ (bs : List Band) (b : Band). set bs (l .loop .i) b) (l .loop .inv .1) (c .of .ensures)
-          ∙ bands-suc _ rules (l .loop .i) (rule 0 0 0 0) (omega arith) h
-          ∙ ap (λ (j : ℕ). bandsOf (l .before .args .width .bits) (take j rules)) (sym (add-one (l .loop .i))),
+      ap length (c .lay .ensures) ∙ length-set z i (o .of .result) ∙ l .loop .inv .1,
+      ap (take (i + 1)) (c .lay .ensures ∙ ap (set z i) (o .of .ensures))
+          ∙ ap (λ (j : ℕ). take j (set z i (bandOf w (getD rs i (rule 0 0 0 0))))) (add-one i)
+          ∙ map-suc (bandOf w) rs z i (rule 0 0 0 0) (omega arith) (omega arith) (l .loop .inv .2)
+          ∙ ap (λ (j : ℕ). map (bandOf w) (take j rs)) (sym (add-one i)),
     )
 
 returns : tie.Need-returns Inv-loop μ-loop
 returns c =
-    let e : c .before .loop .i ≡ c .before .before .args .n = omega arith in
-    c .before .loop .inv .1 ∙ ap (λ (i : ℕ). bandsOf (c .before .before .args .width .bits) (take i (c .before .before .args .t1))) e
+    let l = c .before in
+    let s = l .before in
+    let e : l .loop .i ≡ s .args .n = omega arith in (
+      ap (λ (i : ℕ). take i (zipped (l .loop .from) (l .loop .to) (l .loop .side))) (sym e)
+          ∙ l .loop .inv .2
+          ∙ ap (λ (i : ℕ). map (bandOf (s .args .width .bits)) (take i (s .args .t1))) e,
+      l .loop .inv .1,
+    )
 
 pub lay-spec : {M : Type 1} → statement M
 lay-spec =
@@ -71,8 +79,7 @@ lay-spec =
     mul-of
     array-copy-out-of
     of-requires
-    mul-bands
-    array-set-from-bands
+    lay-requires
     add-i
     loop-less
     loop-again
