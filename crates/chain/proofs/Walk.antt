@@ -2,7 +2,7 @@
 -- link moves both on, the last one ends the walk, and the bound on the links keeps it inside the buffer. Assumes nothing.
 use mathlib.Core.Path.{_≡_, refl, sym, ap, ap₂, _∙_}
 use mathlib.Core.Bool.{Bool, true, false}
-use mathlib.Core.List.{List, [], _∷_, map, _++_}
+use mathlib.Core.List.{List, [], _∷_, _++_}
 use Prim.Native.Nat.{ℕ, zero, suc, _+_, _-_, _*_, _^_, _≤_, _<_}
 use native.Mathlib.Omega.{arith}
 use lib.ListN.{drop, length, length-drop, take}
@@ -12,13 +12,12 @@ use Rattle.word.proofs.Widths.{top-suc}
 use Rattle.rule.specs.declared.Rule.{Rule}
 use Rattle.rule.specs.Meaning.{AllLawful, fits}
 use Rattle.band.specs.declared.Band.{Band}
-use Rattle.band.specs.Band.{bandOf}
 use Rattle.bits.specs.declared.Fixed.{Fixed}
-use Rattle.bits.specs.Fixed.{fixedBits}
 use Rattle.verdict.specs.Kept.{kept}
 use Rattle.verdict.proofs.Right.{kept-right}
 use Rattle.chain.specs.declared.Link.{Link}
 use Rattle.chain.specs.Links.{numbersOf, linkAt, links, linksFrom}
+use Rattle.chain.specs.OfRules.{OfRules}
 use Rattle.chain.specs.OnBands.{linkOn}
 use Rattle.chain.proofs.Bound.{chain-bound}
 use Rattle.chain.proofs.Lists.{Next, next-of, paste-on}
@@ -34,17 +33,10 @@ none-fits w rs e x h = go (fits w rs x) refl
     go true d = absurd (kept-right w rs .none .0 e x (record { word = h; meets = d }))
     go false d = refl
 
--- the rules that the bands and the bits are those of
-pub record Sheet (n : ℕ) (bands : List Band) (fixed : Fixed) (w : ℕ) (rs : List Rule) : Type 0 where
-  pub lawful : AllLawful w rs
-  pub own : take n bands ≡ map (bandOf w) rs
-  pub bits : fixed ≡ fixedBits rs
-  pub no-fit : NoFit w rs
-
--- and so a step over those is the paper's
-pub own-link : (n : ℕ) (bands : List Band) (fixed : Fixed) (w : ℕ) (rs : List Rule) → 1 ≤ w → Sheet n bands fixed w rs → (p : ℕ) → p ≤ top w
-    → linkOn (take n bands) fixed (top w) p ≡ linkAt w rs p
-own-link n bands fixed w rs width h p word =
+-- a step over the bands and the bits of rules is the paper's
+pub own-link : (bands : List Band) (fixed : Fixed) (w : ℕ) (rs : List Rule) → 1 ≤ w → OfRules w bands fixed rs → (p : ℕ) → p ≤ top w
+    → linkOn bands fixed (top w) p ≡ linkAt w rs p
+own-link bands fixed w rs width h p word =
     ap₂ (λ (bs : List Band) (f : Fixed). linkOn bs f (top w) p) (h .own) (h .bits) ∙ link-law w width p word rs (h .lawful)
 
 -- so many links are written, and the next starts at p

@@ -11,11 +11,9 @@ use bits::Fixed;
 use rule::Rule;
 use word::Width;
 
+pub mod laid;
 mod reach;
 mod step;
-
-pub use step::gap;
-pub use step::put;
 
 // The furthest that a rule outside form 7 reaches from a word that fails it, and that rule's number.
 pub enum Far {
@@ -63,19 +61,10 @@ pub fn write(rules: [Rule; Rule::LIMIT], n: usize, width: Width, out: &mut [u64]
     ensures { λ r. ⌜ r ≡ length (links (width .bits) (take n rules)) ⌝ }
     ensures { λ r. ⌜ now (out .exit) ≡ numbersOf (links (width .bits) (take n rules)) ++ drop (3 * r) (now (out .entry)) ⌝ }
 {
-    let bands = verdict::bands::lay(rules, n, width);
+    let mut from = [0; Rule::LIMIT];
+    let mut to = [0; Rule::LIMIT];
+    let mut side = [false; Rule::LIMIT];
+    verdict::bands::lay(rules, n, width, &mut from, &mut to, &mut side);
     let fixed = Fixed::of(rules, n);
-    let top = width.top();
-    let mut count = 0;
-    let mut p = 0;
-    loop {
-        let link = step::link_at(bands, n, fixed, width, p);
-        step::put(&mut *out, Link::NUMBERS * count, link);
-        count += 1;
-        if link.to == top {
-            break;
-        }
-        p = link.to + 1;
-    }
-    count
+    laid::write(&from, &to, &side, n, fixed, width, &mut *out)
 }

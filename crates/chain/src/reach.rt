@@ -3,12 +3,10 @@ ghost use mathlib.Core.Path.{_≡_};
 ghost use Prim.Native.Nat.{_≤_};
 ghost use lib.ListN.{take};
 ghost use Rattle.word.specs.Word.{IsWidth, top};
-ghost use Rattle.rule.specs.Meaning.{RULES};
-ghost use Rattle.band.specs.Band.{AllLaid};
+ghost use Rattle.lent.specs.Lent.{Lie, zipped};
 ghost use Rattle.chain.specs.Links.{further};
 ghost use Rattle.chain.specs.OnBands.{furthestBand};
 use crate::Far;
-use band::Band;
 use rule::Rule;
 use word::Width;
 
@@ -32,16 +30,23 @@ impl Far {
 }
 
 // The furthest reach from p of the first n bands, and that band's number, the lowest on a tie.
-pub fn furthest(bands: [Band; Rule::LIMIT], n: usize, width: Width, p: u64) -> Far
+pub fn furthest(
+    from: &[u64; Rule::LIMIT],
+    to: &[u64; Rule::LIMIT],
+    side: &[bool; Rule::LIMIT],
+    n: usize,
+    width: Width,
+    p: u64,
+) -> Far
     requires { ⌜ IsWidth (width .bits) ⌝ }
-    requires { ⌜ (n ≤ RULES) × AllLaid (top (width .bits)) (take n bands) ⌝ }
+    requires { ⌜ Lie (top (width .bits)) n (zipped (now from) (now to) (now side)) ⌝ }
     requires { ⌜ p ≤ top (width .bits) ⌝ }
-    ensures { λ r. ⌜ r ≡ furthestBand (take n bands) (top (width .bits)) p ⌝ }
+    ensures { λ r. ⌜ r ≡ furthestBand (take n (zipped (now (from .entry)) (now (to .entry)) (now (side .entry)))) (top (width .bits)) p ⌝ }
 {
     let top = width.top();
     let mut far = Far::Nowhere;
     for i in 0..n {
-        let band = bands[i];
+        let band = lent::band_at(from, to, side, i, false, top);
         if !band.holds(p) {
             far = far.further(band.run(top, p).to, i as u64);
         }

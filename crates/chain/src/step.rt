@@ -4,27 +4,33 @@ ghost use mathlib.Core.List.{_++_, _∷_};
 ghost use Prim.Native.Nat.{_+_, _≤_};
 ghost use lib.ListN.{drop, length, take};
 ghost use Rattle.word.specs.Word.{IsWidth, top};
-ghost use Rattle.rule.specs.Meaning.{RULES};
-ghost use Rattle.band.specs.Band.{AllLaid};
 ghost use Rattle.bits.specs.Fixed.{Tidy};
+ghost use Rattle.lent.specs.Lent.{Lie, zipped};
 ghost use Rattle.chain.specs.OnBands.{gapOn, linkOn};
 use crate::Far;
 use crate::Link;
 use crate::reach;
-use band::Band;
 use bits::Fixed;
 use rule::Rule;
 use word::Found;
 use word::Width;
 
 // The link that starts at p.
-pub fn link_at(bands: [Band; Rule::LIMIT], n: usize, fixed: Fixed, width: Width, p: u64) -> Link
+pub fn link_at(
+    from: &[u64; Rule::LIMIT],
+    to: &[u64; Rule::LIMIT],
+    side: &[bool; Rule::LIMIT],
+    n: usize,
+    fixed: Fixed,
+    width: Width,
+    p: u64,
+) -> Link
     requires { ⌜ IsWidth (width .bits) ⌝ }
-    requires { ⌜ (n ≤ RULES) × AllLaid (top (width .bits)) (take n bands) ⌝ }
+    requires { ⌜ Lie (top (width .bits)) n (zipped (now from) (now to) (now side)) ⌝ }
     requires { ⌜ Tidy fixed × (p ≤ top (width .bits)) ⌝ }
-    ensures { λ r. ⌜ r ≡ linkOn (take n bands) fixed (top (width .bits)) p ⌝ }
+    ensures { λ r. ⌜ r ≡ linkOn (take n (zipped (now (from .entry)) (now (to .entry)) (now (side .entry)))) fixed (top (width .bits)) p ⌝ }
 {
-    match reach::furthest(bands, n, width, p) {
+    match reach::furthest(from, to, side, n, width, p) {
         Far::To { reach, rule } => Link {
             from: p,
             to: reach,

@@ -2,6 +2,7 @@
 -- bands left. Assumes nothing.
 use mathlib.Core.Path.{_≡_, refl, sym, ap, ap₂, _∙_, subst}
 use mathlib.Core.Logic.{⊎-elim}
+use mathlib.Core.List.{List}
 use Prim.Native.Nat.{ℕ, _-_, _≤_, _<_}
 use native.Mathlib.Numerals.{add-one}
 use native.Mathlib.Omega.{arith}
@@ -9,20 +10,23 @@ use borrow.Author.Needs.{needs}
 use borrow.Author.Tests.{not-false, not-true}
 use lib.ListN.{getD, length, take}
 use Rattle.band.specs.Band.{Laid}
-use Rattle.verdict.proofs.Steps.{laid-take}
-use Rattle.verdict.specs.Bands.{blankBand}
+use Rattle.band.specs.declared.Band.{Band}
+use Rattle.lent.proofs.Steps.{laid-take}
+use Rattle.lent.specs.Bands.{blankBand}
 use Rattle.chain.specs.declared.Far.{Far}
 use Rattle.chain.specs.Links.{further}
-use Rattle.chain.specs.OnBands.{furthestBand, furthestBandOf}
+use Rattle.chain.specs.OnBands.{furtherBand, furthestBand, furthestBandOf}
 use Rattle.chain.proofs.OnBands.{far-kept, far-new, furthest-suc}
+use Rattle.lent.specs.Lent.{seen, zipped}
+use Rattle.rule.specs.Meaning.{RULES}
 use Rattle.chain.proofs.reach.furthest.Statement.{statement}
 use Rattle.chain.proofs.reach.furthest.Tie as tie
 
 abbrev Inv-loop : tie.InvT-loop
-Inv-loop n p bands t far₀ i₀ far i = (i ≤ n) × (far ≡ furthestBand (take i bands) t p)
+Inv-loop from to side n p t far₀ i₀ far i = (i ≤ n) × (far ≡ furthestBand (take i (zipped from to side)) t p)
 
 abbrev μ-loop : tie.MeasureT-loop
-μ-loop n p bands t far₀ i₀ far i = n - i
+μ-loop from to side n p t far₀ i₀ far i = n - i
 
 top-requires : tie.Need-top-requires Inv-loop μ-loop
 top-requires c κs = search needs
@@ -31,21 +35,42 @@ loop-holds : tie.Need-loop-holds Inv-loop μ-loop
 unfolding furthestBand furthestBandOf
 loop-holds c = (omega arith, refl)
 
-mul-band : tie.Need-mul-band Inv-loop μ-loop
-mul-band c = search needs
+abbrev Loop : Type 0
+Loop = tie.At-loop Inv-loop μ-loop
 
-array-copy-out-band : tie.Need-array-copy-out-band Inv-loop μ-loop
-array-copy-out-band c = search needs
+-- the bands that lie in the arrays
+abbrev lying : Loop → List Band
+lying l = let s = l .before .before in zipped (s .args .from .now) (s .args .to .now) (s .args .side .now)
+
+long : (l : Loop) → length (lying l) ≡ RULES
+long l = l .before .before .pre .1 .0 .places
+
+one-laid : (l : Loop) → l .loop .i < l .before .before .args .n → Laid (l .before .top .result) (getD (lying l) (l .loop .i) blankBand)
+one-laid l h =
+    let s = l .before .before in
+    subst (λ (t : ℕ). Laid t (getD (lying l) (l .loop .i) blankBand)) (sym (l .before .top .ensures))
+    (laid-take _ (lying l) (s .args .n) (l .loop .i) blankBand h (omega (arith, long l, s .pre .1 .0 .count)) (s .pre .1 .0 .laid))
+
+band-at-requires : tie.Need-band-at-requires Inv-loop μ-loop
+band-at-requires c κs =
+    let l = c .before in
+    let h : l .loop .i < l .before .before .args .n = omega arith in
+    let few = l .before .before .pre .1 .0 .count in
+    ((omega arith, omega (arith, long l)), one-laid l h)
+
+read : (c : tie.After-band-at Inv-loop μ-loop) → c .band-at .result ≡ getD (lying (c .before .before)) (c .before .before .loop .i) blankBand
+unfolding seen
+read c = c .band-at .ensures
 
 holds-requires : tie.Need-holds-requires Inv-loop μ-loop
 holds-requires c κs = search needs
 
 run-requires : tie.Need-run-requires Inv-loop μ-loop
 run-requires c κs =
-    let l = c .before .before .before .before in
-    let s = l .before .before in (
-      subst (λ (t : ℕ). Laid t (getD (s .args .t1) (l .loop .i) blankBand)) (sym (l .before .top .ensures))
-          (laid-take _ (s .args .t1) (s .args .n) (l .loop .i) blankBand (omega arith) (omega arith) (s .pre .1 .0 .1)),
+    let b = c .before .before in
+    let l = b .before .before in
+    let h : l .loop .i < l .before .before .args .n = omega arith in (
+      subst (Laid _) (sym (read b)) (one-laid l h),
       omega arith,
       sym (c .before .holds .ensures) ∙ not-true _ (c .if1 .taken),
     )
@@ -61,24 +86,25 @@ loop-less c = search needs
 
 loop-again : tie.Need-loop-again Inv-loop μ-loop
 loop-again c =
-    let l = c .before .before .before .before in
+    let b = c .before .before in
+    let l = b .before .before in
     let s = l .before .before in
     let i = l .loop .i in
-    let bands = s .args .t1 in
     let t = l .before .top .result in
-    let there : i < length bands = omega arith in (
+    let there : i < length (lying l) = omega (arith, long l, s .pre .1 .0 .count) in (
       omega arith,
       ⊎-elim
           (λ a. a .3
           ∙ a .2 .ensures
           ∙ ap₂ (λ (f : Far) (q : ℕ). further f q i) (l .loop .inv .1) (a .1 .ensures .1)
-          ∙ sym (far-new t _ _ i (getD bands i blankBand) (sym (c .before .holds .ensures) ∙ not-true _ (a .0 .taken))))
+          ∙ sym (far-new t _ _ i (b .band-at .result) (sym (c .before .holds .ensures) ∙ not-true _ (a .0 .taken))))
           (λ a. a .1
           ∙ l .loop .inv .1
-          ∙ sym (far-kept t _ _ i (getD bands i blankBand) (sym (c .before .holds .ensures) ∙ not-false _ (a .0 .left))))
+          ∙ sym (far-kept t _ _ i (b .band-at .result) (sym (c .before .holds .ensures) ∙ not-false _ (a .0 .left))))
           (c .if1 .came)
-          ∙ sym (furthest-suc t (s .args .p) bands i blankBand there)
-          ∙ ap (λ (j : ℕ). furthestBand (take j bands) t (s .args .p)) (sym (add-one i)),
+          ∙ ap (furtherBand t (s .args .p) (furthestBand (take i (lying l)) t (s .args .p)) i) (read b)
+          ∙ sym (furthest-suc t (s .args .p) (lying l) i blankBand there)
+          ∙ ap (λ (j : ℕ). furthestBand (take j (lying l)) t (s .args .p)) (sym (add-one i)),
     )
 
 returns : tie.Need-returns Inv-loop μ-loop
@@ -86,7 +112,7 @@ returns c =
     let l = c .before in
     let s = l .before .before in
     let e : l .loop .i ≡ s .args .n = omega arith in
-    l .loop .inv .1 ∙ ap₂ (λ (i t : ℕ). furthestBand (take i (s .args .t1)) t (s .args .p)) e (l .before .top .ensures)
+    l .loop .inv .1 ∙ ap₂ (λ (i t : ℕ). furthestBand (take i (lying l)) t (s .args .p)) e (l .before .top .ensures)
 
 pub furthest-spec : {M : Type 1} → statement M
 furthest-spec =
@@ -96,8 +122,7 @@ furthest-spec =
     μ-loop
     top-requires
     loop-holds
-    mul-band
-    array-copy-out-band
+    band-at-requires
     holds-requires
     run-requires
     further-requires

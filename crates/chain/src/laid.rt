@@ -1,20 +1,18 @@
-// The chain of links that shows why no word fits, written from bands in lent arrays into a lent buffer.
+// The chain written from bands that lie in lent arrays.
 ghost use mathlib.Core.Path.{_≡_};
 ghost use mathlib.Core.List.{List, _++_};
 ghost use Prim.Native.Nat.{_*_, _≤_};
 ghost use lib.ListN.{drop, length, take};
 ghost use Rattle.word.specs.Word.{IsWidth, top};
 ghost use Rattle.rule.specs.declared.Rule.{Rule as RuleOf};
-ghost use Rattle.chain.specs.Links.{chainRoom, links, numbersOf};
 ghost use Rattle.lent.specs.Lent.{Lie, zipped};
-ghost use Rattle.lent_chain.specs.OfRules.{OfRules};
+ghost use Rattle.chain.specs.Links.{chainRoom, links, numbersOf};
+ghost use Rattle.chain.specs.OfRules.{OfRules};
+use crate::Link;
+use crate::step;
 use bits::Fixed;
-use chain::Link;
 use rule::Rule;
 use word::Width;
-
-mod reach;
-mod step;
 
 // Writes the chain of the first n bands and the bits, which no word passes, three numbers a link, and says how many links it has.
 pub fn write(
@@ -37,7 +35,7 @@ pub fn write(
     let mut p = 0;
     loop {
         let link = step::link_at(from, to, side, n, fixed, width, p);
-        chain::put(&mut *out, Link::NUMBERS * count, link);
+        step::put(&mut *out, Link::NUMBERS * count, link);
         count += 1;
         if link.to == top {
             break;

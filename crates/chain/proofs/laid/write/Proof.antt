@@ -13,13 +13,13 @@ use Rattle.band.specs.declared.Band.{Band}
 use Rattle.band.specs.Band.{bandOf}
 use Rattle.bits.specs.Fixed.{Tidy}
 use Rattle.bits.proofs.Joined.{fixed-tidy}
 use Rattle.chain.specs.Links.{linkAt}
 use Rattle.chain.proofs.Steps.{NoFit}
 use Rattle.chain.proofs.Walk.{Walked, link-order, none-fits, own-link, walk-end, walk-on, walk-room, walk-start}
 use Rattle.lent.specs.Lent.{zipped}
-use Rattle.lent_chain.specs.OfRules.{OfRules}
-use Rattle.lent_chain.proofs.write.Statement.{statement}
-use Rattle.lent_chain.proofs.write.Tie as tie
+use Rattle.chain.specs.OfRules.{OfRules}
+use Rattle.chain.proofs.laid.write.Statement.{statement}
+use Rattle.chain.proofs.laid.write.Tie as tie
 
 abbrev Inv-loop : tie.InvT-loop
 Inv-loop from to side n fixed width out₀ t count₀ p₀ out count p =
@@ -92,8 +92,7 @@ here : (a : tie.After-link-at Inv-loop μ-loop) (r : List Rule)
 here a r h =
     let s = start (a .before) in
     a .link-at .ensures
-    ∙ own-link (s .args .n) (lying (a .before)) (s .args .fixed) (s .args .width .bits) r (s .pre .0 .low)
-    (record { lawful = h .lawful; own = h .own; bits = h .bits; no-fit = no-fit (a .before) r h }) _ (word (a .before))
+    ∙ own-link (take (s .args .n) (lying (a .before))) (s .args .fixed) (s .args .width .bits) r (s .pre .0 .low) h _ (word (a .before))
 
 -- the link starts at p and ends at a word
 order : (a : tie.After-link-at Inv-loop μ-loop)
