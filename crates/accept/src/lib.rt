@@ -1,39 +1,9 @@
 // Whether a rule is accepted at a width, and whether a place has no rule.
 ghost use mathlib.Core.Path.{_≡_};
-ghost use Prim.Native.Nat.{_≤_};
-ghost use lib.ListN.{drop, length, take};
 ghost use Rattle.word.specs.Word.{IsWidth};
-ghost use Rattle.rule.specs.Meaning.{RULES};
-ghost use Rattle.accept.specs.Accept.{acceptable, badConstant, badForm, badSense, every, isNoRule, refusalOf, strayBit};
+ghost use Rattle.accept.specs.Accept.{badConstant, badForm, badSense, isNoRule, refusalOf, strayBit};
 use rule::Rule;
 use word::Width;
-
-// Whether none of the first n rules would be refused.
-pub fn all_acceptable(rules: [Rule; Rule::LIMIT], n: usize, width: Width) -> bool
-    requires { ⌜ IsWidth (width .bits) ⌝ }
-    requires { ⌜ n ≤ RULES ⌝ }
-    ensures { λ r. ⌜ r ≡ every (acceptable (width .bits)) (take n rules) ⌝ }
-{
-    for i in 0..n {
-        if refusal_of(rules[i], width) != 0 {
-            return false;
-        }
-    }
-    true
-}
-
-// Whether there is no rule from place n on.
-pub fn all_no_rule(rules: [Rule; Rule::LIMIT], n: usize) -> bool
-    requires { ⌜ n ≤ RULES ⌝ }
-    ensures { λ r. ⌜ (r ≡ every isNoRule (drop n rules)) × (length rules ≡ RULES) ⌝ }
-{
-    for i in n..Rule::LIMIT {
-        if !is_no_rule(rules[i]) {
-            return false;
-        }
-    }
-    true
-}
 
 // The number with which a rule is refused at a width, or 0: 3 before 4, and 4 before 5.
 pub fn refusal_of(rule: Rule, width: Width) -> u64

@@ -1,4 +1,5 @@
-// Rules in a lent array of numbers, four to a rule. Only reading a rule and putting one know how they lie.
+// Rules in a lent array of numbers, four to a rule, with their bands and bits; and marks in another. Only reading a rule and putting one
+// know how rules lie.
 ghost use mathlib.Core.Path.{_≡_};
 ghost use mathlib.Core.List.{_++_};
 ghost use Prim.Native.Nat.{_-_, _≤_, _<_};
@@ -7,6 +8,14 @@ ghost use Rattle.word.specs.Word.{IsWidth};
 ghost use Rattle.rule.specs.Meaning.{RULES};
 ghost use Rattle.accept.specs.Accept.{acceptable, every, isNoRule};
 ghost use Rattle.places.specs.Places.{noRule, rulesIn};
+
+mod drawing;
+mod marks;
+
+pub use drawing::bits_of;
+pub use drawing::draw;
+pub use marks::all_zero;
+pub use marks::marked_so;
 use rule::Rule;
 use word::Width;
 

@@ -1,0 +1,133 @@
+-- The number that a call is given, computed from the table's tests down to the first that passes, and what the tests have
+-- said where no number is given; and the page after a call, which is the clerk's or, where it is refused, the one before.
+-- Assumes nothing.
+use mathlib.Core.Path.{_≡_, refl, sym, _∙_}
+use mathlib.Core.Bool.{Bool, _&&_, and-false, cond}
+use mathlib.Core.List.{[], _∷_}
+use Prim.Native.Nat.{ℕ, _≤_, _<_}
+use native.Mathlib.Decide.{ℕ-discrete}
+use native.Mathlib.Omega.{arith}
+use borrow.Author.Tests.{eq-eqb, le-leb, le-ltb, leb-false, leb-true, lt-leb, lt-ltb, ne-eqb, not-false}
+use lib.Dec.{eqb, leb}
+use lib.ListN.{length}
+use Rattle.word.proofs.Tests.{both-pass}
+use Rattle.rule.specs.declared.Rule.{Rule}
+use Rattle.rule.specs.Meaning.{RULES}
+use Rattle.accept.specs.Accept.{refusalOf}
+use Rattle.accept.proofs.Grounds.{none-given, rule-first}
+use Rattle.chain.specs.Links.{chainRoom}
+use Rattle.page.specs.Calls.{Call, add, after, ask, back, firstThatApplies, ground, grounds, isBlank, mark, marksOf, open-at, refusal, rulesOf, written}
+use Rattle.page.specs.Page.{MARKS, OpenPage, Opening, Page, WIDEST, entriesOf, marksOn, no-page, page, rulesOn, widthOf}
+
+-- ---- opening
+
+module _ (pg : Page) (g : Opening) where
+  pub open-narrow : g .width < 1 → refusal pg (open-at g) ≡ 2
+  unfolding refusal grounds firstThatApplies
+  open-narrow h = rw (lt-leb 1 (g .width) h)
+
+  pub open-wide : WIDEST < g .width → refusal pg (open-at g) ≡ 2
+  unfolding refusal grounds firstThatApplies
+  open-wide h = rw (lt-leb (g .width) WIDEST h, and-false)
+
+  pub open-fits : 1 ≤ g .width → g .width ≤ WIDEST → refusal pg (open-at g) ≡ 0
+  unfolding refusal grounds firstThatApplies
+  open-fits l h = rw (le-leb 1 (g .width) l, le-leb (g .width) WIDEST h)
+
+  pub opened-width : refusal pg (open-at g) ≡ 0 → (1 ≤ g .width) × (g .width ≤ WIDEST)
+  unfolding refusal grounds
+  opened-width e =
+      let w : ℕ = g .width in
+      let t = both-pass (leb 1 w) (leb w WIDEST) (not-false (leb 1 w && leb w WIDEST) (none-given 1 _ _ e .0)) in
+      (leb-true 1 w (t .0), leb-true w WIDEST (t .1))
+
+-- ---- the blank sheet
+
+pub blank-add : (r : Rule) → refusal no-page (add r) ≡ 1
+unfolding refusal grounds firstThatApplies isBlank
+blank-add r = refl
+
+pub blank-mark : refusal no-page mark ≡ 1
+unfolding refusal grounds firstThatApplies isBlank
+blank-mark = refl
+
+pub blank-back : refusal no-page back ≡ 1
+unfolding refusal grounds firstThatApplies isBlank
+blank-back = refl
+
+pub blank-ask : (m : ℕ) → refusal no-page (ask m) ≡ 1
+unfolding refusal grounds firstThatApplies isBlank
+blank-ask m = refl
+
+-- ---- a page
+
+module _ (o : OpenPage) where
+  module _ (r : Rule) where
+    -- the number that the rule has by itself, and whether there is no place for it
+    abbrev own : ℕ
+    own = refusalOf (o .opening .width) r
+
+    abbrev full : Bool
+    full = leb RULES (length (rulesOn (o .entries)))
+
+    add-first : refusal (page o) (add r) ≡ cond (eqb own 0) (firstThatApplies (ground 6 full ∷ [])) own
+    unfolding refusal grounds firstThatApplies isBlank widthOf rulesOf entriesOf
+    add-first = rule-first (o .opening .width) r (ground 6 full ∷ [])
+
+    pub add-bad : (own ≡ 0 → ⊥) → refusal (page o) (add r) ≡ own
+    add-bad z = rw (add-first, ne-eqb own 0 z)
+
+    pub add-full : own ≡ 0 → RULES ≤ length (rulesOn (o .entries)) → refusal (page o) (add r) ≡ 6
+    unfolding firstThatApplies
+    add-full z h = rw (add-first, eq-eqb own 0 z, le-leb RULES (length (rulesOn (o .entries))) h)
+
+    pub add-fits : own ≡ 0 → length (rulesOn (o .entries)) < RULES → refusal (page o) (add r) ≡ 0
+    unfolding firstThatApplies
+    add-fits z h = rw (add-first, eq-eqb own 0 z, lt-leb RULES (length (rulesOn (o .entries))) h)
+
+    pub added-rule : refusal (page o) (add r) ≡ 0 → (own ≡ 0) × (length (rulesOn (o .entries)) < RULES)
+    added-rule e = go (ℕ-discrete own 0)
+      where
+        go : Dec (own ≡ 0) → (own ≡ 0) × (length (rulesOn (o .entries)) < RULES)
+        go (yes z) =
+            let q : firstThatApplies (ground 6 full ∷ []) ≡ 0 = rw (add-first, eq-eqb own 0 z) at e in
+            (z, leb-false RULES (length (rulesOn (o .entries))) (none-given 5 full [] q .0))
+        go (no z) = absurd (z (sym (add-bad z) ∙ e))
+
+  pub mark-full : MARKS ≤ length (marksOn (o .entries)) → refusal (page o) mark ≡ 7
+  unfolding refusal grounds firstThatApplies isBlank marksOf entriesOf
+  mark-full h = rw (le-leb MARKS (length (marksOn (o .entries))) h)
+
+  pub mark-fits : length (marksOn (o .entries)) < MARKS → refusal (page o) mark ≡ 0
+  unfolding refusal grounds firstThatApplies isBlank marksOf entriesOf
+  mark-fits h = rw (lt-leb MARKS (length (marksOn (o .entries))) h)
+
+  pub marked-room : refusal (page o) mark ≡ 0 → length (marksOn (o .entries)) < MARKS
+  unfolding refusal grounds isBlank marksOf entriesOf
+  marked-room e = leb-false MARKS (length (marksOn (o .entries))) (none-given 6 _ _ (none-given 0 _ _ e .1) .0)
+
+  pub back-none : length (marksOn (o .entries)) ≡ 0 → refusal (page o) back ≡ 8
+  unfolding refusal grounds firstThatApplies isBlank marksOf entriesOf
+  back-none h = rw (eq-eqb (length (marksOn (o .entries))) 0 h)
+
+  pub back-fits : 0 < length (marksOn (o .entries)) → refusal (page o) back ≡ 0
+  unfolding refusal grounds firstThatApplies isBlank marksOf entriesOf
+  back-fits h = rw (ne-eqb (length (marksOn (o .entries))) 0 (λ e. omega arith))
+
+  pub ask-short : (m : ℕ) → m < chainRoom (length (rulesOn (o .entries))) → refusal (page o) (ask m) ≡ 9
+  unfolding refusal grounds firstThatApplies isBlank rulesOf entriesOf
+  ask-short m h = rw (lt-ltb m (chainRoom (length (rulesOn (o .entries)))) h)
+
+  pub ask-fits : (m : ℕ) → chainRoom (length (rulesOn (o .entries))) ≤ m → refusal (page o) (ask m) ≡ 0
+  unfolding refusal grounds firstThatApplies isBlank rulesOf entriesOf
+  ask-fits m h = rw (le-ltb m (chainRoom (length (rulesOn (o .entries)))) h)
+
+-- ---- the page after a call
+
+pub after-refused : (pg : Page) (c : Call) → (refusal pg c ≡ 0 → ⊥) → after pg c ≡ pg
+unfolding after
+after-refused pg c n = rw (ne-eqb (refusal pg c) 0 n, after)
+
+pub after-accepted : (pg : Page) (c : Call) → refusal pg c ≡ 0 → after pg c ≡ written pg c
+unfolding after
+after-accepted pg c e = rw (eq-eqb (refusal pg c) 0 e, after)

@@ -1,0 +1,87 @@
+-- The calls, when each is refused, and what the clerk then writes (01, "When the desk says no").
+use mathlib.Core.Bool.{Bool, true, false, not, _&&_}
+use mathlib.Core.List.{List, [], _∷_, _++_}
+use Prim.Native.Nat.{ℕ}
+use lib.Dec.{eqb, leb, ltb}
+use lib.ListN.{length}
+use Rattle.rule.specs.declared.Rule.{Rule}
+use Rattle.rule.specs.Meaning.{RULES}
+use Rattle.accept.specs.Accept.{ruleGrounds}
+pub use Rattle.accept.specs.Grounds.{Ground, ground}
+unfoldable pub use Rattle.accept.specs.Grounds.{firstThatApplies}
+use Rattle.chain.specs.Links.{chainRoom}
+use Rattle.page.specs.Page.{Entry, MARKS, Opening, Page, WIDEST, a-mark, a-rule, entriesOf, marksOn, newPage, no-page, page, rulesOn, struck, widthOf, withEntries}
+
+-- a call with what it is handed: of the buffer, only its length counts
+pub data Call : Type 0 where
+  open-at : Opening → Call
+  add : Rule → Call
+  mark : Call
+  back : Call
+  ask : (room : ℕ) → Call
+
+unfoldable pub isBlank : Page → Bool
+isBlank no-page = true
+isBlank (page o) = false
+
+-- the rules and the marks in force
+unfoldable pub rulesOf : Page → List Rule
+rulesOf pg = rulesOn (entriesOf pg)
+
+unfoldable pub marksOf : Page → List ℕ
+marksOf pg = marksOn (entriesOf pg)
+
+-- the table, a row for each number, of a call on the sheet that a page gives (3, 4 and 5: `ruleGrounds`)
+unfoldable pub grounds : Page → Call → List Ground
+grounds pg (open-at g) = ground 2 (not (leb 1 (g .width) && leb (g .width) WIDEST)) ∷ []
+grounds pg (add r) =
+    ground 1 (isBlank pg) ∷ (ruleGrounds (widthOf pg) r ++ ground 6 (leb RULES (length (rulesOf pg))) ∷ [])
+grounds pg mark = ground 1 (isBlank pg) ∷ ground 7 (leb MARKS (length (marksOf pg))) ∷ []
+grounds pg back = ground 1 (isBlank pg) ∷ ground 8 (eqb (length (marksOf pg)) 0) ∷ []
+grounds pg (ask m) = ground 1 (isBlank pg) ∷ ground 9 (ltb m (chainRoom (length (rulesOf pg)))) ∷ []
+
+-- the number that is given, 0 where the call is accepted
+unfoldable pub refusal : Page → Call → ℕ
+refusal pg c = firstThatApplies (grounds pg c)
+
+-- a page whose entries the clerk changes so
+unfoldable pub changed : Page → (List Entry → List Entry) → Page
+changed no-page f = no-page
+changed (page o) f = page (withEntries o (f (o .entries)))
+
+-- what the clerk does at an accepted call: a new page, one entry more, the strikes of a step back, or nothing
+unfoldable pub written : Page → Call → Page
+written pg (open-at g) = page (newPage g)
+written pg (add r) = changed pg (λ es. a-rule r ∷ es)
+written pg mark = changed pg (λ es. a-mark ∷ es)
+written pg back = changed pg struck
+written pg (ask m) = pg
+
+-- the page after a call, accepted or refused
+unfoldable pub after : Page → Call → Page
+after pg c = elim (eqb (refusal pg c) 0) [ true ↦ written pg c | false ↦ pg ]
+
+-- the page after calls, the first one first
+unfoldable pub clerk : Page → List Call → Page
+clerk pg [] = pg
+clerk pg (c ∷ cs) = clerk (after pg c) cs
+
+-- none of these calls is refused
+unfoldable pub accepts : Page → List Call → Bool
+accepts pg [] = true
+accepts pg (c ∷ cs) = eqb (refusal pg c) 0 && accepts (after pg c) cs
+
+-- the call that writes an entry
+unfoldable pub enters : Entry → Call
+enters (a-rule r) = add r
+enters a-mark = mark
+
+-- the calls that give what stands, the oldest entry first
+unfoldable pub gives : List Entry → List Call
+gives [] = []
+gives (e ∷ es) = gives es ++ enters e ∷ []
+
+-- "one freshly opened and given what stands on a clerk's page": the calls that a page replays
+unfoldable pub replay : Page → List Call
+replay no-page = []
+replay (page o) = open-at (o .opening) ∷ gives (o .entries)

@@ -1,0 +1,4 @@
+pub mod Calls
+pub mod Page
+pub mod Reached
+pub mod Shape
