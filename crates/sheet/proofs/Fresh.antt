@@ -11,9 +11,10 @@ use Rattle.rule.specs.declared.Rule.{Rule}
 use Rattle.rule.specs.Meaning.{RULES}
 use Rattle.verdict.specs.Kept.{kept}
 use Rattle.sheet.specs.declared.Sheet.{Sheet}
-use Rattle.sheet.specs.Page.{Entry, MARKS, OpenPage, a-mark, a-rule, fresh, marksOn, noRule, padded, page, rulesOn, struck, withEntries}
-use Rattle.sheet.proofs.Lawful.{LawfulOpen}
-use Rattle.sheet.proofs.Struck.{count-left, marks-left-length, marks-split, newest, newest-low, rules-left}
+use Rattle.page.specs.Page.{Entry, MARKS, OpenPage, a-mark, a-rule, marksOn, noRule, padded, page, rulesOn, struck, withEntries}
+use Rattle.sheet.specs.Record.{fresh}
+use Rattle.page.proofs.Lawful.{LawfulOpen}
+use Rattle.page.proofs.Struck.{count-left, marks-left-length, marks-split, newest, newest-low, rules-left}
 
 -- ---- places not in use
 

@@ -8,10 +8,11 @@ use native.Mathlib.Omega.{arith}
 use lib.ListN.{getD, length, length-append, take}
 use lib.Seq.{getD-append-seam, getD-at, take-append-seam, take-at}
 use Rattle.rule.specs.declared.Rule.{Rule}
-use Rattle.sheet.specs.Page.{Entry, Page, a-mark, a-rule, fresh, marksOn, no-page, page, rulesOn, struck}
-use Rattle.sheet.specs.Statements.{Reached}
-use Rattle.sheet.proofs.Lawful.{LawfulPage, reached-lawful}
-use Rattle.sheet.proofs.Struck.{count-left, marks-split, newest-low}
+use Rattle.page.specs.Page.{Entry, Page, a-mark, a-rule, marksOn, no-page, page, rulesOn, struck}
+use Rattle.sheet.specs.Record.{fresh}
+use Rattle.page.specs.Reached.{Reached}
+use Rattle.page.proofs.Lawful.{LawfulPage, reached-lawful}
+use Rattle.page.proofs.Struck.{count-left, marks-split, newest-low}
 use Rattle.sheet.proofs.Fresh.{given}
 
 module _ {A : Type 0} where

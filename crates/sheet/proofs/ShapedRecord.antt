@@ -16,8 +16,9 @@ use Rattle.accept.specs.Accept.{acceptable, every, isNoRule}
 use Rattle.accept.proofs.Every.{even-every, every-even}
 use Rattle.verdict.specs.declared.Kept.{Kept}
 use Rattle.sheet.specs.declared.Sheet.{Sheet}
-use Rattle.sheet.specs.Page.{MARKS, noRule, padded}
-use Rattle.sheet.specs.Shape.{isZero, marksShaped, rising, rulesShaped, wellShaped}
+use Rattle.page.specs.Page.{MARKS, noRule, padded}
+use Rattle.page.specs.Shape.{isZero, marksShaped, rising, rulesShaped}
+use Rattle.sheet.specs.Shape.{wellShaped}
 
 -- the record with these rules and marks, and zeros in the other places
 abbrev pub filled : (w : ℕ) → List Rule → List ℕ → Kept → Sheet

@@ -9,13 +9,15 @@ use Rattle.word.specs.Word.{IsWidth}
 use Rattle.rule.specs.declared.Rule.{Rule}
 use Rattle.rule.specs.Meaning.{AllLawful}
 use Rattle.sheet.specs.declared.Sheet.{Sheet}
-use Rattle.sheet.specs.Calls.{Call, add, back, changed, refusal, written}
-use Rattle.sheet.specs.Page.{Page, a-rule, fresh, marksOn, no-page, page, struck, withEntries}
+use Rattle.page.specs.Calls.{Call, add, back, changed, refusal, written}
+use Rattle.page.specs.Page.{Page, a-rule, marksOn, no-page, page, struck, withEntries}
+use Rattle.sheet.specs.Record.{fresh}
 use Rattle.sheet.specs.Stands.{RuleSeen, Standing, Stands, before-table, blank-sheet, by-table, no-sheet, on-page}
-use Rattle.sheet.specs.Statements.{IsSheet, Reached, Reads, answers, start, step}
+use Rattle.sheet.specs.Statements.{IsSheet, Reads, answers}
+use Rattle.page.specs.Reached.{Reached, start, step}
 use Rattle.sheet.proofs.Fresh.{Given, after-add, after-back, given, steppedBack, withRule}
-use Rattle.sheet.proofs.Lawful.{lawful-rules, lawful-width, reached-lawful}
-use Rattle.sheet.proofs.Refusals.{added-rule, back-fits, blank-add}
+use Rattle.page.proofs.Lawful.{lawful-rules, lawful-width, reached-lawful}
+use Rattle.page.proofs.Refusals.{added-rule, back-fits, blank-add}
 use Rattle.sheet.proofs.Ways.{refused-reads}
 
 pub is-blank : {s : Sheet} → IsSheet s → s .width ≡ 0 → Stands s 1

@@ -18,13 +18,15 @@ use Rattle.accept.specs.Accept.{every, isNoRule}
 use Rattle.verdict.specs.declared.Kept.{Kept}
 use Rattle.verdict.specs.Kept.{keeps, kept}
 use Rattle.sheet.specs.declared.Sheet.{Sheet}
-use Rattle.sheet.specs.Page.{MARKS, OpenPage, Page, WIDEST, at-width, fresh, marksOn, newPage, no-page, page, rulesOn, withEntries}
-use Rattle.sheet.specs.Shape.{isSheet, marksShaped, rising, rulesShaped, sameKept, wellShaped}
+use Rattle.page.specs.Page.{MARKS, OpenPage, Page, WIDEST, at-width, marksOn, newPage, no-page, page, rulesOn, withEntries}
+use Rattle.sheet.specs.Record.{fresh}
+use Rattle.sheet.specs.Shape.{isSheet, sameKept, wellShaped}
+use Rattle.page.specs.Shape.{marksShaped, rising, rulesShaped}
 use Rattle.sheet.specs.Statements.{IsSheet}
-use Rattle.sheet.specs.Statements.Reached.{start}
+use Rattle.page.specs.Reached.Reached.{start}
 use Rattle.sheet.proofs.Fresh.{given}
-use Rattle.sheet.proofs.Lawful.{LawfulPage, lawful-reached, reached-lawful}
-use Rattle.sheet.proofs.ShapedMarks.{shaped-entered, shaped-marks-rise}
+use Rattle.page.proofs.Lawful.{LawfulPage, lawful-reached, reached-lawful}
+use Rattle.page.proofs.ShapedMarks.{shaped-entered, shaped-marks-rise}
 use Rattle.sheet.proofs.ShapedRecord.{ShapedSheet, filled, marksIn, rulesIn, shaped-filled, shaped-sheet}
 
 same-passes : (k : Kept) → sameKept k k ≡ true

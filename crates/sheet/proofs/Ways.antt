@@ -6,10 +6,12 @@ use Prim.Native.Nat.{ℕ}
 use borrow.Author.Tests.{eq-eqb, ne-eqb}
 use Rattle.sheet.specs.declared.Answer.{Answer}
 use Rattle.sheet.specs.declared.Sheet.{Sheet}
-use Rattle.sheet.specs.Calls.{Call, after, open-at, refusal, written}
-use Rattle.sheet.specs.Page.{Opening, Page, fresh, newPage, no-page, page}
-use Rattle.sheet.specs.Statements.{Reached, Reads, answers, opened}
-use Rattle.sheet.proofs.Refusals.{after-accepted, after-refused}
+use Rattle.page.specs.Calls.{Call, after, open-at, refusal, written}
+use Rattle.page.specs.Page.{Opening, Page, newPage, no-page, page}
+use Rattle.sheet.specs.Record.{fresh}
+use Rattle.page.specs.Reached.{Reached}
+use Rattle.sheet.specs.Statements.{Reads, answers, opened}
+use Rattle.page.proofs.Refusals.{after-accepted, after-refused}
 use Rattle.sheet.proofs.OnePage.{one-page}
 
 module _ (pg : Page) (h : Reached pg) {s : Sheet} (e : s ≡ fresh pg) (c : Call) where

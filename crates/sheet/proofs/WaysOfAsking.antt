@@ -15,12 +15,14 @@ use Rattle.chain.specs.Findings.{findings, chainFor}
 use Rattle.chain.specs.Links.{chainRoom, numbersOf, links}
 use Rattle.sheet.specs.declared.Reply.{Reply}
 use Rattle.sheet.specs.declared.Sheet.{Sheet}
-use Rattle.sheet.specs.Calls.{ask, refusal, rulesOf}
-use Rattle.sheet.specs.Page.{Page, entriesOf, fresh, no-page, rulesOn, widthOf}
+use Rattle.page.specs.Calls.{ask, refusal, rulesOf}
+use Rattle.page.specs.Page.{Page, entriesOf, no-page, rulesOn, widthOf}
+use Rattle.sheet.specs.Record.{fresh}
 use Rattle.sheet.specs.Stands.{Standing, Stands, blank-sheet, no-sheet, on-page}
-use Rattle.sheet.specs.Statements.{Asked, Reached, chainOn, overlaid, refuses, replies, reply, start}
+use Rattle.sheet.specs.Statements.{Asked, chainOn, overlaid, refuses, replies, reply}
+use Rattle.page.specs.Reached.{Reached, start}
 use Rattle.sheet.proofs.OnePage.{one-page}
-use Rattle.sheet.proofs.Refusals.{ask-fits, ask-short, blank-ask}
+use Rattle.page.proofs.Refusals.{ask-fits, ask-short, blank-ask}
 use Rattle.sheet.proofs.Stands.{known}
 
 -- what holds of the one page is all that is asked

@@ -1,6 +1,6 @@
-pub mod Calls
-pub mod Demands
-pub mod Page
+pub mod Held
+pub mod Laid
+pub mod Record
 pub mod Shape
 pub mod Stands
 pub mod Statements

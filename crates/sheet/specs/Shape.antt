@@ -3,38 +3,22 @@
 -- the rules in force, that the other places hold zeros, and what is kept.
 use mathlib.Core.Path.{_≡_}
 use mathlib.Core.Bool.{Bool, _&&_, cond}
-use mathlib.Core.List.{List, [], _∷_}
+use mathlib.Core.List.{List}
 use Prim.Native.Nat.{ℕ}
 use lib.Dec.{eqb, leb}
-use lib.ListN.{drop, length, take}
+use lib.ListN.{length, take}
 use Rattle.rule.specs.declared.Rule.{Rule}
 use Rattle.rule.specs.Meaning.{RULES}
-use Rattle.accept.specs.Accept.{acceptable, every, isNoRule}
 use Rattle.verdict.specs.declared.Kept.{Kept}
 use Rattle.verdict.specs.Kept.{keeps, kept}
 use Rattle.sheet.specs.declared.Sheet.{Sheet}
-use Rattle.sheet.specs.Page.{MARKS, WIDEST}
+use Rattle.page.specs.Page.{MARKS, WIDEST}
+use Rattle.page.specs.Shape.{marksShaped, rulesShaped}
 
 -- as many places as a record has
 pub record Whole (rs : List Rule) (ms : List ℕ) : Type 0 where
   pub rules-length : length rs ≡ RULES
   pub marks-length : length ms ≡ MARKS
-
--- n acceptable rules, and no rule after them
-unfoldable pub rulesShaped : (w n : ℕ) → List Rule → Bool
-rulesShaped w n rs = every (acceptable w) (take n rs) && every isNoRule (drop n rs)
-
--- the numbers rise, from low on and up to high
-unfoldable pub rising : (low : ℕ) → List ℕ → (high : ℕ) → Bool
-rising low [] high = leb low high
-rising low (m ∷ ms) high = leb low m && rising m ms high
-
-abbrev pub isZero : ℕ → Bool
-isZero n = eqb n 0
-
--- m marks that rise up to n rules, and zeros after them
-unfoldable pub marksShaped : (n m : ℕ) → List ℕ → Bool
-marksShaped n m ms = rising 0 (take m ms) n && every isZero (drop m ms)
 
 unfoldable pub sameKept : Kept → Kept → Bool
 sameKept k l =

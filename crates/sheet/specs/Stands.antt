@@ -3,9 +3,11 @@ use mathlib.Core.Path.{_≡_}
 use Prim.Native.Nat.{ℕ}
 use Rattle.rule.specs.declared.Rule.{Rule}
 use Rattle.sheet.specs.declared.Sheet.{Sheet}
-use Rattle.sheet.specs.Calls.{add, refusal}
-use Rattle.sheet.specs.Page.{OpenPage, fresh, no-page, page}
-use Rattle.sheet.specs.Statements.{IsSheet, Reached}
+use Rattle.page.specs.Calls.{add, refusal}
+use Rattle.page.specs.Page.{OpenPage, no-page, page}
+use Rattle.sheet.specs.Record.{fresh}
+use Rattle.sheet.specs.Statements.{IsSheet}
+use Rattle.page.specs.Reached.{Reached}
 
 -- a sheet that is not blank, with its page
 pub record Standing (s : Sheet) : Type 0 where

@@ -1,4 +1,4 @@
--- What each call promises, and the three demands over any list of calls.
+-- What each call promises, and calls one after another.
 use mathlib.Core.Path.{_≡_}
 use mathlib.Core.Bool.{cond}
 use mathlib.Core.List.{List, [], _∷_, _++_}
@@ -13,13 +13,10 @@ use Rattle.chain.specs.Findings.{findings}
 use Rattle.sheet.specs.declared.Answer.{Answer}
 use Rattle.sheet.specs.declared.Reply.{Reply}
 use Rattle.sheet.specs.declared.Sheet.{Sheet}
-use Rattle.sheet.specs.Calls.{Call, add, after, ask, back, mark, open-at, refusal, rulesOf, written}
-use Rattle.sheet.specs.Page.{Opening, Page, fresh, newPage, no-page, page, widthOf}
-
--- the pages that accepted calls give
-pub data Reached : Page → Type 0 where
-  start : Reached no-page
-  step : {pg : Page} → Reached pg → (c : Call) → refusal pg c ≡ 0 → Reached (written pg c)
+use Rattle.page.specs.Calls.{Call, add, after, ask, back, mark, open-at, refusal, rulesOf}
+use Rattle.page.specs.Page.{Opening, Page, newPage, no-page, page, widthOf}
+use Rattle.page.specs.Reached.{Reached}
+use Rattle.sheet.specs.Record.{fresh}
 
 -- "A record is a sheet when some page of accepted calls gives it, kept numbers included; the blank one is a sheet."
 pub record IsSheet (s : Sheet) : Type 0 where

@@ -1,15 +1,15 @@
 // Going back to the newest mark.
-ghost use mathlib.Core.Path.{_≡_};
-ghost use mathlib.Core.List.{_++_};
-ghost use Prim.Native.Nat.{_-_, _≤_};
-ghost use lib.ListN.{replicate, take};
-ghost use Rattle.rule.specs.Meaning.{RULES};
-ghost use Rattle.sheet.specs.Calls.{back};
-ghost use Rattle.sheet.specs.Page.{noRule};
+ghost use Rattle.page.specs.Calls.{back};
+ghost use Rattle.sheet.specs.Held.{Held, packed};
+ghost use Rattle.sheet.specs.Laid.{After};
 ghost use Rattle.sheet.specs.Statements.{Outcome};
 use crate::Answer;
-use crate::NO_RULE;
+use crate::Head;
+use crate::Said;
 use crate::Sheet;
+use crate::laying;
+use crate::standing;
+use places::NUMBERS;
 use rule::Rule;
 use word::Width;
 
@@ -18,37 +18,55 @@ impl Sheet {
     pub fn back(self) -> Answer
         ensures { λ r. ⌜ Outcome self back r ⌝ }
     {
-        let marked = self.marked;
-        let number = self.standing();
-        if number != 0 {
-            return self.refused(number);
-        }
-        if marked == 0 {
-            return self.refused(8);
-        }
-        let at = marked - 1;
-        let mut sheet = self;
-        let count = sheet.marks[at];
-        let old = self.rules;
-        let rules = front(old, count);
-        let left = verdict::solve(rules, count, Width { bits: self.width });
-        sheet.rules = rules;
-        sheet.count = count;
-        sheet.marks[at] = 0;
-        sheet.marked = at;
-        sheet.kept = left;
-        Answer { number: 0, sheet }
+        let mut rules = [0; NUMBERS];
+        let mut marks: [usize; Sheet::MARKS] = [0; Sheet::MARKS];
+        let mut from = [0; Rule::LIMIT];
+        let mut to = [0; Rule::LIMIT];
+        let mut side = [false; Rule::LIMIT];
+        let head = laying::lay_out(self, &mut rules, &mut marks, &mut from, &mut to, &mut side);
+        let said = back(head, &mut rules, &mut marks, &from, &to, &side);
+        laying::answered(said, &rules, &marks)
     }
 }
 
-// The first n rules, and zeros after them.
-fn front(rules: [Rule; Rule::LIMIT], n: usize) -> [Rule; Rule::LIMIT]
-    requires { ⌜ n ≤ RULES ⌝ }
-    ensures { λ r. ⌜ r ≡ take n rules ++ replicate (RULES - n) noRule ⌝ }
+// Goes back to the newest mark: strikes it and the rules added after it. The bands of the rules that stay lie where they lay.
+pub fn back(
+    head: Head,
+    rules: &mut [u64; NUMBERS],
+    marks: &mut [usize; Sheet::MARKS],
+    from: &[u64; Rule::LIMIT],
+    to: &[u64; Rule::LIMIT],
+    side: &[bool; Rule::LIMIT],
+) -> Said
+    requires { ⌜ Held head (now rules) (now marks) (now from) (now to) (now side) ⌝ }
+    ensures { λ r. ⌜ After (packed head (now (rules .entry)) (now (marks .entry))) back (r .number) (r .head) (now (rules .exit)) (now (marks .exit)) (now (from .entry)) (now (to .entry)) (now (side .entry)) ⌝ }
 {
-    let mut first = [NO_RULE; Rule::LIMIT];
-    for i in 0..n {
-        first[i] = rules[i];
+    let number = standing::standing(head);
+    if number != 0 {
+        return Said { number, head };
     }
-    first
+    let marked = head.marked;
+    let count = head.count;
+    let width = head.width;
+    if marked == 0 {
+        return Said { number: 8, head };
+    }
+    let at = marked - 1;
+    let left = marks[at];
+    marks[at] = 0;
+    places::clear(&mut *rules, left, count);
+    let fixed = places::bits_of(&*rules, left);
+    let bits = Width { bits: width };
+    let kept = verdict::laid::solve(from, to, side, left, fixed, bits, 0, bits.top());
+    Said {
+        number: 0,
+        head: Head {
+            stands: true,
+            width,
+            count: left,
+            marked: at,
+            kept,
+            fixed,
+        },
+    }
 }

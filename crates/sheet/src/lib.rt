@@ -1,17 +1,20 @@
-// The sheet and the calls on it. Each call takes any record and any numbers, and refuses what the paper refuses, in its
-// order.
+// The sheet and the calls on it. Each call takes any record and any numbers, and refuses what the paper refuses, in its order. The
+// calls work on a sheet that is laid out in lent arrays (`laid`); by value a call lays the record out, calls, and packs it again.
 ghost use mathlib.Core.Path.{_≡_};
-ghost use Rattle.sheet.specs.Stands.{Stands};
-ghost use Rattle.sheet.specs.Statements.{answers};
+ghost use Rattle.sheet.specs.Record.{blank};
 
 mod adding;
 mod asking;
 mod going_back;
+pub mod laid;
+mod laying;
 mod marking;
 mod opening;
 mod shape;
+mod standing;
 
 pub use asking::refusal;
+use bits::Fixed;
 use chain::Link;
 use rule::Rule;
 pub use shape::same_kept;
@@ -41,6 +44,23 @@ pub struct Reply {
     pub links: usize,
 }
 
+// What a sheet that is laid out has beside its arrays: whether the record is a sheet at all, its numbers, and the bits that its
+// rules fix.
+pub struct Head {
+    pub stands: bool,
+    pub width: u64,
+    pub count: usize,
+    pub marked: usize,
+    pub kept: Kept,
+    pub fixed: Fixed,
+}
+
+// What a call on a sheet that is laid out answers: 0 or the number of a refusal, and the head as it is then.
+pub struct Said {
+    pub number: u64,
+    pub head: Head,
+}
+
 // A place that no rule has taken.
 const NO_RULE: Rule = Rule {
     form: 0,
@@ -51,31 +71,26 @@ const NO_RULE: Rule = Rule {
 
 impl Sheet {
     // The most marks that may be in force.
-    pub const MARKS: usize = 16;
+    pub const MARKS: usize = page::MARKS;
 
     // What asking wants of a full sheet.
     pub const LENT: usize = Link::ROOM;
 
-    // What every call but an opening tests first: 17 where the record is no sheet, 1 on the blank sheet.
-    fn standing(self) -> u64
-        ensures { λ r. ⌜ Stands self r ⌝ }
+    // The blank sheet, all zeros.
+    pub fn blank() -> Sheet
+        ensures { λ r. ⌜ r ≡ blank ⌝ }
     {
-        if !self.is_sheet() {
-            return 17;
-        }
-        if self.width == 0 {
-            return 1;
-        }
-        0
-    }
-
-    // A refused call hands the record back as it came.
-    fn refused(self, number: u64) -> Answer
-        ensures { λ r. ⌜ r ≡ answers number self ⌝ }
-    {
-        Answer {
-            number,
-            sheet: self,
+        Sheet {
+            width: 0,
+            rules: [NO_RULE; Rule::LIMIT],
+            count: 0,
+            marks: [0; Sheet::MARKS],
+            marked: 0,
+            kept: Kept {
+                verdict: 0,
+                smallest: 0,
+                largest: 0,
+            },
         }
     }
 }

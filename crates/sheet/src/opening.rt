@@ -1,49 +1,85 @@
-// The blank sheet, and opening.
+// Opening.
 ghost use mathlib.Core.Path.{_≡_};
-ghost use Rattle.sheet.specs.Calls.{open-at};
-ghost use Rattle.sheet.specs.Page.{at-width, blank};
+ghost use lib.ListN.{replicate};
+ghost use Rattle.page.specs.Calls.{open-at};
+ghost use Rattle.sheet.specs.Held.{Held, packed};
+ghost use Rattle.sheet.specs.Laid.{After};
+ghost use Rattle.page.specs.Page.{MARKS, at-width};
 ghost use Rattle.sheet.specs.Statements.{Outcome};
 use crate::Answer;
-use crate::NO_RULE;
+use crate::Head;
+use crate::Said;
 use crate::Sheet;
+use crate::laying;
+use bits::Fixed;
+use places::NUMBERS;
 use rule::Rule;
-use verdict::Kept;
 use word::Width;
 
 impl Sheet {
-    // The blank sheet, all zeros.
-    pub fn blank() -> Sheet
-        ensures { λ r. ⌜ r ≡ blank ⌝ }
-    {
-        Sheet {
-            width: 0,
-            rules: [NO_RULE; Rule::LIMIT],
-            count: 0,
-            marks: [0; Sheet::MARKS],
-            marked: 0,
-            kept: Kept {
-                verdict: 0,
-                smallest: 0,
-                largest: 0,
-            },
-        }
-    }
-
-    // Opens a new sheet. The old record is kept where the width is refused, and is not read.
+    // Opens a new sheet where the blank one is laid out. The old record is handed back where the width is refused, and is not read.
     pub fn open(self, width: u64) -> Answer
         ensures { λ r. ⌜ Outcome self (open-at (at-width width)) r ⌝ }
     {
-        if width < 1 {
-            return self.refused(2);
+        let mut rules = [0; NUMBERS];
+        let mut marks: [usize; Sheet::MARKS] = [0; Sheet::MARKS];
+        let mut from = [0; Rule::LIMIT];
+        let mut to = [0; Rule::LIMIT];
+        let mut side = [false; Rule::LIMIT];
+        let none = Sheet::blank();
+        let head = laying::lay_out(none, &mut rules, &mut marks, &mut from, &mut to, &mut side);
+        let said = open(head, &mut rules, &mut marks, &from, &to, &side, width);
+        let number = said.number;
+        if number != 0 {
+            return Answer {
+                number,
+                sheet: self,
+            };
         }
-        if Width::LIMIT < width {
-            return self.refused(2);
-        }
-        let mut sheet = Sheet::blank();
-        let rules = sheet.rules;
-        let kept = verdict::solve(rules, 0, Width { bits: width });
-        sheet.width = width;
-        sheet.kept = kept;
-        Answer { number: 0, sheet }
+        laying::answered(said, &rules, &marks)
     }
+}
+
+// Opens a new sheet. What was there is kept where the width is refused, and is not read.
+pub fn open(
+    head: Head,
+    rules: &mut [u64; NUMBERS],
+    marks: &mut [usize; Sheet::MARKS],
+    from: &[u64; Rule::LIMIT],
+    to: &[u64; Rule::LIMIT],
+    side: &[bool; Rule::LIMIT],
+    width: u64,
+) -> Said
+    requires { ⌜ Held head (now rules) (now marks) (now from) (now to) (now side) ⌝ }
+    ensures { λ r. ⌜ After (packed head (now (rules .entry)) (now (marks .entry))) (open-at (at-width width)) (r .number) (r .head) (now (rules .exit)) (now (marks .exit)) (now (from .entry)) (now (to .entry)) (now (side .entry)) ⌝ }
+{
+    if width < 1 {
+        return Said { number: 2, head };
+    }
+    if Width::LIMIT < width {
+        return Said { number: 2, head };
+    }
+    places::clear(&mut *rules, 0, Rule::LIMIT);
+    clear_marks(&mut *marks);
+    let fixed = Fixed::Bits { mask: 0, value: 0 };
+    let bits = Width { bits: width };
+    let kept = verdict::laid::solve(from, to, side, 0, fixed, bits, 0, bits.top());
+    Said {
+        number: 0,
+        head: Head {
+            stands: true,
+            width,
+            count: 0,
+            marked: 0,
+            kept,
+            fixed,
+        },
+    }
+}
+
+// No mark.
+fn clear_marks(marks: &mut [usize; Sheet::MARKS])
+    ensures { λ _. ⌜ now (marks .exit) ≡ replicate MARKS 0 ⌝ }
+{
+    *marks = [0; Sheet::MARKS];
 }

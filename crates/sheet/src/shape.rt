@@ -1,15 +1,17 @@
-// Whether a record is a sheet at all.
+// Whether a record is a sheet at all, what is kept aside.
 ghost use mathlib.Core.Path.{_≡_};
 ghost use mathlib.Core.Bool.{true, _&&_};
-ghost use Prim.Native.Nat.{_≤_};
-ghost use lib.Dec.{eqb};
-ghost use lib.ListN.{drop, length, take};
+ghost use lib.Dec.{leb};
+ghost use lib.ListN.{length};
 ghost use Rattle.rule.specs.Meaning.{RULES};
-ghost use Rattle.accept.specs.Accept.{every, isNoRule};
-ghost use Rattle.verdict.specs.Kept.{keeps};
-ghost use Rattle.sheet.specs.Page.{MARKS};
-ghost use Rattle.sheet.specs.Shape.{Whole, isSheet, isZero, marksShaped, rising, rulesShaped, sameKept};
+ghost use Rattle.places.specs.Places.{rulesIn};
+ghost use Rattle.sheet.specs.Held.{packed};
+ghost use Rattle.page.specs.Page.{MARKS, WIDEST};
+ghost use Rattle.sheet.specs.Shape.{Whole, isSheet, sameKept, wellShaped};
+use crate::Head;
 use crate::Sheet;
+use crate::laying;
+use places::NUMBERS;
 use rule::Rule;
 use verdict::Kept;
 use word::Width;
@@ -19,55 +21,32 @@ impl Sheet {
     pub fn is_sheet(self) -> bool
         ensures { λ r. ⌜ (r ≡ isSheet self) × (r ≡ true → Whole (self .rules) (self .marks)) ⌝ }
     {
-        let rules = self.rules;
-        let count = self.count;
-        let marks = self.marks;
-        let marked = self.marked;
-        let kept = self.kept;
-        let width = self.width;
-        if Rule::LIMIT < count {
-            return false;
-        }
-        if Sheet::MARKS < marked {
-            return false;
-        }
-        if width == 0 {
-            return blank(rules, count, marks, marked, kept);
-        }
-        if Width::LIMIT < width {
-            return false;
-        }
-        if !accept::all_acceptable(rules, count, Width { bits: width }) {
-            return false;
-        }
-        if !none_after(rules, count, marks, marked) {
-            return false;
-        }
-        same_kept(kept, verdict::solve(rules, count, Width { bits: width }))
+        let mut rules = [0; NUMBERS];
+        let mut marks: [usize; Sheet::MARKS] = [0; Sheet::MARKS];
+        let mut from = [0; Rule::LIMIT];
+        let mut to = [0; Rule::LIMIT];
+        let mut side = [false; Rule::LIMIT];
+        laying::lay_out(self, &mut rules, &mut marks, &mut from, &mut to, &mut side).stands
     }
 }
 
 // Whether the record is blank, its width being 0.
-fn blank(
-    rules: [Rule; Rule::LIMIT],
-    count: usize,
-    marks: [usize; Sheet::MARKS],
-    marked: usize,
-    kept: Kept,
-) -> bool
-    ensures { λ r. ⌜ r ≡ (rulesShaped 0 count rules && marksShaped count marked marks && (eqb count 0 && (eqb marked 0 && sameKept kept (keeps 0 0 0)))) ⌝ }
-    ensures { λ r. ⌜ (r ≡ true → Whole rules marks) ⌝ }
+pub fn blank(head: Head, rules: &[u64; NUMBERS], marks: &[usize; Sheet::MARKS]) -> bool
+    requires { ⌜ head .width ≡ 0 ⌝ }
+    requires { ⌜ (length (rulesIn (now rules)) ≡ RULES) × (length (now marks) ≡ MARKS) ⌝ }
+    ensures { λ r. ⌜ r ≡ isSheet (packed head (now (rules .entry)) (now (marks .entry))) ⌝ }
 {
-    if count != 0 {
+    let kept = head.kept;
+    if head.count != 0 {
         return false;
     }
-    if marked != 0 {
+    if head.marked != 0 {
         return false;
     }
-    if !accept::all_no_rule(rules, 0) {
+    if !places::none_from(rules, 0) {
         return false;
     }
-    if !all_zero(marks, 0) {
+    if !places::all_zero(marks, 0) {
         return false;
     }
     same_kept(
@@ -80,52 +59,31 @@ fn blank(
     )
 }
 
-// Whether the marks rise up to the rules in force, and the places after rules and marks hold zeros.
-fn none_after(
-    rules: [Rule; Rule::LIMIT],
-    count: usize,
-    marks: [usize; Sheet::MARKS],
-    marked: usize,
-) -> bool
-    requires { ⌜ (count ≤ RULES) × (marked ≤ MARKS) ⌝ }
-    ensures { λ r. ⌜ r ≡ (every isNoRule (drop count rules) && marksShaped count marked marks) ⌝ }
-    ensures { λ r. ⌜ (r ≡ true → Whole rules marks) ⌝ }
+// Whether a record whose width is not 0 has a width, rules and marks as a sheet may have them.
+pub fn shaped(head: Head, rules: &[u64; NUMBERS], marks: &[usize; Sheet::MARKS]) -> bool
+    requires { ⌜ (head .width ≡ 0 → ⊥) ⌝ }
+    requires { ⌜ (length (rulesIn (now rules)) ≡ RULES) × (length (now marks) ≡ MARKS) ⌝ }
+    ensures { λ r. ⌜ r ≡ (wellShaped (packed head (now (rules .entry)) (now (marks .entry))) && leb (head .width) WIDEST) ⌝ }
 {
-    if !accept::all_no_rule(rules, count) {
+    let width = head.width;
+    let count = head.count;
+    let marked = head.marked;
+    if Rule::LIMIT < count {
         return false;
     }
-    if !rising(marks, marked, count) {
+    if Sheet::MARKS < marked {
         return false;
     }
-    all_zero(marks, marked)
-}
-
-// Whether the first m marks rise, up to n.
-fn rising(marks: [usize; Sheet::MARKS], m: usize, n: usize) -> bool
-    requires { ⌜ m ≤ MARKS ⌝ }
-    ensures { λ r. ⌜ r ≡ rising 0 (take m marks) n ⌝ }
-{
-    let mut low = 0;
-    for i in 0..m {
-        if marks[i] < low {
-            return false;
-        }
-        low = marks[i];
+    if Width::LIMIT < width {
+        return false;
     }
-    low <= n
-}
-
-// Whether there are zeros from place m on.
-fn all_zero(marks: [usize; Sheet::MARKS], m: usize) -> bool
-    requires { ⌜ m ≤ MARKS ⌝ }
-    ensures { λ r. ⌜ (r ≡ every isZero (drop m marks)) × (length marks ≡ MARKS) ⌝ }
-{
-    for i in m..Sheet::MARKS {
-        if marks[i] != 0 {
-            return false;
-        }
+    if !places::all_acceptable(rules, count, Width { bits: width }) {
+        return false;
     }
-    true
+    if !places::none_from(rules, count) {
+        return false;
+    }
+    places::marked_so(marks, marked, count)
 }
 
 // Whether the two agree in all three numbers.

@@ -1,48 +1,59 @@
--- `blank` meets its contract: with no rule and no mark in force, what is left to ask is that all places hold zeros.
--- Assumes nothing.
-use mathlib.Core.Bool.{and-false}
+-- `blank` meets its contract: with no rule and no mark in force, what is left to ask is that all places hold zeros. Assumes nothing.
+use Prim.Native.Nat.{_-_}
 use borrow.Author.Needs.{needs}
+use mathlib.Core.Bool.{and-false}
 use borrow.Author.Tests.{ne-eqb}
 use Rattle.accept.specs.Accept.{every}
-use Rattle.accept.proofs.Choices.{failed, never, passed}
-use Rattle.sheet.specs.Shape.{marksShaped, rising, rulesShaped}
+use Rattle.accept.proofs.Choices.{failed, passed}
+use Rattle.sheet.specs.Shape.{isSheet, wellShaped}
+use Rattle.page.specs.Shape.{marksShaped, rising, rulesShaped}
+use Rattle.sheet.specs.Held.{packed}
 use Rattle.sheet.proofs.shape.blank.Statement.{statement}
 use Rattle.sheet.proofs.shape.blank.Tie as tie
 
 returns : tie.Need-returns
-returns c = (simp (ne-eqb _ _ (c .if1 .taken), and-false), never)
+unfolding isSheet wellShaped packed rulesShaped marksShaped every rising
+returns c = let s = c .before .before .before in simp (s .pre .0, ne-eqb _ _ (c .if1 .taken), and-false)
 
 returns-2 : tie.Need-returns-2
-returns-2 c = (simp (ne-eqb _ _ (c .if2 .taken), and-false), never)
+unfolding isSheet wellShaped packed rulesShaped marksShaped every rising
+returns-2 c = let s = c .before .before .before .before .before in simp (s .pre .0, ne-eqb _ _ (c .if2 .taken), and-false)
 
-all-no-rule-requires : tie.Need-all-no-rule-requires
-all-no-rule-requires c κs = search needs
+none-from-requires : tie.Need-none-from-requires
+none-from-requires c κs = search needs
 
 returns-3 : tie.Need-returns-3
-unfolding rulesShaped marksShaped every rising
+unfolding isSheet wellShaped packed rulesShaped marksShaped every rising
 returns-3 c =
     let b = c .before .before in
-    (simp (b .before .if1 .left, b .if2 .left, failed (c .before .all-no-rule .ensures .0) (c .if3 .taken)), never)
+    let a = b .before .before in
+    let s = a .before .before .before in
+    simp (s .pre .0, a .if1 .left, b .if2 .left, failed (c .before .none-from .ensures) (c .if3 .taken))
 
 all-zero-requires : tie.Need-all-zero-requires
 all-zero-requires c κs = search needs
 
 returns-4 : tie.Need-returns-4
-unfolding rulesShaped marksShaped every rising
+unfolding isSheet wellShaped packed rulesShaped marksShaped every rising
 returns-4 c =
-    let a = c .before .before in
-    let b = a .before .before in
-    (simp (b .before .if1 .left, b .if2 .left, passed (a .before .all-no-rule .ensures .0) (a .if3 .left), failed (c .before .all-zero .ensures .0) (c .if4 .taken)), never)
+    let d = c .before .before in
+    let b = d .before .before in
+    let a = b .before .before in
+    let s = a .before .before .before in
+    simp (s .pre .0, a .if1 .left, b .if2 .left, passed (d .before .none-from .ensures) (d .if3 .left), failed (c .before .all-zero .ensures) (c .if4 .taken))
 
 same-kept-requires : tie.Need-same-kept-requires
 same-kept-requires c κs = search needs
 
 returns-5 : tie.Need-returns-5
-unfolding rulesShaped marksShaped every rising
+unfolding isSheet wellShaped packed rulesShaped marksShaped every rising
 returns-5 c =
-    let a = c .before .before .before in
-    let b = a .before .before in
-    (simp (b .before .if1 .left, b .if2 .left, passed (a .before .all-no-rule .ensures .0) (a .if3 .left), passed (c .before .before .all-zero .ensures .0) (c .before .if4 .left), c .same-kept .ensures), λ e. record { rules-length = a .before .all-no-rule .ensures .1; marks-length = c .before .before .all-zero .ensures .1 })
+    let f = c .before in
+    let d = f .before .before in
+    let b = d .before .before in
+    let a = b .before .before in
+    let s = a .before .before .before in
+    simp (s .pre .0, a .if1 .left, b .if2 .left, passed (d .before .none-from .ensures) (d .if3 .left), passed (f .before .all-zero .ensures) (f .if4 .left), c .same-kept .ensures)
 
 pub blank-spec : {M : Type 1} → statement M
 blank-spec =
@@ -50,7 +61,7 @@ blank-spec =
     (tie.spec
     returns
     returns-2
-    all-no-rule-requires
+    none-from-requires
     returns-3
     all-zero-requires
     returns-4

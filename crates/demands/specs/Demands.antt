@@ -1,0 +1,37 @@
+-- Demands 2 and 3 in the paper's own words, of what the calls answer.
+use mathlib.Core.Path.{_≡_}
+use mathlib.Core.List.{List}
+use Prim.Native.Nat.{ℕ}
+use lib.ListN.{length}
+use Rattle.rule.specs.declared.Rule.{Rule}
+use Rattle.verdict.specs.Demand.{Right}
+use Rattle.chain.specs.declared.Link.{Link}
+use Rattle.chain.specs.Chain.{IsChain}
+use Rattle.sheet.specs.declared.Reply.{Reply}
+use Rattle.sheet.specs.declared.Sheet.{Sheet}
+use Rattle.page.specs.Calls.{replay}
+use Rattle.page.specs.Page.{Page}
+use Rattle.sheet.specs.Record.{blank}
+use Rattle.sheet.specs.Statements.{AllAccepted, Sequence, overlaid}
+
+-- links as they are handed over: the chain from zero, its length as the count, laid in the buffer, b before and b′ after
+pub record ChainLaid (w : ℕ) (rs : List Rule) (b b′ : List ℕ) (count : ℕ) : Type 0 where
+  pub chain : List Link
+  pub is-chain : IsChain w rs 0 chain
+  pub counted : count ≡ length chain
+  pub laid : b′ ≡ overlaid chain b
+
+-- Demand 2. "Asked, it says none, one or many by machine arithmetic, with the smallest and largest fitting word, and for "none"
+-- the one chain of links from zero to the top word." "For "one" and "many" the count is 0 and the buffer stays untouched."
+pub record AskedRight (w : ℕ) (rs : List Rule) (b b′ : List ℕ) (r : Reply) : Type 0 where
+  pub accepted : r .number ≡ 0
+  pub right : Right w rs (r .kept)
+  pub none : r .kept .verdict ≡ 0 → ChainLaid w rs b b′ (r .links)
+  pub one-or-many : (r .kept .verdict ≡ 0 → ⊥) → (r .links ≡ 0) × (b′ ≡ b)
+
+-- Demand 3. "After any sequence of calls the sheet equals, in every field, one freshly opened and given what stands on a clerk's
+-- page": what stands there can be given to a blank sheet, and whatever comes of it is the sheet, with none of it refused.
+pub record FreshlyGiven (s : Sheet) (pg : Page) : Type 0 where
+  pub given : (t : Sheet) × Sequence blank (replay pg) t
+  pub equals : {t : Sheet} → Sequence blank (replay pg) t → s ≡ t
+  pub accepted : {t : Sheet} (q : Sequence blank (replay pg) t) → AllAccepted q

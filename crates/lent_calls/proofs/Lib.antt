@@ -1,5 +1,0 @@
-pub mod Adding
-pub mod Holding
-pub mod Numbers
-pub mod Opened
-pub mod SteppedBack

@@ -1,2 +1,0 @@
-pub mod OneMore
-pub mod Told

@@ -1,0 +1,127 @@
+-- What is held says which number comes before the table, and that where none does the record has a page, lawful rules and their
+-- bands; and a record with a page whose bands are drawn is held. Assumes nothing.
+use mathlib.Core.Path.{_≡_, refl, sym, ap, _∙_, subst}
+use mathlib.Core.Bool.{Bool, true, false, false≢true}
+use mathlib.Core.List.{List}
+use Prim.Native.Nat.{ℕ, _≤_, _<_}
+use native.Mathlib.Decide.{decLt, ℕ-discrete}
+use native.Mathlib.Omega.{arith}
+use borrow.Author.Tests.{eq-eqb, ne-eqb}
+use lib.ListN.{length, take}
+use Rattle.word.specs.Word.{IsWidth, top}
+use Rattle.rule.specs.declared.Rule.{Rule}
+use Rattle.rule.specs.Meaning.{AllLawful, RULES}
+use Rattle.accept.specs.Accept.{refusalOf}
+use Rattle.band.specs.Band.{AllLaid}
+use Rattle.bits.specs.declared.Fixed.{Fixed}
+use Rattle.bits.specs.Fixed.{Tidy, Within}
+use Rattle.bits.proofs.Joined.{fixed-tidy, fixed-within}
+use Rattle.lent.proofs.Passes.{bands-laid}
+use Rattle.sheet.specs.declared.Sheet.{Sheet}
+use Rattle.page.specs.Calls.{add, refusal}
+use Rattle.page.specs.Page.{OpenPage, page, rulesOn}
+use Rattle.sheet.specs.Stands.{RuleSeen, Standing, Stands, before-table, by-table, no-sheet}
+use Rattle.sheet.specs.Statements.{IsSheet}
+use Rattle.page.proofs.Refusals.{add-bad, add-fits, add-full}
+use Rattle.sheet.proofs.Stands.{has-page, has-width, is-blank, known, rules-lawful, width-of}
+use Rattle.sheet.proofs.Tested.{passes-sheet, sheet-passes}
+use Rattle.lent.specs.Lent.{Lie, zipped}
+use Rattle.places.specs.Places.{rulesIn}
+use Rattle.sheet.specs.declared.Head.{Head}
+use Rattle.sheet.specs.Held.{Drawn, Held, Room, before, packed}
+use Rattle.sheet.specs.Laid.{ruleNumber}
+use Rattle.sheet.proofs.Numbers.{number-before, number-full, number-none, number-own}
+
+before-zero : (b : Bool) (w : ℕ) → before b w ≡ 0 → (b ≡ true) × (w ≡ 0 → ⊥)
+unfolding before
+before-zero false w e = absurd (omega arith)
+before-zero true w e = (refl, λ z. omega (arith, rw (eq-eqb w 0 z) at e))
+
+-- bands and bits that are those of lawful rules may be swept
+pub record Swept (w n : ℕ) (from to : List ℕ) (side : List Bool) (fixed : Fixed) : Type 0 where
+  pub lie : Lie (top w) n (zipped from to side)
+  pub tidy : Tidy fixed
+  pub within : Within w fixed
+
+pub swept : (w n : ℕ) (from to : List ℕ) (side : List Bool) (fixed : Fixed) (rs : List Rule) → 1 ≤ w → n ≤ RULES → length (zipped from to side) ≡ RULES → AllLawful w rs
+    → Drawn w rs (take n (zipped from to side)) fixed → Swept w n from to side fixed
+swept w n from to side fixed rs low few places lawful d =
+    record {
+      lie = record { places = places; count = few; laid = subst (AllLaid (top w)) (sym (d .own)) (bands-laid w low rs lawful) };
+      tidy = subst Tidy (sym (d .bits)) (fixed-tidy rs);
+      within = subst (Within w) (sym (d .bits)) (fixed-within w rs lawful);
+    }
+
+module _ {h : Head} {rules marks from to : List ℕ} {side : List Bool} (held : Held h rules marks from to side) where
+  abbrev s : Sheet
+  s = packed h rules marks
+
+  is-sheet : h .stands ≡ true → IsSheet s
+  unfolding packed
+  is-sheet e = passes-sheet s (held .room .rules-places) (held .room .marks-places) (sym (held .tested) ∙ e)
+
+  pub stands-so : Stands s (before (h .stands) (h .width))
+  unfolding before packed
+  stands-so = go (h .stands) refl (ℕ-discrete (h .width) 0)
+    where
+      go : (b : Bool) → h .stands ≡ b → Dec (h .width ≡ 0) → Stands s (before b (h .width))
+      go false e d = no-sheet (λ i. false≢true (sym e ∙ held .tested ∙ sheet-passes s i))
+      go true e (yes z) = rw (eq-eqb (h .width) 0 z) (is-blank (is-sheet e) z)
+      go true e (no z) = rw (ne-eqb (h .width) 0 z) (has-width (is-sheet e) z)
+
+  module _ (e : before (h .stands) (h .width) ≡ 0) where
+    pub on-sheet : Standing s
+    on-sheet = has-page stands-so e
+
+    pub stands-true : h .stands ≡ true
+    stands-true = before-zero (h .stands) (h .width) e .0
+
+    pub width-so : IsWidth (h .width)
+    unfolding packed
+    width-so = width-of on-sheet
+
+    pub lawful-so : AllLawful (h .width) (take (h .count) (rulesIn rules))
+    unfolding packed
+    lawful-so = rules-lawful on-sheet
+
+    pub drawn-so : Drawn (h .width) (take (h .count) (rulesIn rules)) (take (h .count) (zipped from to side)) (h .fixed)
+    drawn-so = held .drawn stands-true (before-zero (h .stands) (h .width) e .1)
+
+  -- the rule's number is the table's
+  module _ (u : Rule) (e : before (h .stands) (h .width) ≡ 0) where
+    abbrev on : OpenPage
+    on = on-sheet e .on
+
+    same-own : refusalOf (h .width) u ≡ refusalOf (on .opening .width) u
+    unfolding packed
+    same-own = ap (λ (w : ℕ). refusalOf w u) (known (on-sheet e) .width)
+
+    same-count : h .count ≡ length (rulesOn (on .entries))
+    unfolding packed
+    same-count = known (on-sheet e) .count
+
+    table-number : ruleNumber h u ≡ refusal (page on) (add u)
+    table-number = go (ℕ-discrete (refusalOf (h .width) u) 0) (decLt (h .count) RULES)
+      where
+        go : Dec (refusalOf (h .width) u ≡ 0) → Dec (h .count < RULES) → ruleNumber h u ≡ refusal (page on) (add u)
+        go (no z) d = sym (number-own h u e z) ∙ same-own ∙ sym (add-bad on u (λ t. z (same-own ∙ t)))
+        go (yes z) (no d) = sym (number-full h u e z (omega arith)) ∙ sym (add-full on u (sym same-own ∙ z) (omega (arith, same-count)))
+        go (yes z) (yes d) = sym (number-none h u e z d) ∙ sym (add-fits on u (sym same-own ∙ z) (omega (arith, same-count)))
+
+  pub rule-so : (u : Rule) → RuleSeen s u (ruleNumber h u)
+  rule-so u = go (ℕ-discrete (before (h .stands) (h .width)) 0)
+    where
+      go : Dec (before (h .stands) (h .width) ≡ 0) → RuleSeen s u (ruleNumber h u)
+      go (no z) = subst (RuleSeen s u) (number-before h u z) (before-table stands-so z)
+      go (yes e) = subst (RuleSeen s u) (sym (table-number u e)) (by-table (on-sheet e))
+
+-- held again
+module _ {h : Head} {rules marks from to : List ℕ} {side : List Bool} where
+  pub still-held : Standing (packed h rules marks) → h .stands ≡ true → Room rules marks from to side
+      → Drawn (h .width) (take (h .count) (rulesIn rules)) (take (h .count) (zipped from to side)) (h .fixed) → Held h rules marks from to side
+  still-held p e room d =
+      record {
+        room = room;
+        tested = e ∙ sym (sheet-passes (packed h rules marks) (record { on = page (p .on); reached = p .reached; gives = p .gives }));
+        drawn = λ t z. d;
+      }

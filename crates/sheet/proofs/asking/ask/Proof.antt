@@ -1,0 +1,112 @@
+-- `ask` meets its contract: what is kept is what the rules give, so a chain is written just where no word fits. Assumes nothing.
+use mathlib.Core.Path.{_≡_, sym, ap, _∙_, subst}
+use mathlib.Core.List.{List}
+use Prim.Native.Nat.{_-_, _≤_}
+use native.Mathlib.Omega.{arith}
+use borrow.Author.Needs.{needs}
+use lib.ListN.{take}
+use Rattle.rule.specs.declared.Rule.{Rule}
+use Rattle.rule.specs.Meaning.{RULES}
+use Rattle.verdict.specs.declared.Kept.{Kept}
+use Rattle.sheet.specs.Stands.{Standing, Stands}
+use Rattle.sheet.specs.Statements.{Asked}
+use Rattle.sheet.proofs.WaysOfAsking.{chain-asking, kept-asking, kept-on, refused-asking, short-asking}
+use Rattle.page.proofs.Lawful.{reached-lawful}
+use Rattle.sheet.proofs.Stands.{known}
+use Rattle.chain.specs.OfRules.{OfRules}
+use Rattle.lent.specs.Lent.{zipped}
+use Rattle.places.specs.Places.{rulesIn}
+use Rattle.sheet.specs.Held.{before, packed}
+use Rattle.sheet.proofs.Holding.{drawn-so, lawful-so, on-sheet, stands-so, swept, width-so}
+use Rattle.sheet.proofs.asking.ask.Statement.{statement}
+use Rattle.sheet.proofs.asking.ask.Tie as tie
+
+abbrev start : tie.Else1 → tie.Start
+start a = a .before .before .before
+
+none : (a : tie.Else1) → before (start a .args .head .stands) (start a .args .head .width) ≡ 0
+none a = sym (a .before .standing .ensures) ∙ a .if1 .left
+
+on : (a : tie.Else1) → Standing (packed (start a .args .head) (start a .args .rules .now) (start a .args .marks .now))
+on a = on-sheet (start a .pre) (none a)
+
+few : (a : tie.Else1) → start a .args .head .count ≤ RULES
+unfolding packed
+few a = let p = on a in omega (arith, known p .count, reached-lawful (p .reached) .rules-fit)
+
+abbrev rs : tie.Else1 → List Rule
+rs a = take (start a .args .head .count) (rulesIn (start a .args .rules .now))
+
+-- the rules that the bands and the bits are those of
+of-rules : (a : tie.Else1) → start a .args .head .kept .verdict ≡ 0
+    → OfRules (start a .args .head .width) (take (start a .args .head .count) (zipped (start a .args .from .now) (start a .args .to .now) (start a .args .side .now))) (start a .args .head .fixed) (rs a)
+unfolding packed
+of-rules a e =
+    let h = start a .pre in
+    let d = drawn-so h (none a) in
+    record { lawful = lawful-so h (none a); own = d .own; bits = d .bits; none = sym (ap (λ (k : Kept). k .verdict) (kept-on (on a))) ∙ e }
+
+standing-requires : tie.Need-standing-requires
+standing-requires c κs = search needs
+
+refusal-requires : tie.Need-refusal-requires
+refusal-requires c κs = search needs
+
+returns : tie.Need-returns
+unfolding packed
+returns c =
+    let s = c .before .before .before .before in
+    subst (Asked _ _ _) (sym (c .refusal .ensures)) (refused-asking (subst (Stands _) (sym (c .before .before .standing .ensures)) (stands-so (s .pre))) (c .before .if1 .taken) _)
+
+room-requires : tie.Need-room-requires
+room-requires c κs = few (c .before)
+
+refusal-requires-2 : tie.Need-refusal-requires-2
+refusal-requires-2 c κs = search needs
+
+returns-2 : tie.Need-returns-2
+unfolding packed
+returns-2 c =
+    let r = c .before .before in
+    subst (Asked _ _ _) (sym (c .refusal2 .ensures)) (short-asking (on (r .before .before)) _ (omega (arith, r .room .ensures, c .before .if2 .taken)))
+
+returns-3 : tie.Need-returns-3
+unfolding packed
+returns-3 c =
+    let e = c .before .before in
+    kept-asking (on (e .before .before .before)) _ (omega (arith, e .before .room .ensures, e .if2 .left)) (c .if3 .taken)
+
+write-requires : tie.Need-write-requires
+write-requires c κs =
+    let e = c .before .before .before in
+    let a = e .before .before .before in
+    let h = start a .pre in
+    let t = swept _ _ _ _ _ _ (rs a) (width-so h (none a) .low) (few a) (h .room .band-places) (lawful-so h (none a)) (drawn-so h (none a)) in
+    (width-so h (none a), (t .lie, ((rs a, of-rules a (c .before .if3 .left)), omega (arith, e .before .room .ensures, e .if2 .left))))
+
+same-length : tie.Need-same-length
+same-length c = search needs
+
+returns-4 : tie.Need-returns-4
+unfolding packed
+returns-4 c =
+    let v = c .before .before in
+    let e = v .before .before .before .before in
+    let a = e .before .before .before in
+    let d = v .write .ensures (rs a) (of-rules a (v .before .before .if3 .left)) in
+    chain-asking (on a) _ (omega (arith, e .before .room .ensures, e .if2 .left)) (v .before .before .if3 .left) (d .0) (d .1)
+
+pub ask-spec : {M : Type 1} → statement M
+ask-spec =
+    tie.close
+    (tie.spec
+    standing-requires
+    refusal-requires
+    returns
+    room-requires
+    refusal-requires-2
+    returns-2
+    returns-3
+    write-requires
+    same-length
+    returns-4)

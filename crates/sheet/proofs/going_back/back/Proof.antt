@@ -1,0 +1,117 @@
+-- `back` meets its contract: what stays is what stood before the newest mark, and what is kept is found anew. Assumes nothing.
+use mathlib.Core.Path.{_≡_, sym, _∙_, subst}
+use Prim.Native.Nat.{_-_, _<_}
+use native.Mathlib.Omega.{arith}
+use borrow.Author.Needs.{needs}
+use Rattle.word.specs.Word.{top}
+use Rattle.verdict.specs.OnBands.{Ends}
+use Rattle.verdict.proofs.Rules.{whole-wheel}
+use Rattle.page.specs.Calls.{back}
+use Rattle.sheet.specs.Stands.{Stands}
+use Rattle.sheet.specs.Statements.{Outcome}
+use Rattle.page.proofs.Refusals.{back-none, blank-back}
+use Rattle.sheet.proofs.Stands.{known, refused-standing}
+use Rattle.sheet.proofs.Ways.{refused-reads}
+use Rattle.sheet.specs.Held.{before, packed}
+use Rattle.sheet.proofs.Holding.{on-sheet, stands-so, width-so}
+use Rattle.sheet.proofs.SteppedBack.{count-few, gone-back, left-low, mark-there, places-left, swept-left}
+use Rattle.sheet.proofs.going_back.back.Statement.{statement}
+use Rattle.sheet.proofs.going_back.back.Tie as tie
+
+abbrev start : tie.Else1 → tie.Start
+start a = a .before .before
+
+-- no number comes before the table
+none : (a : tie.Else1) → before (start a .args .head .stands) (start a .args .head .width) ≡ 0
+none a = sym (a .before .standing .ensures) ∙ a .if1 .left
+
+there : (b : tie.Else2) → start (b .before) .args .head .marked - 1 < 16
+there b = mark-there (start (b .before) .pre) (none (b .before)) (b .if2 .left)
+
+standing-requires : tie.Need-standing-requires
+standing-requires c κs = search needs
+
+returns : tie.Need-returns
+unfolding Outcome packed
+returns c =
+    let s = c .before .before in
+    record {
+      outcome = refused-standing (subst (Stands _) (sym (c .before .standing .ensures)) (stands-so (s .pre))) (c .if1 .taken) back blank-back;
+      held = s .pre;
+    }
+
+returns-2 : tie.Need-returns-2
+unfolding Outcome packed
+returns-2 c =
+    let a = c .before in
+    let p = on-sheet (start a .pre) (none a) in
+    record { outcome = refused-reads _ (p .reached) (p .gives) back (back-none _ (sym (known p .marked) ∙ c .if2 .taken)) (λ e. omega arith); held = start a .pre }
+
+sub-at : tie.Need-sub-at
+sub-at c = search needs
+
+mul-left : tie.Need-mul-left
+mul-left c = omega (arith, there c)
+
+element-copy-out-left : tie.Need-element-copy-out-left
+element-copy-out-left c = there c
+
+mul-marks : tie.Need-mul-marks
+mul-marks c = omega (arith, there (c .before))
+
+element-write-marks : tie.Need-element-write-marks
+element-write-marks c = there (c .before)
+
+clear-requires : tie.Need-clear-requires
+clear-requires c κs =
+    let b = c .before .before in
+    let h = start (b .before) .pre in
+    (left-low h (none (b .before)) (b .if2 .left), count-few h (none (b .before)) (b .if2 .left), h .room .rules-places)
+
+bits-of-requires : tie.Need-bits-of-requires
+bits-of-requires c κs =
+    let l = c .before in
+    let b = l .before .before .before in
+    let h = start (b .before) .pre in
+    let n = none (b .before) in
+    (omega (arith, left-low h n (b .if2 .left), count-few h n (b .if2 .left)), places-left h n (b .if2 .left) _ (l .clear .ensures))
+
+top-requires : tie.Need-top-requires
+top-requires c κs = let b = c .before .before .before .before .before in width-so (start (b .before) .pre) (none (b .before))
+
+solve-requires : tie.Need-solve-requires
+solve-requires c κs =
+    let o = c .before in
+    let l = o .before .before in
+    let b = l .before .before .before in
+    let h = start (b .before) .pre in
+    let n = none (b .before) in
+    let w = start (b .before) .args .head .width in
+    let t = swept-left h n (b .if2 .left) _ (l .clear .ensures) _ (o .bits-of .ensures) in
+    (width-so h n, (t .lie, ((t .tidy, t .within), subst (Ends w _ _ 0) (sym (c .top .ensures)) (whole-wheel w _ _))))
+
+returns-3 : tie.Need-returns-3
+unfolding Outcome packed
+returns-3 c =
+    let o = c .before .before in
+    let l = o .before .before in
+    let b = l .before .before .before in
+    gone-back (start (b .before) .pre) (none (b .before)) (b .if2 .left) _ (l .clear .ensures) _ (o .bits-of .ensures) _ (c .solve .ensures)
+
+pub back-spec : {M : Type 1} → statement M
+back-spec =
+    tie.close
+    (tie.spec
+    standing-requires
+    returns
+    returns-2
+    sub-at
+    mul-left
+    element-copy-out-left
+    mul-marks
+    element-write-marks
+    clear-requires
+    bits-of-requires
+    top-requires
+    solve-requires
+    returns-3)

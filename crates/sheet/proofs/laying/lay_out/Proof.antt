@@ -1,0 +1,44 @@
+-- `lay_out` meets its contract: the arrays hold the record, and the head its numbers. Assumes nothing.
+use mathlib.Core.Path.{_∙_}
+use Prim.Native.Nat.{_-_}
+use borrow.Author.Needs.{needs}
+use Rattle.sheet.specs.Held.{packed}
+use Rattle.sheet.proofs.laying.lay_out.Statement.{statement}
+use Rattle.sheet.proofs.laying.lay_out.Tie as tie
+
+lay-out-requires : tie.Need-lay-out-requires
+lay-out-requires c κs = search needs
+
+set-marks-requires : tie.Need-set-marks-requires
+set-marks-requires c κs = search needs
+
+tested-requires : tie.Need-tested-requires
+tested-requires c κs =
+    let m = c .before .before .before .before .before in
+    let o = m .before .before in
+    record {
+      rules-places = o .lay-out .ensures .1;
+      marks-places = m .set-marks .ensures .1;
+      band-places = o .before .before .before .before .before .pre .band-places;
+    }
+
+returns : tie.Need-returns
+unfolding packed
+returns c =
+    let m = c .before .before .before .before .before .before in
+    let o = m .before .before in
+    let s = o .before .before .before .before .before in (
+      c .tested .ensures .0
+          ∙ (λ i. record {
+            width = s .args .sheet .width;
+            rules = o .lay-out .ensures .0 i;
+            count = s .args .sheet .count;
+            marks = m .set-marks .ensures .0 i;
+            marked = s .args .sheet .marked;
+            kept = s .args .sheet .kept;
+          }),
+      c .tested .ensures .1,
+    )
+
+pub lay-out-spec : {M : Type 1} → statement M
+lay-out-spec = tie.close (tie.spec lay-out-requires set-marks-requires tested-requires returns)

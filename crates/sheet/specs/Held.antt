@@ -1,0 +1,52 @@
+-- A sheet laid out: a small head, the rules and the marks in lent arrays, and the rules' bands in three more. A route: what a
+-- call must answer is said of the record that they stand for.
+use mathlib.Core.Path.{_≡_}
+use mathlib.Core.Bool.{Bool, true, cond}
+use mathlib.Core.List.{List, map}
+use Prim.Native.Nat.{ℕ}
+use lib.Dec.{eqb}
+use lib.ListN.{length, take}
+use Rattle.rule.specs.declared.Rule.{Rule}
+use Rattle.rule.specs.Meaning.{RULES}
+use Rattle.band.specs.declared.Band.{Band}
+use Rattle.band.specs.Band.{bandOf}
+use Rattle.bits.specs.declared.Fixed.{Fixed}
+use Rattle.bits.specs.Fixed.{fixedBits}
+use Rattle.sheet.specs.declared.Sheet.{Sheet}
+use Rattle.page.specs.Page.{MARKS}
+use Rattle.sheet.specs.Shape.{isSheet}
+use Rattle.lent.specs.Lent.{zipped}
+use Rattle.places.specs.Places.{rulesIn}
+use Rattle.sheet.specs.declared.Head.{Head}
+
+-- the record that the head and the arrays stand for
+unfoldable pub packed : Head → (rules marks : List ℕ) → Sheet
+packed h rules marks =
+    record { width = h .width; rules = rulesIn rules; count = h .count; marks = marks; marked = h .marked; kept = h .kept }
+
+-- as many places as a record has
+pub record Room (rules marks from to : List ℕ) (side : List Bool) : Type 0 where
+  pub rules-places : length (rulesIn rules) ≡ RULES
+  pub marks-places : length marks ≡ MARKS
+  pub band-places : length (zipped from to side) ≡ RULES
+
+-- the bands and the bits are those of the rules
+pub record Drawn (w : ℕ) (rs : List Rule) (bands : List Band) (fixed : Fixed) : Type 0 where
+  pub own : bands ≡ map (bandOf w) rs
+  pub bits : fixed ≡ fixedBits rs
+
+-- What is held between calls: the head says whether the record is a sheet and, where it is one that is not blank, the bands and
+-- the bits of its rules are drawn.
+pub record Held (h : Head) (rules marks from to : List ℕ) (side : List Bool) : Type 0 where
+  pub room : Room rules marks from to side
+  pub tested : h .stands ≡ isSheet (packed h rules marks)
+  pub drawn : h .stands ≡ true → (h .width ≡ 0 → ⊥)
+      → Drawn (h .width) (take (h .count) (rulesIn rules)) (take (h .count) (zipped from to side)) (h .fixed)
+
+-- the number that a record gets before the table is looked at: 17 where it is no sheet, 1 on the blank sheet, else 0
+unfoldable pub before : (stands : Bool) → (width : ℕ) → ℕ
+before stands width = cond stands (cond (eqb width 0) 1 0) 17
+
+-- the head with another word on whether the record is a sheet
+abbrev pub stood : Head → Bool → Head
+stood h b = record { stands = b; width = h .width; count = h .count; marked = h .marked; kept = h .kept; fixed = h .fixed }
