@@ -6,8 +6,8 @@ use Prim.Native.Nat.{ℕ, _+_}
 use borrow.Author.Tests.{eq-eqb, ne-eqb}
 use lib.ListN.{length}
 use Rattle.rule.specs.declared.Rule.{Rule}
-use Rattle.sheet.specs.Calls.{add, after, open-at, refusal}
-use Rattle.sheet.specs.Page.{Opening, Page, no-page}
+use Rattle.page.specs.Calls.{add, after, open-at, refusal}
+use Rattle.page.specs.Page.{Opening, Page, no-page}
 use Rattle.batch.specs.Batch.{added, batch, stops}
 
 module _ (g : Opening) (us : List Rule) (m : ℕ) where

@@ -9,10 +9,12 @@ use Rattle.chain.specs.Links.{numbersOf}
 use Rattle.sheet.specs.declared.Answer.{Answer}
 use Rattle.sheet.specs.declared.Reply.{Reply}
 use Rattle.sheet.specs.declared.Sheet.{Sheet}
-use Rattle.sheet.specs.Calls.{add, after, open-at}
-use Rattle.sheet.specs.Page.{Opening, Page, fresh, no-page}
-use Rattle.sheet.specs.Statements.{Reached, refuses, start}
-use Rattle.sheet.proofs.Demand.{after-reached, outcome-on}
+use Rattle.page.specs.Calls.{add, after, open-at}
+use Rattle.page.specs.Page.{Opening, Page, no-page}
+use Rattle.sheet.specs.Record.{fresh}
+use Rattle.page.specs.Reached.{Reached, start}
+use Rattle.sheet.specs.Statements.{refuses}
+use Rattle.demands.proofs.Demand.{after-reached, outcome-on}
 use Rattle.batch.specs.declared.Batch.{Batch}
 use Rattle.batch.specs.Batch.{Batched, Gives, added, batches}
 use Rattle.batch.specs.OneByOne.{Adding, OneByOne, adds, asks, opens, refused-opening, refused-rule}

@@ -9,8 +9,8 @@ use native.Mathlib.Omega.{arith}
 use lib.ListN.{length}
 use Rattle.rule.specs.declared.Rule.{Rule}
 use Rattle.accept.specs.Accept.{ruleGrounds}
-use Rattle.sheet.specs.Calls.{add, after, firstThatApplies, ground, grounds, open-at, refusal}
-use Rattle.sheet.specs.Page.{Opening, Page, no-page}
+use Rattle.page.specs.Calls.{add, after, firstThatApplies, ground, grounds, open-at, refusal}
+use Rattle.page.specs.Page.{Opening, Page, no-page}
 use Rattle.batch.specs.Batch.{Ending, added, batch}
 use Rattle.batch.proofs.Added.{add-goes, add-stops, open-goes, open-stops}
 

@@ -16,10 +16,12 @@ use Rattle.word.proofs.Tests.{both-pass}
 use Rattle.rule.specs.declared.Rule.{Rule}
 use Rattle.chain.specs.Links.{numbersOf}
 use Rattle.sheet.specs.declared.Answer.{Answer}
-use Rattle.sheet.specs.Calls.{Call, add, after, open-at, refusal}
-use Rattle.sheet.specs.Page.{Opening, Page, fresh, noRule, no-page}
-use Rattle.sheet.specs.Statements.{Outcome, Reached, answers, start}
-use Rattle.sheet.proofs.Demand.{after-reached, outcome-on}
+use Rattle.page.specs.Calls.{Call, add, after, open-at, refusal}
+use Rattle.page.specs.Page.{Opening, Page, noRule, no-page}
+use Rattle.sheet.specs.Record.{fresh}
+use Rattle.sheet.specs.Statements.{Outcome, answers}
+use Rattle.page.specs.Reached.{Reached, start}
+use Rattle.demands.proofs.Demand.{after-reached, outcome-on}
 use Rattle.batch.specs.declared.Batch.{Batch}
 use Rattle.batch.specs.declared.course.Course.{Course}
 use Rattle.batch.specs.Batch.{Batched, added, batch, stops}

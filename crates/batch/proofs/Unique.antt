@@ -9,8 +9,8 @@ use lib.ListN.{length}
 use Rattle.rule.specs.declared.Rule.{Rule}
 use Rattle.chain.specs.declared.Link.{Link}
 use Rattle.chain.specs.Links.{numbersOf}
-use Rattle.sheet.specs.Calls.{add, after, ask, open-at, refusal}
-use Rattle.sheet.specs.Page.{Opening, Page, no-page}
+use Rattle.page.specs.Calls.{add, after, ask, open-at, refusal}
+use Rattle.page.specs.Page.{Opening, Page, no-page}
 use Rattle.sheet.specs.Statements.{chainOn, overlaid, reply}
 use Rattle.batch.specs.declared.Batch.{Batch}
 use Rattle.batch.specs.Batch.{Batched, Ending, added, batch}

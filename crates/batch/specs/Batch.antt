@@ -9,8 +9,8 @@ use Rattle.rule.specs.declared.Rule.{Rule}
 use Rattle.rule.specs.Meaning.{RULES}
 use Rattle.chain.specs.declared.Link.{Link}
 use Rattle.sheet.specs.declared.Reply.{Reply}
-use Rattle.sheet.specs.Calls.{add, after, open-at, refusal}
-use Rattle.sheet.specs.Page.{Opening, Page, no-page}
+use Rattle.page.specs.Calls.{add, after, open-at, refusal}
+use Rattle.page.specs.Page.{Opening, Page, no-page}
 use Rattle.sheet.specs.Statements.{chainOn, overlaid, refuses, reply}
 use Rattle.batch.specs.declared.Batch.{Batch}
 

@@ -7,8 +7,9 @@ use Prim.Native.Nat.{ℕ, _+_, _-_}
 use lib.Dec.{eqb, ltb}
 use Rattle.rule.specs.declared.Rule.{Rule}
 use Rattle.sheet.specs.declared.Answer.{Answer}
-use Rattle.sheet.specs.Calls.{add}
-use Rattle.sheet.specs.Page.{Opening, blank}
+use Rattle.page.specs.Calls.{add}
+use Rattle.page.specs.Page.{Opening}
+use Rattle.sheet.specs.Record.{blank}
 use Rattle.sheet.specs.Statements.{Asked, Outcome, opened, refuses}
 use Rattle.batch.specs.declared.Batch.{Batch}
 use Rattle.batch.specs.declared.course.Course.{Course}

@@ -8,8 +8,9 @@ use Rattle.rule.specs.declared.Rule.{Rule}
 use Rattle.sheet.specs.declared.Answer.{Answer}
 use Rattle.sheet.specs.declared.Reply.{Reply}
 use Rattle.sheet.specs.declared.Sheet.{Sheet}
-use Rattle.sheet.specs.Calls.{add, open-at}
-use Rattle.sheet.specs.Page.{Opening, blank}
+use Rattle.page.specs.Calls.{add, open-at}
+use Rattle.page.specs.Page.{Opening}
+use Rattle.sheet.specs.Record.{blank}
 use Rattle.sheet.specs.Statements.{Asked, Outcome, refuses}
 use Rattle.batch.specs.declared.Batch.{Batch}
 use Rattle.batch.specs.Batch.{batches}

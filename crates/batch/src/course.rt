@@ -1,7 +1,7 @@
 // How far a batch has come.
 ghost use mathlib.Core.Path.{_≡_};
 ghost use Prim.Native.Nat.{_+_, _<_, _≤_, _^_};
-ghost use Rattle.sheet.specs.Page.{at-width};
+ghost use Rattle.page.specs.Page.{at-width};
 ghost use Rattle.batch.specs.Batch.{batches};
 ghost use Rattle.batch.specs.Course.{Finished, Stepped, begun, goes};
 use crate::Batch;

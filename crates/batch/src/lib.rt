@@ -1,7 +1,7 @@
 // The batch call: a width, a lent list of rules and a chain buffer, answered as the calls one by one would be.
 ghost use Prim.Native.Nat.{_≤_};
 ghost use lib.ListN.{take};
-ghost use Rattle.sheet.specs.Page.{at-width};
+ghost use Rattle.page.specs.Page.{at-width};
 ghost use Rattle.batch.specs.Batch.{Batched, MOST};
 
 mod course;

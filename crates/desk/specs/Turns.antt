@@ -8,7 +8,7 @@ use lib.ListN.{length, take}
 use Rattle.io.specs.Counts.{clamped}
 use Rattle.exchange.specs.declared.Desk.{Desk}
 use Rattle.exchange.specs.Begun.{desk, none}
-use Rattle.sheet.specs.Page.{blank}
+use Rattle.sheet.specs.Record.{blank}
 use Rattle.desk.specs.declared.calls.Came.{Came}
 use Rattle.desk.specs.declared.calls.Came.the-variants.{Interrupted}
 use Rattle.desk.specs.declared.turns.Talk.{Talk}

@@ -8,8 +8,9 @@ use borrow.Author.Tests.{eq-eqb, ne-eqb}
 use lib.ListN.{drop, length, length-take, take}
 use lib.Seq.{sets-eq, take-append-seam}
 use Rattle.sheet.specs.declared.Sheet.{Sheet}
-use Rattle.sheet.specs.Page.{Page, blank, fresh}
-use Rattle.sheet.specs.Statements.{Reached, start}
+use Rattle.page.specs.Page.{Page}
+use Rattle.sheet.specs.Record.{blank, fresh}
+use Rattle.page.specs.Reached.{Reached, start}
 use Rattle.frame.specs.Answers.{NEWLINE, answerBytes}
 use Rattle.frame.specs.Calls.{lineCall}
 use Rattle.frame.specs.Fields.{Line}

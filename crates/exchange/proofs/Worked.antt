@@ -9,8 +9,8 @@ use Rattle.accept.specs.Accept.{badConstant, badForm, badSense, ruleGrounds, st
 use Rattle.verdict.specs.Kept.{kept, verdictOf}
 use Rattle.chain.specs.Findings.{findings, chainFor}
 use Rattle.chain.specs.Links.{before, blocks, further, furthest, furthestOf, gap, linkAt, linkBy, links, linksFrom}
-use Rattle.sheet.specs.Calls.{after, changed, firstThatApplies, grounds, isBlank, marksOf, refusal, rulesOf, written as writes}
-use Rattle.sheet.specs.Page.{entriesOf, marksOn, rulesOn, struck, widthOf}
+use Rattle.page.specs.Calls.{after, changed, firstThatApplies, grounds, isBlank, marksOf, refusal, rulesOf, written as writes}
+use Rattle.page.specs.Page.{entriesOf, marksOn, rulesOn, struck, widthOf}
 use Rattle.hex.specs.Hex.{allDigits, glyph, hex, isDigit, number, numberFrom, value}
 use Rattle.frame.specs.Answers.{answerBytes, chainLines, lineBytes, numberLine}
 use Rattle.frame.specs.Calls.{callOf, lineCall}

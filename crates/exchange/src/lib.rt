@@ -1,7 +1,7 @@
 // The exchange of lines and answers, a part of the input at a time: lines, what is held of one that is cut, and what feeding a part
 // promises.
 ghost use mathlib.Core.Path.{_≡_};
-ghost use Rattle.sheet.specs.Page.{blank};
+ghost use Rattle.sheet.specs.Record.{blank};
 ghost use Rattle.exchange.specs.Begun.{desk, none};
 
 mod holding;

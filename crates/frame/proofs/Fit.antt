@@ -29,10 +29,10 @@ use Rattle.chain.specs.Links.{links}
 use Rattle.chain.proofs.Cover.{chain-covers}
 use Rattle.chain.proofs.Steps.{chain-is}
 use Rattle.chain.proofs.Walk.{none-fits}
-use Rattle.sheet.specs.Calls.{Call, Ground, add, ask, back, firstThatApplies, grounds, mark, open-at, refusal, rulesOf}
-use Rattle.sheet.specs.Page.{Page, WIDEST, entriesOf, no-page, page, rulesOn, widthOf}
-use Rattle.sheet.specs.Statements.{Reached}
-use Rattle.sheet.proofs.Lawful.{reached-lawful}
+use Rattle.page.specs.Calls.{Call, Ground, add, ask, back, firstThatApplies, grounds, mark, open-at, refusal, rulesOf}
+use Rattle.page.specs.Page.{Page, WIDEST, entriesOf, no-page, page, rulesOn, widthOf}
+use Rattle.page.specs.Reached.{Reached}
+use Rattle.page.proofs.Lawful.{reached-lawful}
 use Rattle.frame.specs.Answers.{ACCEPTED, NO-FRAME, REFUSED, chainLines, keptLine, linkLine, numberLine}
 use Rattle.frame.specs.Calls.{MadeCall, asks, makes, none}
 use Rattle.frame.specs.Fields.{AllInDigits, BYTE, InDigits, WORD, byte}

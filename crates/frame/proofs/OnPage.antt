@@ -12,12 +12,14 @@ use Rattle.chain.specs.Links.{chainRoom, numbersOf}
 use Rattle.sheet.specs.declared.Answer.{Answer}
 use Rattle.sheet.specs.declared.Reply.{Reply}
 use Rattle.sheet.specs.declared.Sheet.{Sheet}
-use Rattle.sheet.specs.Calls.{ask, refusal}
-use Rattle.sheet.specs.Page.{Page, fresh, no-page, page}
-use Rattle.sheet.specs.Statements.{Asked, Reached, chainOn, overlaid, reply}
-use Rattle.sheet.proofs.Demand.{after-reached, outcome-on}
-use Rattle.sheet.proofs.Lawful.{reached-lawful}
-use Rattle.sheet.proofs.Refusals.{ask-fits, blank-ask}
+use Rattle.page.specs.Calls.{ask, refusal}
+use Rattle.page.specs.Page.{Page, no-page, page}
+use Rattle.sheet.specs.Record.{fresh}
+use Rattle.sheet.specs.Statements.{Asked, chainOn, overlaid, reply}
+use Rattle.page.specs.Reached.{Reached}
+use Rattle.demands.proofs.Demand.{after-reached, outcome-on}
+use Rattle.page.proofs.Lawful.{reached-lawful}
+use Rattle.page.proofs.Refusals.{ask-fits, blank-ask}
 use Rattle.frame.specs.Answers.{askLines, chainLines, linkLine, linkLines, numberLine}
 use Rattle.frame.specs.Calls.{MadeCall, asks, makes, none}
 use Rattle.frame.specs.Fields.{Line}

@@ -12,8 +12,8 @@ use Rattle.chain.specs.Links.{chainRoom, numbersOf, mostLinks}
 use Rattle.chain.proofs.Walk.{numbers-length}
 use Rattle.sheet.specs.declared.Reply.{Reply}
 use Rattle.sheet.specs.declared.Sheet.{Sheet}
-use Rattle.sheet.specs.Calls.{ask, refusal}
-use Rattle.sheet.specs.Page.{Page}
+use Rattle.page.specs.Calls.{ask, refusal}
+use Rattle.page.specs.Page.{Page}
 use Rattle.sheet.specs.Statements.{Asked, IsSheet, chainOn, overlaid, reply}
 use Rattle.sheet.proofs.Tested.{sheet-dec}
 use Rattle.frame.specs.declared.AfterLine.{AfterLine}

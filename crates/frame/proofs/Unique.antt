@@ -10,7 +10,7 @@ use Rattle.sheet.specs.declared.Reply.{Reply}
 use Rattle.sheet.specs.declared.Sheet.{Sheet}
 use Rattle.sheet.specs.Statements.{Asked, IsSheet}
 use Rattle.sheet.proofs.Tested.{sheet-dec}
-use Rattle.sheet.proofs.Unique.{outcome-unique}
+use Rattle.demands.proofs.Unique.{outcome-unique}
 use Rattle.frame.specs.declared.AfterLine.{AfterLine}
 use Rattle.frame.specs.Answers.{answerBytes, askLines, numberLine}
 use Rattle.frame.specs.Calls.{MadeCall}

@@ -3,8 +3,8 @@ use mathlib.Core.List.{List}
 use Prim.Native.Nat.{ℕ}
 use Rattle.rule.specs.Meaning.{RULES}
 use Rattle.chain.specs.Links.{chainRoom}
-use Rattle.sheet.specs.Calls.{Call, add, back, mark, open-at}
-use Rattle.sheet.specs.Page.{at-width}
+use Rattle.page.specs.Calls.{Call, add, back, mark, open-at}
+use Rattle.page.specs.Page.{at-width}
 use Rattle.frame.specs.declared.Frame.{Frame}
 use Rattle.frame.specs.declared.Frame.the-variants.{Add, Ask, Back, Mark, NoFrame, Open}
 use Rattle.frame.specs.Frames.{frameOf}

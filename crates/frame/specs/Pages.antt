@@ -3,8 +3,8 @@ use mathlib.Core.Bool.{cond}
 use mathlib.Core.List.{List, [], _∷_}
 use lib.Dec.{eqb}
 use Rattle.chain.specs.Findings.{findings}
-use Rattle.sheet.specs.Calls.{after, ask, refusal, rulesOf}
-use Rattle.sheet.specs.Page.{Page, widthOf}
+use Rattle.page.specs.Calls.{after, ask, refusal, rulesOf}
+use Rattle.page.specs.Page.{Page, widthOf}
 use Rattle.frame.specs.Answers.{NO-FRAME, chainLines, keptLine, numberLine}
 use Rattle.frame.specs.Calls.{MadeCall, asks, makes, none}
 use Rattle.frame.specs.Fields.{Line}

@@ -8,7 +8,7 @@ use Rattle.chain.specs.Links.{chainRoom}
 use Rattle.sheet.specs.declared.Answer.{Answer}
 use Rattle.sheet.specs.declared.Reply.{Reply}
 use Rattle.sheet.specs.declared.Sheet.{Sheet}
-use Rattle.sheet.specs.Calls.{Call}
+use Rattle.page.specs.Calls.{Call}
 use Rattle.sheet.specs.Statements.{Asked, Outcome}
 use Rattle.hex.specs.Hex.{Written}
 use Rattle.frame.specs.declared.AfterLine.{AfterLine}

@@ -7,7 +7,7 @@ ghost use Rattle.chain.specs.Links.{chainRoom};
 ghost use Rattle.frame.specs.Answers.{ROOM};
 ghost use Rattle.exchange.specs.Begun.{begins, begunLine, desk};
 ghost use Rattle.exchange.specs.Statements.{FedSo, Finished};
-ghost use Rattle.lent_sheet.specs.Held.{Held, packed};
+ghost use Rattle.sheet.specs.Held.{Held, packed};
 ghost use Rattle.lent_frame.specs.Statements.{LaidAnswered};
 ghost use Rattle.lent_exchange.specs.Statements.{LaidTurn, LaidWhole};
 use exchange::Begun;
@@ -15,10 +15,11 @@ use exchange::Desk;
 use exchange::Fed;
 use frame::Frame;
 use lent_frame::AfterLaid;
-use lent_sheet::Head;
 use places::NUMBERS;
 use rule::Rule;
+use sheet::Head;
 use sheet::Sheet;
+use sheet::laid;
 
 // The head and the line begun after a turn, where the next turn starts in the part, and where the answers end.
 struct Turn {
@@ -40,14 +41,7 @@ pub fn feed(desk: Desk, part: &[u8], out: &mut [u8]) -> Fed
     let mut chain = [0; Sheet::LENT];
     let sheet = desk.sheet;
     let mut begun = desk.begun;
-    let mut head = lent_sheet::lay_out(
-        sheet,
-        &mut rules,
-        &mut marks,
-        &mut from,
-        &mut to,
-        &mut side,
-    );
+    let mut head = laid::lay_out(sheet, &mut rules, &mut marks, &mut from, &mut to, &mut side);
     let mut used = 0;
     let mut written = 0;
     while used < part.len() {
@@ -73,7 +67,7 @@ pub fn feed(desk: Desk, part: &[u8], out: &mut [u8]) -> Fed
         used = turn.next;
         written = turn.end;
     }
-    let packed = lent_sheet::pack(head, &rules, &marks);
+    let packed = laid::pack(head, &rules, &marks);
     Fed {
         desk: Desk {
             sheet: packed,
@@ -102,7 +96,7 @@ pub fn finish(desk: Desk, out: &mut [u8]) -> usize
     let mut to = [0; Rule::LIMIT];
     let mut side = [false; Rule::LIMIT];
     let mut chain = [0; Sheet::LENT];
-    let head = lent_sheet::lay_out(sheet, &mut rules, &mut marks, &mut from, &mut to, &mut side);
+    let head = laid::lay_out(sheet, &mut rules, &mut marks, &mut from, &mut to, &mut side);
     answer_held(
         head,
         &mut rules,

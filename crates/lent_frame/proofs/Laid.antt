@@ -4,16 +4,16 @@ use mathlib.Core.Bool.{Bool}
 use mathlib.Core.List.{List, [], _∷_}
 use Prim.Native.Nat.{ℕ}
 use Rattle.sheet.specs.declared.Sheet.{Sheet}
-use Rattle.sheet.specs.Calls.{Call}
+use Rattle.page.specs.Calls.{Call}
 use Rattle.frame.specs.declared.Frame.{Frame}
 use Rattle.frame.specs.Answers.{lineBytes, numberLine}
 use Rattle.frame.specs.Calls.{MadeCall, callOf, makes}
 use Rattle.frame.specs.Frames.{frameOf}
 use Rattle.frame.specs.Statements.{PutAt, Said, answered}
 use Rattle.frame.proofs.Saying.{number-answered}
-use Rattle.lent_sheet.specs.declared.Head.{Head}
-use Rattle.lent_sheet.specs.Held.{Held, packed}
-use Rattle.lent_calls.specs.Statements.{After}
+use Rattle.sheet.specs.declared.Head.{Head}
+use Rattle.sheet.specs.Held.{Held, packed}
+use Rattle.sheet.specs.Laid.{After}
 use Rattle.lent_frame.specs.Statements.{LaidAnswered}
 
 pub laid-number : {s : Sheet} (line : List ℕ) {b b′ : List ℕ} {at end n : ℕ} {h k : Head} {rules marks from to : List ℕ} {side : List Bool} {f : Frame} (c : Call)

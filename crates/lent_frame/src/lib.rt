@@ -6,18 +6,19 @@ ghost use Rattle.rule.specs.Meaning.{RULES};
 ghost use Rattle.chain.specs.Links.{chainRoom};
 ghost use Rattle.frame.specs.Answers.{ROOM, SHORT, lineBytes, numberLine};
 ghost use Rattle.frame.specs.Statements.{AskPut, PutAt};
-ghost use Rattle.lent_sheet.specs.Held.{Held, packed};
+ghost use Rattle.sheet.specs.Held.{Held, packed};
 ghost use Rattle.lent_frame.specs.Statements.{LaidAnswered};
 use frame::Frame;
 use frame::kept_line;
 use frame::put_line;
 use frame::put_links;
 use frame::put_number;
-use lent_calls::Said;
-use lent_sheet::Head;
 use places::NUMBERS;
 use rule::Rule;
+use sheet::Head;
+use sheet::Said;
 use sheet::Sheet;
+use sheet::laid;
 
 // The refusal of a line that is no frame.
 const NO_FRAME: u64 = 10;
@@ -49,19 +50,11 @@ pub fn answer(
     let frame = frame::decode(line);
     match frame {
         Frame::Open(width) => {
-            let said = lent_calls::open(
-                head,
-                &mut *rules,
-                &mut *marks,
-                &*from,
-                &*to,
-                &*side,
-                width,
-            );
+            let said = laid::open(head, &mut *rules, &mut *marks, &*from, &*to, &*side, width);
             told(said, &mut *out, at)
         }
         Frame::Add(rule) => {
-            let said = lent_calls::add(
+            let said = laid::add(
                 head,
                 &mut *rules,
                 &*marks,
@@ -73,11 +66,11 @@ pub fn answer(
             told(said, &mut *out, at)
         }
         Frame::Mark => {
-            let said = lent_calls::mark(head, &*rules, &mut *marks, &*from, &*to, &*side);
+            let said = laid::mark(head, &*rules, &mut *marks, &*from, &*to, &*side);
             told(said, &mut *out, at)
         }
         Frame::Back => {
-            let said = lent_calls::back(head, &mut *rules, &mut *marks, &*from, &*to, &*side);
+            let said = laid::back(head, &mut *rules, &mut *marks, &*from, &*to, &*side);
             told(said, &mut *out, at)
         }
         Frame::Ask => AfterLaid {
@@ -130,7 +123,7 @@ fn asked(
     ensures { λ r. ⌜ AskPut (packed head (now (rules .entry)) (now (marks .entry))) (now (out .entry)) at (now (out .exit)) r ⌝ }
     ensures { λ r. ⌜ length (now (chain .exit)) ≡ chainRoom RULES ⌝ }
 {
-    let reply = lent_calls::ask(head, rules, marks, from, to, side, &mut *chain);
+    let reply = laid::ask(head, rules, marks, from, to, side, &mut *chain);
     if reply.number != 0 {
         return put_number(&mut *out, at, reply.number);
     }

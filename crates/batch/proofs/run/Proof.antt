@@ -50,7 +50,7 @@ use denote.Signature.{plain}
 use Rattle.rule.specs.declared.Rule.{Rule}
 use Rattle.rule.proofs.Rule as R
 use Rattle.rule.proofs.Rule.Laws as R′
-use Rattle.sheet.specs.Page.{at-width, noRule}
+use Rattle.page.specs.Page.{at-width, noRule}
 use Rattle.batch.specs.declared.Batch.{Batch}
 use Rattle.batch.specs.declared.course.Course.{Course}
 use Rattle.batch.specs.Course.{Finished, Stepped, begun, goes}

@@ -2,8 +2,8 @@
 use mathlib.Core.Path.{refl, sym, _∙_}
 use Prim.Native.Nat.{_-_}
 use borrow.Author.Needs.{needs}
-use Rattle.sheet.specs.Calls.{add, back, mark, open-at}
-use Rattle.sheet.specs.Page.{at-width}
+use Rattle.page.specs.Calls.{add, back, mark, open-at}
+use Rattle.page.specs.Page.{at-width}
 use Rattle.frame.specs.Calls.{callOf}
 use Rattle.frame.specs.Statements.{no-call}
 use Rattle.frame.proofs.Saying.{line-answered, number-answered}

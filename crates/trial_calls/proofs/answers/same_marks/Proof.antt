@@ -1,6 +1,6 @@
 -- `same_marks` is safe and ends: the measure is the marks left. Assumes nothing.
 use Prim.Native.Nat.{_-_}
-use Rattle.sheet.specs.Page.{MARKS}
+use Rattle.page.specs.Page.{MARKS}
 use borrow.Author.Needs.{needs}
 use Rattle.trial_calls.proofs.answers.same_marks.Statement.{statement}
 use Rattle.trial_calls.proofs.answers.same_marks.Tie as tie

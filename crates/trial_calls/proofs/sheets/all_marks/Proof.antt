@@ -1,6 +1,6 @@
 -- `all_marks` is safe and ends: the measure is the marks left. Assumes nothing.
 use Prim.Native.Nat.{_-_}
-use Rattle.sheet.specs.Page.{MARKS}
+use Rattle.page.specs.Page.{MARKS}
 use borrow.Author.Needs.{needs}
 use Rattle.trial_calls.proofs.sheets.all_marks.Statement.{statement}
 use Rattle.trial_calls.proofs.sheets.all_marks.Tie as tie

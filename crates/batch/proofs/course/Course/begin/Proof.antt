@@ -3,7 +3,8 @@ use mathlib.Core.Path.{_≡_, ap, _∙_}
 use borrow.Author.Needs.{needs}
 use Rattle.sheet.specs.declared.Answer.{Answer}
 use Rattle.sheet.specs.declared.Sheet.{Sheet}
-use Rattle.sheet.specs.Page.{at-width, blank}
+use Rattle.page.specs.Page.{at-width}
+use Rattle.sheet.specs.Record.{blank}
 use Rattle.sheet.specs.Statements.{Outcome, opened}
 use Rattle.batch.specs.Course.{begun, onward}
 use Rattle.batch.proofs.Onward.{goes-on, stops-at}
