@@ -99,13 +99,13 @@ module _ {h : Head} {rules marks from to : List ℕ} {side : List Bool} (held : 
         ∙ replicate-append-replicate (h .count - left) (RULES - h .count) noRule
         ∙ ap (λ (n : ℕ). replicate n noRule) size)
 
-    pub places-left : length (rulesIn rules′) ≡ RULES
+    places-left : length (rulesIn rules′) ≡ RULES
     places-left =
         let kept-length = length-take-le left (rulesIn rules) (omega (arith, left-low, count-few, held .room .rules-places)) in
         ap length emptied
         ∙ omega (arith, length-append (take left (rulesIn rules)) (replicate (RULES - left) noRule), kept-length, length-replicate (RULES - left) noRule, left-low, count-few)
 
-    module _ (fixed : Fixed) (bits : fixed ≡ fixedBits (take left (rulesIn rules′))) where
+    module _ (fixed : Fixed) (bits : fixed ≡ fixedBits (take left (rulesIn rules))) where
       drawn-left : Drawn w (take left (rulesIn rules)) (take left (zipped from to side)) fixed
       drawn-left =
           record {
@@ -113,7 +113,7 @@ module _ {h : Head} {rules marks from to : List ℕ} {side : List Bool} (held : 
                 ∙ ap (take left) (drawn-so held e .own)
                 ∙ take-map (bandOf w) left (take (h .count) (rulesIn rules))
                 ∙ ap (map (bandOf w)) (take-take left (h .count) (rulesIn rules) left-low);
-            bits = bits ∙ ap fixedBits rules-left;
+            bits = bits;
           }
 
       pub swept-left : Swept w left from to side fixed

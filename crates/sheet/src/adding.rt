@@ -85,6 +85,7 @@ fn refuses_rule(head: Head, rule: Rule) -> u64
     requires { ⌜ (before (head .stands) (head .width) ≡ 0 → IsWidth (head .width)) ⌝ }
     ensures { λ r. ⌜ r ≡ ruleNumber head rule ⌝ }
 {
+    let count = head.count;
     let number = standing::standing(head);
     if number != 0 {
         return number;
@@ -93,7 +94,7 @@ fn refuses_rule(head: Head, rule: Rule) -> u64
     if bad != 0 {
         return bad;
     }
-    if Rule::LIMIT <= head.count {
+    if Rule::LIMIT <= count {
         return 6;
     }
     0

@@ -41,21 +41,21 @@ pub fn back(
     requires { ⌜ Held head (now rules) (now marks) (now from) (now to) (now side) ⌝ }
     ensures { λ r. ⌜ After (packed head (now (rules .entry)) (now (marks .entry))) back (r .number) (r .head) (now (rules .exit)) (now (marks .exit)) (now (from .entry)) (now (to .entry)) (now (side .entry)) ⌝ }
 {
+    let marked = head.marked;
+    let count = head.count;
+    let width = head.width;
     let number = standing::standing(head);
     if number != 0 {
         return Said { number, head };
     }
-    let marked = head.marked;
-    let count = head.count;
-    let width = head.width;
     if marked == 0 {
         return Said { number: 8, head };
     }
     let at = marked - 1;
     let left = marks[at];
     marks[at] = 0;
-    places::clear(&mut *rules, left, count);
     let fixed = places::bits_of(&*rules, left);
+    places::clear(&mut *rules, left, count);
     let bits = Width { bits: width };
     let kept = verdict::laid::solve(from, to, side, left, fixed, bits, 0, bits.top());
     Said {

@@ -40,25 +40,26 @@ pub fn mark(
     requires { ⌜ Held head (now rules) (now marks) (now from) (now to) (now side) ⌝ }
     ensures { λ r. ⌜ After (packed head (now (rules .entry)) (now (marks .entry))) mark (r .number) (r .head) (now (rules .entry)) (now (marks .exit)) (now (from .entry)) (now (to .entry)) (now (side .entry)) ⌝ }
 {
+    let marked = head.marked;
+    let count = head.count;
     let number = standing::standing(head);
     if number != 0 {
         return Said { number, head };
     }
-    let marked = head.marked;
-    let count = head.count;
     if Sheet::MARKS <= marked {
         return Said { number: 7, head };
     }
     marks[marked] = count;
     let kept = head.kept;
     let fixed = head.fixed;
+    let next = marked + 1;
     Said {
         number: 0,
         head: Head {
             stands: true,
             width: head.width,
             count,
-            marked: marked + 1,
+            marked: next,
             kept,
             fixed,
         },

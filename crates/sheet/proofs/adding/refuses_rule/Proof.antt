@@ -28,12 +28,12 @@ returns-2 c =
 
 returns-3 : tie.Need-returns-3
 returns-3 c =
-    let o = c .before .before in
+    let o = c .before in
     number-full _ _ (none (o .before .before)) (sym (o .before .refusal-of .ensures) ∙ o .if2 .left) (c .if3 .taken)
 
 returns-4 : tie.Need-returns-4
 returns-4 c =
-    let o = c .before .before in
+    let o = c .before in
     number-none _ _ (none (o .before .before)) (sym (o .before .refusal-of .ensures) ∙ o .if2 .left) (c .if3 .left)
 
 pub refuses-rule-spec : {M : Type 1} → statement M

@@ -14,7 +14,7 @@ use Rattle.sheet.proofs.Stands.{known, refused-standing}
 use Rattle.sheet.proofs.Ways.{refused-reads}
 use Rattle.sheet.specs.Held.{before, packed}
 use Rattle.sheet.proofs.Holding.{on-sheet, stands-so, width-so}
-use Rattle.sheet.proofs.SteppedBack.{count-few, gone-back, left-low, mark-there, places-left, swept-left}
+use Rattle.sheet.proofs.SteppedBack.{count-few, gone-back, left-low, mark-there, swept-left}
 use Rattle.sheet.proofs.going_back.back.Statement.{statement}
 use Rattle.sheet.proofs.going_back.back.Tie as tie
 
@@ -62,28 +62,27 @@ mul-marks c = omega (arith, there (c .before))
 element-write-marks : tie.Need-element-write-marks
 element-write-marks c = there (c .before)
 
-clear-requires : tie.Need-clear-requires
-clear-requires c κs =
-    let b = c .before .before in
-    let h = start (b .before) .pre in
-    (left-low h (none (b .before)) (b .if2 .left), count-few h (none (b .before)) (b .if2 .left), h .room .rules-places)
-
 bits-of-requires : tie.Need-bits-of-requires
 bits-of-requires c κs =
-    let l = c .before in
-    let b = l .before .before .before in
+    let b = c .before .before in
     let h = start (b .before) .pre in
     let n = none (b .before) in
-    (omega (arith, left-low h n (b .if2 .left), count-few h n (b .if2 .left)), places-left h n (b .if2 .left) _ (l .clear .ensures))
+    (omega (arith, left-low h n (b .if2 .left), count-few h n (b .if2 .left)), h .room .rules-places)
+
+clear-requires : tie.Need-clear-requires
+clear-requires c κs =
+    let b = c .before .before .before .before in
+    let h = start (b .before) .pre in
+    (left-low h (none (b .before)) (b .if2 .left), count-few h (none (b .before)) (b .if2 .left), h .room .rules-places)
 
 top-requires : tie.Need-top-requires
 top-requires c κs = let b = c .before .before .before .before .before in width-so (start (b .before) .pre) (none (b .before))
 
 solve-requires : tie.Need-solve-requires
 solve-requires c κs =
-    let o = c .before in
-    let l = o .before .before in
-    let b = l .before .before .before in
+    let l = c .before in
+    let o = l .before .before in
+    let b = o .before .before .before in
     let h = start (b .before) .pre in
     let n = none (b .before) in
     let w = start (b .before) .args .head .width in
@@ -93,9 +92,9 @@ solve-requires c κs =
 returns-3 : tie.Need-returns-3
 unfolding Outcome packed
 returns-3 c =
-    let o = c .before .before in
-    let l = o .before .before in
-    let b = l .before .before .before in
+    let l = c .before .before in
+    let o = l .before .before in
+    let b = o .before .before .before in
     gone-back (start (b .before) .pre) (none (b .before)) (b .if2 .left) _ (l .clear .ensures) _ (o .bits-of .ensures) _ (c .solve .ensures)
 
 pub back-spec : {M : Type 1} → statement M
@@ -110,8 +109,8 @@ back-spec =
     element-copy-out-left
     mul-marks
     element-write-marks
-    clear-requires
     bits-of-requires
+    clear-requires
     top-requires
     solve-requires
     returns-3)

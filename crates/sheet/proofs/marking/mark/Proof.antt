@@ -55,8 +55,8 @@ mul-marks c = search needs
 element-write-marks : tie.Need-element-write-marks
 element-write-marks c = search needs
 
-add-t13 : tie.Need-add-t13
-add-t13 c = search needs
+add-next : tie.Need-add-next
+add-next c = search needs
 
 returns-3 : tie.Need-returns-3
 unfolding Outcome packed written changed
@@ -81,4 +81,4 @@ returns-3 c =
 pub mark-spec : {M : Type 1} → statement M
 mark-spec =
     tie.close
-    (tie.spec standing-requires returns returns-2 mul-marks element-write-marks add-t13 returns-3)
+    (tie.spec standing-requires returns returns-2 mul-marks element-write-marks add-next returns-3)
