@@ -1,5 +1,5 @@
 -- `solve` meets its contract: what is kept of the bands and the bits of the rules is what is kept of the rules. Assumes nothing.
-use mathlib.Core.Path.{_≡_, refl, sym, ap₂, _∙_, subst}
+use mathlib.Core.Path.{refl, sym, ap₂, _∙_, subst}
 use mathlib.Core.List.{List}
 use borrow.Author.Needs.{needs}
 use lib.ListN.{take}
