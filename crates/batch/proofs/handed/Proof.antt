@@ -55,7 +55,7 @@ use Rattle.rule.proofs.Rule as R
 use Rattle.rule.proofs.Rule.Laws as R′
 use Rattle.page.specs.Page.{at-width}
 use Rattle.batch.specs.declared.Batch.{Batch}
-use Rattle.batch.specs.Batch.{Batched}
+use Rattle.batch.specs.Batch.{Batched, MOST}
 use Rattle.batch.proofs.Batch as B
 use Rattle.batch.proofs.Batch.Laws as B′
 use Rattle.batch.proofs.run as run′
@@ -72,14 +72,14 @@ abbrev stayed : Stays (handed.ended .signature .params) (handed.ended .kept)
 stayed = (
   stay-dropped (plain (λ _. u64)) yes,
   (
-    stay-dropped (arrayOf (plain (λ _. R.the-row)) 65) yes,
+    stay-dropped (arrayOf (plain (λ _. R.the-row)) MOST) yes,
     (stay-dropped (plain (λ _. usize)) yes, (gave-slice (0 ∷ []) tt (plain (λ _. u64)), tt)),
   ),
 )
 
--- a list of 65 rules, and its machine value
+-- as many rules as the array has places, and their machine value
 abbrev ListOf : RattleType
-ListOf = Array R.the-row 65
+ListOf = Array R.the-row MOST
 
 abbrev list-vals : List Rule → List Val
 list-vals = array-vals (LL.vals R.the-type R′.the-laws)
@@ -88,13 +88,13 @@ abbrev listVal : List Rule → Val
 listVal us = only (list-vals us)
 
 list-tells : Tells ListOf (Is ListOf) list-vals
-list-tells = array-tells R.the-row (LL.vals R.the-type R′.the-laws) (LL.tells R.the-type R′.the-laws) 65
+list-tells = array-tells R.the-row (LL.vals R.the-type R′.the-laws) (LL.tells R.the-type R′.the-laws) MOST
 
 abbrev word : Ty
 word = tyInt w64
 
 abbrev listTy : Ty
-listTy = tyArray R′.mir 65
+listTy = tyArray R′.mir MOST
 
 abbrev outTy : Ty
 outTy = sliceTy (tyRef (named 0) mut word)
@@ -123,7 +123,7 @@ module _ {M : Type 1} (𝓤 : URA M) (H : Heap 𝓤) (A : Atoms 𝓤) (W : Given
   lies us b is =
       qed W (‵ (fat fullShare listTy b 0 (listVal us)) ∷ []) ∵ use1 W (‵ (cellAt fullShare (ListOf .mir) (list-vals us) b 0))
       (W .laws .at-raw fullShare listTy b 0 (listVal us)) $
-      owned ! ListOf (Is ListOf) (array-makes 𝓤 H A W R.the-row (LL.makes R.the-type R′.the-plain 𝓤 H A) 65) us
+      owned ! ListOf (Is ListOf) (array-makes 𝓤 H A W R.the-row (LL.makes R.the-type R′.the-plain 𝓤 H A) MOST) us
       (list-vals us) is $ move ! (1 ∷ 0 ∷ []) $ fjoin ! $
       fpack ! (List Val) (λ vs. fsep (cellAt fullShare (ListOf .mir) vs b 0) (ListOf .own us vs)) (list-vals us) $ done !
 
@@ -135,7 +135,7 @@ module _ {M : Type 1} (𝓤 : URA M) (H : Heap 𝓤) (A : Atoms 𝓤) (W : Given
       use1 W (‵ (fat fullShare listTy b 0 (listVal us))) (W .laws .raw-at fullShare listTy b 0 (listVal us)) $ done !)
 
   list-typed : (us : List Rule) → Is ListOf us (list-vals us) → Holds (hasTy listTy (listVal us)) × WT (listVal us)
-  list-typed us is = array-lawful 𝓤 H A W R.the-row (LL.lawful R.the-type R′.the-laws 𝓤 H A W) 65 .typed us _ is .0
+  list-typed us is = array-lawful 𝓤 H A W R.the-row (LL.lawful R.the-type R′.the-laws 𝓤 H A W) MOST .typed us _ is .0
 
   -- ---- the first i rules, and those after them
 
@@ -162,7 +162,7 @@ Run 𝓤 H A mem run = tripleOf 𝓤 H A run′.signature (run′.spec 𝓤 H A 
 
 module _ {M : Type 1} (𝓤 : URA M) (H : Heap 𝓤) (A : Atoms 𝓤) (W : Given 𝓤 H A) (mem : Memory → SProp 𝓤)
     (run : Routine → Fun 𝓤) (κ : Lft) (q : Share) (w : ℕ) (us : List Rule) (k b o : ℕ) (γ : GName) (ys : List ℕ)
-    (w-fits : w < 2 ^ 64) (is : Is ListOf us (list-vals us)) (few : k ≤ 65) (room : Room u64 (length ys)) where
+    (w-fits : w < 2 ^ 64) (is : Is ListOf us (list-vals us)) (few : k ≤ MOST) (room : Room u64 (length ys)) where
   abbrev m : ℕ
   m = length ys
 
@@ -226,7 +226,7 @@ module _ {M : Type 1} (𝓤 : URA M) (H : Heap 𝓤) (A : Atoms 𝓤) (W : Given
         move ! (2 ∷ 0 ∷ []) $ join ! $ move ! (1 ∷ 0 ∷ []) $ join ! $ join ! $ frame ! $ done !
 
   -- as many rules are lent as are asked for
-  lent-length : length us ≡ 65 → length vs ≡ k
+  lent-length : length us ≡ MOST → length vs ≡ k
   lent-length e = length-take-le k us (omega (arith, e, few))
 
   module _ (𝓣 : Tables 𝓤 H) (fm : FmC 𝓤 H (W .laws) (𝓣 .C)) (known : Triple 𝓤 (𝓣 .C #run) (Run 𝓤 H A mem run))
@@ -267,8 +267,8 @@ module _ {M : Type 1} (𝓤 : URA M) (H : Heap 𝓤) (A : Atoms 𝓤) (W : Given
         -- the list is taken apart: [the first rules; the rest; _9 2; _8; _7; _6; …; _4 11; _3; _2; _1; _0; the token; what the
         -- parameters own]
         move ! (8 ∷ []) $ use1 W (‵ (partAt ListOf fullShare us l₅ 0)) (lies 𝓤 H A W us l₅ is) $
-        use1 W (‵ (arr-parts (shares R.the-row) 65 .part fullShare us l₅ 0))
-        (array-apart 𝓤 H A W R.the-row fullShare tt 65 us l₅ 0) $ fsplit ! $ feqL ! (λ all.
+        use1 W (‵ (arr-parts (shares R.the-row) MOST .part fullShare us l₅ 0))
+        (array-apart 𝓤 H A W R.the-row fullShare tt MOST us l₅ 0) $ fsplit ! $ feqL ! (λ all.
         use1 W (‵ (Row vs l₅ 0) ⊛ ‵ (Row (past k us) l₅ (place 32 0 k))) (front 𝓤 H A W k us l₅ 0) $ split ! $
         feqI ! ℕ (length vs) (length vs) refl $ fjoin ! $
         lft-new ! tt (λ α. move ! (1 ∷ []) $
@@ -296,8 +296,8 @@ module _ {M : Type 1} (𝓤 : URA M) (H : Heap 𝓤) (A : Atoms 𝓤) (W : Given
         -- _6; …; _4 16; _3; _2; _1; _0]
         move ! (2 ∷ []) $ split ! $ split ! $ lft-end ! tt $ move ! (0 ∷ 7 ∷ []) $ lent-back ! tt $ fsplit ! $ drop ! $
         move ! (0 ∷ 7 ∷ []) $ use2 W (‵ (Row us l₅ 0)) (joined 𝓤 H A W k us l₅ 0) $
-        feqI ! ℕ (length us) 65 all $ fjoin ! $
-        use1 W (‵ (partAt ListOf fullShare us l₅ 0)) (array-whole 𝓤 H A W R.the-row fullShare 65 us l₅ 0) $
+        feqI ! ℕ (length us) MOST all $ fjoin ! $
+        use1 W (‵ (partAt ListOf fullShare us l₅ 0)) (array-whole 𝓤 H A W R.the-row fullShare MOST us l₅ 0) $
         use1 W (‵ (fat fullShare listTy l₅ 0 (listVal us))) (stands 𝓤 H A W us l₅) $
         move ! (2 ∷ []) $ peeks ! B.the-row (Is B.the-row) (shows 𝓤 H A B.the-row) r (v ∷ []) (λ is′.
         land ! (from ! (stop !)) (init ! 24 refl (LL.lawful B.the-type B′.the-laws 𝓤 H A W .typed r _ is′ .0)) $
@@ -309,7 +309,7 @@ module _ {M : Type 1} (𝓤 : URA M) (H : Heap 𝓤) (A : Atoms 𝓤) (W : Given
         move ! (6 ∷ 7 ∷ []) $ free1 ! $ free0 ! $
         keep ! (0 ∷ 1 ∷ 2 ∷ []) $ by ! (exits r v (zs .1 .1 .0) e l))))))))))
       where
-        few-room : length us ≡ 65 → Room R.the-row (length vs)
+        few-room : length us ≡ MOST → Room R.the-row (length vs)
         few-room e = let h = lent-length e in (omega (arith, h, few), omega (arith, h, few))
 
         k-fits : k < 2 ^ 64
@@ -335,7 +335,7 @@ module _ {M : Type 1} (𝓤 : URA M) (H : Heap 𝓤) (A : Atoms 𝓤) (W : Given
   handed-walks = walked 𝓤 H A handed.ended stayed (handed.clauses 𝓤 H A mem run) (WpFn 𝓤 H (𝓣 .C) (𝓣 .Λ) code.function)
       (λ κs. (uint-vals w64, (list-vals, (uint-vals w64, (slice-vals, tt)))))
       (λ κs. (uint-tells w64, (list-tells, (uint-tells w64, (mut-slice-tells (named 0) (κs .0) u64, tt)))))
-      (λ κs qs bounds a g are. needs 𝓤 (a .1 .1 .0 ≤ 65) _ (λ few.
+      (λ κs qs bounds a g are. needs 𝓤 (a .1 .1 .0 ≤ MOST) _ (λ few.
       walk 𝓤 H A W mem run (κs .0) (qs .0) (a .0) (a .1 .0) (a .1 .1 .0) (a .1 .1 .1 .0 .ptr .0) (a .1 .1 .1 .0 .ptr .1)
       (a .1 .1 .1 .0 .name) (a .1 .1 .1 .0 .now)
       (are .0 .1) (are .1 .0) few (are .1 .1 .1 .0 .0 .1) 𝓣 (fmOf 𝓤 H (W .laws) 𝓣) known))
@@ -345,7 +345,7 @@ module _ {M : Type 1} (𝓤 : URA M) (H : Heap 𝓤) (A : Atoms 𝓤) (W : Given
       walk-meets 𝓤 H A handed.ended stayed W (
         goes-dropped 𝓤 H A W 1 (plain (λ _. u64)) yes (λ κs x f. refl),
         (
-          goes-dropped 𝓤 H A W 1 (arrayOf (plain (λ _. R.the-row)) 65) yes (λ κs x f. refl),
+          goes-dropped 𝓤 H A W 1 (arrayOf (plain (λ _. R.the-row)) MOST) yes (λ κs x f. refl),
           (
             goes-dropped 𝓤 H A W 1 (plain (λ _. usize)) yes (λ κs x f. refl),
             (goes-gave-slice 𝓤 H A W 1 0 tt (plain (λ _. u64)), tt),
