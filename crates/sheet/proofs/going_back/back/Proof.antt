@@ -7,6 +7,7 @@ use Rattle.word.specs.Word.{top}
 use Rattle.verdict.specs.OnBands.{Ends}
 use Rattle.verdict.proofs.Rules.{whole-wheel}
 use Rattle.page.specs.Calls.{back}
+use Rattle.page.specs.Page.{MARKS}
 use Rattle.sheet.specs.Stands.{Stands}
 use Rattle.sheet.specs.Statements.{Outcome}
 use Rattle.page.proofs.Refusals.{back-none, blank-back}
@@ -25,7 +26,7 @@ start a = a .before .before
 none : (a : tie.Else1) → before (start a .args .head .stands) (start a .args .head .width) ≡ 0
 none a = sym (a .before .standing .ensures) ∙ a .if1 .left
 
-there : (b : tie.Else2) → start (b .before) .args .head .marked - 1 < 16
+there : (b : tie.Else2) → start (b .before) .args .head .marked - 1 < MARKS
 there b = mark-there (start (b .before) .pre) (none (b .before)) (b .if2 .left)
 
 standing-requires : tie.Need-standing-requires
