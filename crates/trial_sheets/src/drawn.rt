@@ -11,7 +11,7 @@ use trial_direct::rules;
 use trial_direct::rules::rule;
 use word::Width;
 
-// How many rules a sheet has: up to 64, and on every other sheet up to 7.
+// How many rules a sheet has: up to the limit, and on every other sheet up to 7.
 pub fn count(s: u64) -> usize
     ensures { λ r. ⌜ r ≤ RULES ⌝ }
 {

@@ -1,9 +1,10 @@
 // Tries the batch call: on lists that hit each refusal it can give, and on lists that are answered, against the numbers and
 // places that the paper gives and against the calls made one by one.
 //
-// The counts: for each case the number and the place, the 6 numbers of an answer and the 771 of a buffer. widths: 3 widths on
-// 3 lists. rules: 7 rules that are refused and one that is not, at 5 places of 5. lengths: 3 lengths of 2 lists, lent enough and one number
-// less, and a 65th rule on both. known: one case, each of its numbers with a wrong expectation.
+// The counts: for each case the number and the place, the 6 numbers of an answer and those of a buffer for a full sheet. widths:
+// 3 widths on 3 lists. rules: 7 rules that are refused and one that is not, at 5 places of 5. lengths: 3 lengths of 2 lists, lent
+// enough and one number less, and on both one rule more than a sheet takes. known: one case, each of its numbers with a wrong
+// expectation.
 mod case;
 
 use batch::Batch;
@@ -58,7 +59,7 @@ fn refused(place: usize, rule: Rule, number: u64) -> Tally {
     case::lent_enough(4, with(alike(), place, rule), 5, number, place)
 }
 
-// No rule, one, as many as a sheet takes, and one more: "many" at width 4, and of 64 rules at width 32 "none".
+// No rule, one, as many as a sheet takes, and one more: "many" at width 4, and of a full sheet at width 32 "none".
 fn lengths() -> Tally {
     length(4, alike()).plus(length(32, parts()))
 }

@@ -21,7 +21,7 @@ pub fn all() -> Tally {
         .plus(widths(opened(4)))
         .plus(rules(opened(4)))
         .plus(bit_rules(opened(4)))
-        .plus(sixty_five())
+        .plus(one_too_many())
         .plus(asking())
         .plus(marks())
         .plus(on_blank(Sheet::blank()))
@@ -49,8 +49,8 @@ fn bit_rules(sheet: Sheet) -> Tally {
         .plus(Tally::one(accepted(sheet.add(rule(7, 0, 6, 6)))))
 }
 
-// The 64th rule stands after a mark, so that a step back strikes it alone.
-fn sixty_five() -> Tally {
+// The last rule that a sheet takes stands after a mark, so that a step back strikes it alone.
+fn one_too_many() -> Tally {
     let more = case2();
     let sheet = marked(all_but_one());
     let full = added(sheet, more);
@@ -75,7 +75,7 @@ fn marks() -> Tally {
         .plus(striking(full))
 }
 
-// Sixteen marks are accepted.
+// As many marks as a sheet takes are accepted.
 fn marking() -> Tally {
     let mut tally = Tally::none();
     let mut sheet = opened(4);

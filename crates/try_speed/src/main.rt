@@ -50,7 +50,9 @@ fn chosen(word: [u8; 8]) -> Way {
 
 fn print(right: u64) {
     io::print_decimal(1, right);
-    io::write_all(1, b" answers of 64 links\n");
+    io::write_all(1, b" answers of ");
+    io::print_decimal(1, Rule::LIMIT as u64);
+    io::write_all(1, b" links\n");
 }
 
 fn full(rules: [Rule; Batch::MOST]) -> Sheet {
