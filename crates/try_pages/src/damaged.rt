@@ -21,6 +21,9 @@ const MARKS: usize = RULES + Sheet::MARKS;
 
 const NUMBERS: usize = MARKS + 6;
 
+// What is raised by it is far off: a count of rules or of marks passes its limit.
+const FAR: u64 = Rule::LIMIT as u64;
+
 pub fn all() -> Tally {
     let first = added(opened(4), case2());
     let sheet = marked(added(first, rule(4, 0, 7, 0)));
@@ -48,7 +51,7 @@ fn over_numbers(sheet: Sheet) -> Tally {
 // The next number, one that is far off, and one that is the same in its low half.
 fn over_amounts(sheet: Sheet, at: usize) -> Tally {
     looks(raised(sheet, at, 1))
-        .plus(looks(raised(sheet, at, 64)))
+        .plus(looks(raised(sheet, at, FAR)))
         .plus(looks(raised(sheet, at, 0x1_0000_0000)))
 }
 

@@ -41,7 +41,7 @@ fn new_width(seed: u64) -> u64 {
 }
 
 // A rule, each of whose numbers is mostly one that is accepted at the width.
-fn rule(seed: u64, more: u64, width: u64) -> Rule {
+pub fn rule(seed: u64, more: u64, width: u64) -> Rule {
     let form = form(seed);
     Rule {
         form,

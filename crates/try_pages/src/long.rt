@@ -18,11 +18,11 @@ const SEQUENCES: u64 = 100;
 const CALLS: u64 = 200;
 
 // A desk and a clerk at work: what the next call is drawn from, the desk's sheet, the clerk's page, and the calls so far.
-struct Work {
-    seed: u64,
-    sheet: Sheet,
-    page: Page,
-    calls: Split,
+pub struct Work {
+    pub seed: u64,
+    pub sheet: Sheet,
+    pub page: Page,
+    pub calls: Split,
 }
 
 pub fn all() -> Split {
@@ -48,24 +48,28 @@ fn sequence(seed: u64) -> Split {
 }
 
 // One call more.
-fn step(work: Work) -> Work {
+pub fn step(work: Work) -> Work {
     let sheet = work.sheet;
     let page = work.page;
     let calls = work.calls;
     let call = draw::drawn(work.seed, page.width);
     let answer = made(sheet, call);
     let left = answer.sheet;
-    let stands = if answer.number == 0 {
-        page.after(call)
-    } else {
-        page
-    };
+    let stands = standing(page, call, answer.number);
     Work {
         seed: draw::further(work.seed),
         sheet: left,
         page: stands,
         calls: calls.plus(compared(answer.number, left, stands)),
     }
+}
+
+// The page after a call that was answered with a number.
+pub fn standing(page: Page, call: Call, number: u64) -> Page {
+    if number == 0 {
+        return page.after(call);
+    }
+    page
 }
 
 // A call accepted or refused, and the sheet that is left compared with the page.
@@ -79,7 +83,7 @@ pub fn known() -> Tally {
     compared(0, added(opened(4), case2()), Page::new(4)).joined()
 }
 
-fn made(sheet: Sheet, call: Call) -> Answer {
+pub fn made(sheet: Sheet, call: Call) -> Answer {
     match call {
         Call::Open(width) => sheet.open(width),
         Call::Add(rule) => sheet.add(rule),

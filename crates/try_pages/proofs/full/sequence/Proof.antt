@@ -1,0 +1,13 @@
+-- `sequence` is safe and ends: the measure is the calls left. Assumes nothing.
+use Prim.Native.Nat.{_-_}
+use borrow.Author.Needs.{needs}
+use Rattle.try_pages.proofs.full.sequence.Statement.{statement}
+use Rattle.try_pages.proofs.full.sequence.Tie as tie
+
+pub sequence-spec : {M : Type 1} → statement M
+sequence-spec =
+    tie.close
+    (tie.spec
+    (λ width work₀ i₀ work i. Unit)
+    (λ width work₀ i₀ work i. 30 - i)
+    (search needs) (search needs) (search needs) (search needs) (search needs) (search needs) (search needs))
