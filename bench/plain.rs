@@ -1,15 +1,26 @@
 // A plain Rust desk, for comparison: the same frames and answers, written as one would without proofs, with every refusal
 // tested on every line, 17 among them. `plain` answers standard input; `plain talk COMMAND FILE` holds a conversation with
-// a command, one line of the file at a time, and says how many microseconds it took.
+// a command, one line of the file at a time, and says how many microseconds it took. The two limits are those of the desk that
+// it is compared with: they are handed to the compiler (`compare`).
 use std::io::{BufRead, BufReader, Read, Write};
 use std::process::{Command, Stdio};
 use std::time::Instant;
 
-const RULES: usize = 64;
-const MARKS: usize = 16;
+const RULES: usize = limit(env!("RULES"));
+const MARKS: usize = limit(env!("MARKS"));
 const WIDEST: u64 = 32;
 const LONGEST: usize = 22;
 const BITS: u64 = 255;
+
+const fn limit(digits: &str) -> usize {
+    let mut number = 0;
+    let mut at = 0;
+    while at < digits.len() {
+        number = 10 * number + (digits.as_bytes()[at] - b'0') as usize;
+        at += 1;
+    }
+    number
+}
 
 #[derive(Clone, Copy, Default, PartialEq, Eq)]
 struct Rule {
