@@ -1,6 +1,3 @@
-// What the trials of calls share: sheets to try them on, what is looked at in an answer, the clerk's page, and lists for the
-// batch call.
+// What the trials of calls share: sheets to try them on, and what is looked at in an answer.
 pub mod answers;
-pub mod lists;
-pub mod page;
 pub mod sheets;

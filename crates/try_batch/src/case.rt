@@ -4,10 +4,10 @@ use rule::Rule;
 use sheet::Reply;
 use sheet::Sheet;
 use trial_calls::answers::kept;
-use trial_calls::lists::alike;
-use trial_calls::lists::calls;
 use trial_direct::direct::UNTOUCHED;
 use trial_direct::tally::Tally;
+use trial_lists::alike;
+use trial_lists::calls;
 
 // With enough lent for any list: what is answered, and at which rule.
 pub fn lent_enough(

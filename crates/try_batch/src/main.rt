@@ -9,11 +9,11 @@ mod case;
 
 use batch::Batch;
 use rule::Rule;
-use trial_calls::lists::alike;
-use trial_calls::lists::parts;
-use trial_calls::lists::with;
 use trial_direct::rules::rule;
 use trial_direct::tally::Tally;
+use trial_lists::alike;
+use trial_lists::parts;
+use trial_lists::with;
 
 fn main() {
     widths().print(b"widths");

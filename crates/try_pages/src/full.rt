@@ -1,14 +1,14 @@
 // Calls on sheets that are all but full, so that places run out and steps back free them. After each call the desk's sheet is
 // compared with the clerk's page, as in long sequences.
-use crate::draw;
 use crate::long;
 use crate::long::Work;
 use rule::Rule;
 use sheet::Sheet;
-use trial_calls::page::Call;
-use trial_calls::page::Page;
 use trial_calls::sheets::opened;
 use trial_direct::tally::Split;
+use trial_pages::draw;
+use trial_pages::page::Call;
+use trial_pages::page::Page;
 
 const SHEETS: u64 = 10;
 

@@ -1,17 +1,17 @@
 // Long sequences of calls. After each call, accepted or refused, the desk's sheet is the one that a fresh sheet comes to
 // that is given what stands on the clerk's page.
-use crate::draw;
 use sheet::Answer;
 use sheet::Sheet;
 use trial_calls::answers::same_sheet;
-use trial_calls::page::Call;
-use trial_calls::page::Page;
 use trial_calls::sheets::added;
 use trial_calls::sheets::case2;
 use trial_calls::sheets::opened;
 use trial_direct::draw::next;
 use trial_direct::tally::Split;
 use trial_direct::tally::Tally;
+use trial_pages::draw;
+use trial_pages::page::Call;
+use trial_pages::page::Page;
 
 const SEQUENCES: u64 = 100;
 

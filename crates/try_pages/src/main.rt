@@ -5,7 +5,6 @@
 // accepted is up to the draws. known: a sheet against itself with each number of a record raised, and one against a page that
 // misses a rule.
 mod damaged;
-mod draw;
 mod full;
 mod long;
 

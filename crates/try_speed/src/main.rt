@@ -6,10 +6,10 @@ mod look;
 use batch::Batch;
 use rule::Rule;
 use sheet::Sheet;
-use trial_calls::lists::calls;
-use trial_calls::lists::parts;
 use trial_calls::sheets::added;
 use trial_calls::sheets::opened;
+use trial_lists::calls;
+use trial_lists::parts;
 use word::Width;
 
 const ASKED: u64 = 10_000;

@@ -1,8 +1,8 @@
 // Lists of rules for the programs that try the batch call, and the calls one by one.
-use crate::sheets::case2;
 use batch::Batch;
 use rule::Rule;
 use sheet::Sheet;
+use trial_calls::sheets::case2;
 use trial_direct::rules::rule;
 
 // The top word of 32 bits, and a part of the wheel of these words, of which there are as many as a sheet takes rules.

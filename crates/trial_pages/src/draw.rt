@@ -1,6 +1,6 @@
 // Calls drawn from a fixed seed, so that every run makes the same ones.
+use crate::page::Call;
 use rule::Rule;
-use trial_calls::page::Call;
 use trial_direct::draw::next;
 
 // The seed of the call after: a call draws on four numbers at most.

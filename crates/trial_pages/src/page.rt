@@ -1,9 +1,9 @@
 // The clerk's page: the width, and what stands on it, in order.
-use crate::sheets::added;
-use crate::sheets::marked;
-use crate::sheets::opened;
 use rule::Rule;
 use sheet::Sheet;
+use trial_calls::sheets::added;
+use trial_calls::sheets::marked;
+use trial_calls::sheets::opened;
 
 // A call on a sheet. Asking changes no sheet, and no page.
 pub enum Call {

@@ -2,8 +2,8 @@
 use Prim.Native.Nat.{_-_}
 use Rattle.batch.specs.Batch.{MOST}
 use borrow.Author.Needs.{needs}
-use Rattle.trial_calls.proofs.lists.parts.Statement.{statement}
-use Rattle.trial_calls.proofs.lists.parts.Tie as tie
+use Rattle.trial_lists.proofs.parts.Statement.{statement}
+use Rattle.trial_lists.proofs.parts.Tie as tie
 
 pub parts-spec : {M : Type 1} → statement M
 parts-spec =

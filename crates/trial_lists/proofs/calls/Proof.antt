@@ -2,8 +2,8 @@
 use Prim.Native.Nat.{_-_}
 use Rattle.batch.specs.Batch.{MOST}
 use borrow.Author.Needs.{needs}
-use Rattle.trial_calls.proofs.lists.calls.Statement.{statement}
-use Rattle.trial_calls.proofs.lists.calls.Tie as tie
+use Rattle.trial_lists.proofs.calls.Statement.{statement}
+use Rattle.trial_lists.proofs.calls.Tie as tie
 
 pub calls-spec : {M : Type 1} → statement M
 calls-spec =

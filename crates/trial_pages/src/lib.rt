@@ -1,0 +1,3 @@
+// The clerk's page, and calls that are drawn for a sheet and a page.
+pub mod draw;
+pub mod page;
