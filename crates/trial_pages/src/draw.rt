@@ -1,5 +1,5 @@
 // Calls drawn from a fixed seed, so that every run makes the same ones.
-use crate::page::Call;
+use crate::clerk::Call;
 use rule::Rule;
 use trial_direct::draw::next;
 

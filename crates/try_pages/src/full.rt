@@ -6,9 +6,9 @@ use rule::Rule;
 use sheet::Sheet;
 use trial_calls::sheets::opened;
 use trial_direct::tally::Split;
+use trial_pages::clerk::Call;
+use trial_pages::clerk::Page;
 use trial_pages::draw;
-use trial_pages::page::Call;
-use trial_pages::page::Page;
 
 const SHEETS: u64 = 10;
 

@@ -9,9 +9,9 @@ use trial_calls::sheets::opened;
 use trial_direct::draw::next;
 use trial_direct::tally::Split;
 use trial_direct::tally::Tally;
+use trial_pages::clerk::Call;
+use trial_pages::clerk::Page;
 use trial_pages::draw;
-use trial_pages::page::Call;
-use trial_pages::page::Page;
 
 const SEQUENCES: u64 = 100;
 

@@ -3,8 +3,8 @@ use Prim.Native.Nat.{_+_, _-_}
 use Rattle.rule.specs.Meaning.{RULES}
 use Rattle.page.specs.Page.{MARKS}
 use borrow.Author.Needs.{needs}
-use Rattle.trial_pages.proofs.page.Page.fresh.Statement.{statement}
-use Rattle.trial_pages.proofs.page.Page.fresh.Tie as tie
+use Rattle.trial_pages.proofs.clerk.Page.fresh.Statement.{statement}
+use Rattle.trial_pages.proofs.clerk.Page.fresh.Tie as tie
 
 pub fresh-spec : {M : Type 1} → statement M
 fresh-spec =

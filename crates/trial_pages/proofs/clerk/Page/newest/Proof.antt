@@ -3,8 +3,8 @@ use Prim.Native.Nat.{_+_, _-_}
 use Rattle.rule.specs.Meaning.{RULES}
 use Rattle.page.specs.Page.{MARKS}
 use borrow.Author.Needs.{needs}
-use Rattle.trial_pages.proofs.page.Page.newest.Statement.{statement}
-use Rattle.trial_pages.proofs.page.Page.newest.Tie as tie
+use Rattle.trial_pages.proofs.clerk.Page.newest.Statement.{statement}
+use Rattle.trial_pages.proofs.clerk.Page.newest.Tie as tie
 
 pub newest-spec : {M : Type 1} → statement M
 newest-spec =
