@@ -5,12 +5,13 @@ use lib.ListN.{length, replicate}
 use Rattle.rule.specs.declared.Rule.{Rule}
 use Rattle.rule.specs.Meaning.{rule}
 
--- "a width w from 1 to 32, up to 64 rules in force, up to 16 marks"
+-- "a width w from 1 to 32"
 abbrev pub WIDEST : ℕ
 WIDEST = 32
 
+-- the most marks in force (01, raised by K6)
 abbrev pub MARKS : ℕ
-MARKS = 16
+MARKS = 32
 
 -- an entry on the page: a rule, or a mark
 pub data Entry : Type 0 where

@@ -2,4 +2,4 @@
 // without the record that the desk keeps; the code has of them just the limit on marks.
 
 // The most marks that may be in force.
-pub const MARKS: usize = 16;
+pub const MARKS: usize = 32;

@@ -78,6 +78,6 @@ unfoldable pub AllLawful : ℕ → List Rule → Type 0
 AllLawful w [] = Unit {0}
 AllLawful w (r ∷ rs) = Lawful w r × AllLawful w rs
 
--- "up to 64 rules in force"
+-- the most "rules in force" (01, raised by K6)
 abbrev pub RULES : ℕ
-RULES = 64
+RULES = 200

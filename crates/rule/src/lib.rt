@@ -15,7 +15,7 @@ pub struct Rule {
 
 impl Rule {
     // The most rules that may be in force on a sheet.
-    pub const LIMIT: usize = 64;
+    pub const LIMIT: usize = 200;
 
     // Whether the word x meets the rule.
     pub fn meets(self, width: Width, x: u64) -> bool
