@@ -5,11 +5,11 @@
 // of its w + 1 bits is free, fixed to 0 or fixed to 1, so 3^(w + 1) of them on 2^w words: 18 + 108 + 648 + 3888 + 23328 at the
 // widths 1 to 5. small prev: within the width, 6^w: 6 + 36 + 216 + 1296 + 7776. wide: 4 widths, with each of 16 words as the mask,
 // as the value and as p: 4 * 16^3. known has a wrong word and a wrong "none" for each way, and a word where none is.
-mod masks;
 mod sheets;
-mod wide;
 
-use masks::Way;
+use trial_bits::masks;
+use trial_bits::masks::Way;
+use trial_bits::wide;
 
 fn main() {
     sheets::over_widths(Way::Next).print(b"next");

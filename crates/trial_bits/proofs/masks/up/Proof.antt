@@ -1,8 +1,8 @@
 -- `up` ends: the measure is the words left. Assumes nothing.
 use Prim.Native.Nat.{_-_}
 use borrow.Author.Needs.{needs}
-use Rattle.try_bits.proofs.masks.up.Statement.{statement}
-use Rattle.try_bits.proofs.masks.up.Tie as tie
+use Rattle.trial_bits.proofs.masks.up.Statement.{statement}
+use Rattle.trial_bits.proofs.masks.up.Tie as tie
 
 pub up-spec : {M : Type 1} → statement M
 up-spec =

@@ -1,8 +1,8 @@
 -- `small` is safe and ends: the widths are 1 to 5, and the measure is the widths left. Assumes nothing.
 use Prim.Native.Nat.{_-_, _≤_}
 use borrow.Author.Needs.{needs}
-use Rattle.try_bits.proofs.masks.small.Statement.{statement}
-use Rattle.try_bits.proofs.masks.small.Tie as tie
+use Rattle.trial_bits.proofs.masks.small.Statement.{statement}
+use Rattle.trial_bits.proofs.masks.small.Tie as tie
 
 pub small-spec : {M : Type 1} → statement M
 small-spec =

@@ -1,8 +1,8 @@
 -- `over_words` is safe and ends: the measure is the numbers left. Assumes nothing.
 use Prim.Native.Nat.{_-_}
 use borrow.Author.Needs.{needs}
-use Rattle.try_bits.proofs.wide.over_words.Statement.{statement}
-use Rattle.try_bits.proofs.wide.over_words.Tie as tie
+use Rattle.trial_bits.proofs.wide.over_words.Statement.{statement}
+use Rattle.trial_bits.proofs.wide.over_words.Tie as tie
 
 pub over-words-spec : {M : Type 1} → statement M
 over-words-spec =

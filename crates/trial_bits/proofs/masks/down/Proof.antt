@@ -1,7 +1,7 @@
 -- `down` is safe and ends: the measure is x. Assumes nothing.
 use borrow.Author.Needs.{needs}
-use Rattle.try_bits.proofs.masks.down.Statement.{statement}
-use Rattle.try_bits.proofs.masks.down.Tie as tie
+use Rattle.trial_bits.proofs.masks.down.Statement.{statement}
+use Rattle.trial_bits.proofs.masks.down.Tie as tie
 
 pub down-spec : {M : Type 1} → statement M
 down-spec =

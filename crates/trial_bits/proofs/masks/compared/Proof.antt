@@ -2,8 +2,8 @@
 use native.Mathlib.Omega.{arith}
 use Rattle.bits.specs.Fixed.{Tidy, Within}
 use borrow.Author.Needs.{needs}
-use Rattle.try_bits.proofs.masks.compared.Statement.{statement}
-use Rattle.try_bits.proofs.masks.compared.Tie as tie
+use Rattle.trial_bits.proofs.masks.compared.Statement.{statement}
+use Rattle.trial_bits.proofs.masks.compared.Tie as tie
 
 next-requires : tie.Need-next-requires
 unfolding Tidy
