@@ -2,6 +2,7 @@
 -- Assumes nothing.
 use mathlib.Core.Path.{refl, sym, subst}
 use mathlib.Core.List.{List}
+use native.Mathlib.Omega.{arith}
 use borrow.Author.Needs.{needs}
 use lib.ListN.{take}
 use Rattle.rule.specs.declared.Rule.{Rule}
@@ -15,7 +16,7 @@ use Rattle.chain.proofs.write.Tie as tie
 
 lay-requires : tie.Need-lay-requires
 unfolding zipped
-lay-requires c κs = let s = c .before .before .before .before in (s .pre .0, (s .pre .1 .0 .0, refl))
+lay-requires c κs = let s = c .before .before .before .before in (s .pre .0, (omega (arith, s .pre .1 .0 .0), refl))
 
 of-requires : tie.Need-of-requires
 of-requires c κs = search needs
