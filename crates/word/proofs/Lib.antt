@@ -5,6 +5,7 @@ pub mod Search
 pub mod Searched
 pub mod Shared
 pub mod Signed
+pub mod Sink
 pub mod Slips
 pub mod Sums
 pub mod Tests
