@@ -31,8 +31,8 @@ module _ (w : ℕ) (rs : List Rule) where
 
   module _ (few : length rs ≤ RULES) where
     for-bits : {p : ℕ} (l : Link) → Taken w rs p l → l .reason ≡ BITS → BitsLink w rs p (l .to)
-    for-bits l (e, inl r) d = absurd (number-apart rs few (l .reason) (r .fails .plain .there) d)
-    for-bits l (e, inr b) d = b .1
+    for-bits l (inl (r, s)) d = absurd (number-apart rs few (l .reason) (r .fails .plain .there) d)
+    for-bits l (inr (e, s, b)) d = b
 
     next-apart : {p : ℕ} {l m : Link} → Taken w rs p l → l .to < top w → Taken w rs (suc (l .to)) m → l .reason ≡ BITS → m .reason ≡ BITS → ⊥
     next-apart t h u e d = bits-once _ _ (for-bits _ t e) h (for-bits _ u d)

@@ -17,10 +17,10 @@ use Rattle.rule.specs.declared.Rule.{Rule}
 use Rattle.rule.specs.Meaning.{AllLawful, Lawful, ends, meets, runs}
 use Rattle.rule.proofs.Runs.{run-ends, runs-later, runs-past}
 use Rattle.band.proofs.Law.{two-runs}
-use Rattle.chain.specs.Chain.{BitsLink, Fails, IsChain, Plain, RuleLink, nth}
+use Rattle.chain.specs.Chain.{BitsLink, Fails, IsChain, Plain, RuleLink}
 use Rattle.chain.specs.Chain.IsChain.{last, more}
 use Rattle.chain.specs.declared.Link.{Link}
-use Rattle.chain.specs.Links.{mostLinks}
+use Rattle.chain.specs.Links.{mostLinks, nth}
 use Rattle.chain.proofs.Apart.{bits-once}
 
 -- the runs of a rule that end at p or later, none of a form 7 rule
@@ -91,14 +91,14 @@ module _ (w : ℕ) (rs : List Rule) where
 
   few-links : {p : ℕ} {ls : List Link} → IsChain w rs p ls
       → (length ls ≤ 2 * total w rs p + 1) × (((q : ℕ) → BitsLink w rs p q → ⊥) → length ls ≤ 2 * total w rs p)
-  few-links (last (e, inl r) h) = (omega (arith, rule-past r), λ n. omega (arith, rule-past r))
-  few-links (last (e, inr b) h) = (omega arith, λ n. absurd (n _ (b .1)))
-  few-links (more (e, inl r) h c) =
+  few-links (last (inl (r, s)) h) = (omega (arith, rule-past r), λ n. omega (arith, rule-past r))
+  few-links (last (inr (e, s, b)) h) = (omega arith, λ n. absurd (n _ b))
+  few-links (more (inl (r, s)) h c) =
       let rest = few-links c .0 in
       (omega (arith, rule-past r), λ n. omega (arith, rule-past r))
-  few-links (more {p} {l} (e, inr b) h c) =
-      let rest = few-links c .1 (λ q d. bits-once w rs (l .to) q (b .1) h d) in
-      (omega (arith, total-later w p (l .to) (b .1 .lacks .order) (b .1 .lacks .word) rs), λ n. absurd (n _ (b .1)))
+  few-links (more {p} {l} (inr (e, s, b)) h c) =
+      let rest = few-links c .1 (λ q d. bits-once w rs (l .to) q b h d) in
+      (omega (arith, total-later w p (l .to) (b .lacks .order) (b .lacks .word) rs), λ n. absurd (n _ b))
 
 pub chain-bound : (w : ℕ) → 1 ≤ w → (rs : List Rule) → AllLawful w rs → (ls : List Link) → IsChain w rs 0 ls → length ls ≤ mostLinks (length rs)
 chain-bound w width rs l ls c = omega (arith, few-links w rs c .0, total-two w width rs l)

@@ -12,7 +12,8 @@ use lib.Dec.{eqb}
 use lib.ListN.{length}
 use Rattle.rule.specs.declared.Rule.{Rule}
 use Rattle.rule.specs.Meaning.{fits, meets, meets7}
-use Rattle.chain.specs.Chain.{Plain, nth}
+use Rattle.chain.specs.Chain.{Plain}
+use Rattle.chain.specs.Links.{nth}
 
 module _ (w x : ℕ) where
   pub rule-fails : (rs : List Rule) (i : ℕ) → i < length rs → meets w (nth rs i) x ≡ false → fits w rs x ≡ false

@@ -20,8 +20,8 @@ use Rattle.rule.specs.declared.Rule.{Rule}
 use Rattle.rule.specs.Meaning.{meets, reach, rule}
 use Rattle.chain.specs.declared.Far.{Far}
 use Rattle.chain.specs.declared.Far.the-variants.{To, Nowhere}
-use Rattle.chain.specs.Chain.{Fails, nth}
-use Rattle.chain.specs.Links.{blocks, further, furthest, furthestOf}
+use Rattle.chain.specs.Chain.{Fails}
+use Rattle.chain.specs.Links.{blocks, further, furthest, furthestOf, nth}
 
 -- of the rules below number n, rule i fails furthest, to q, and no lower number fails as far
 pub record Best (w : ℕ) (rs : List Rule) (p n q i : ℕ) : Type 0 where

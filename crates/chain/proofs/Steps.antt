@@ -14,7 +14,7 @@ use Rattle.rule.specs.Meaning.{fits}
 use Rattle.chain.specs.Chain.{IsChain}
 use Rattle.chain.specs.Chain.IsChain.{last, more}
 use Rattle.chain.specs.declared.Link.{Link}
-use Rattle.chain.specs.Links.{linkAt, links, linksFrom}
+use Rattle.chain.specs.Links.{goOn, linkAt, links, linksFrom}
 use Rattle.chain.proofs.Cover.{chain-covers, covers-no-fit}
 use Rattle.chain.proofs.Taken.{taken, taken-order}
 use Rattle.chain.proofs.Unique.{one-chain}
@@ -24,7 +24,7 @@ NoFit w rs = (x : ℕ) → x ≤ top w → fits w rs x ≡ false
 
 module _ (w : ℕ) (rs : List Rule) (no-fit : NoFit w rs) where
   chain-from : (k p : ℕ) → p ≤ top w → top w < p + k → IsChain w rs p (linksFrom w rs k p)
-  unfolding linksFrom
+  unfolding linksFrom goOn
   chain-from zero p h l = absurd (omega arith)
   chain-from (suc k) p h l = go (eqb (linkAt w rs p .to) (top w)) refl (chain-from k (suc (linkAt w rs p .to)))
     where

@@ -1,5 +1,5 @@
 -- There is one link to take at a word, so there is one chain from it: two rule links reach as far as each other, and then
--- each has the lower number; two bit links end before the same word; and where a rule fails there is no bit link. By
+-- each has the lower number, and its run starts at one word; two bit links end before the same word; and where a rule fails there is no bit link. By
 -- induction on the one chain. Assumes nothing.
 use mathlib.Core.Path.{_≡_, sym, ap, ap₂, _∙_, subst}
 use mathlib.Core.Bool.{true, false≢true}
@@ -12,10 +12,9 @@ use native.Mathlib.Omega.{arith}
 use Rattle.word.specs.Word.{top}
 use Rattle.rule.specs.declared.Rule.{Rule}
 use Rattle.rule.specs.Meaning.{meets7}
-use Rattle.chain.specs.Chain.{BitsLink, Fails, IsChain, RuleLink, Taken}
+use Rattle.chain.specs.Chain.{BitsLink, Fails, IsChain, RuleLink, Starts, Taken}
 use Rattle.chain.specs.Chain.IsChain.{last, more}
 use Rattle.chain.specs.declared.Link.{Link}
-use Rattle.chain.specs.Links.{BITS}
 
 module _ (w : ℕ) (rs : List Rule) where
   module _ {p : ℕ} where
@@ -29,6 +28,11 @@ module _ (w : ℕ) (rs : List Rule) where
             s .lowest i (subst (λ (t : ℕ). Fails w rs i p t) e (r .fails)),
           ),
         )
+
+    one-start : (s s′ i i′ : ℕ) → i ≡ i′ → Starts w rs p s i → Starts w rs p s′ i′ → s ≡ s′
+    one-start s s′ i i′ e a b =
+        let c : Starts w rs p s′ i = subst (Starts w rs p s′) (sym e) b in
+        omega (arith, a .lowest s′ (c .fails), c .lowest s (a .fails))
 
     not-both : (q q′ i : ℕ) → RuleLink w rs p q i → BitsLink w rs p q′ → ⊥
     not-both q q′ i r b =
@@ -45,18 +49,16 @@ module _ (w : ℕ) (rs : List Rule) where
         go (no d) e = omega arith
 
     one-link : (l m : Link) → Taken w rs p l → Taken w rs p m → l ≡ m
-    one-link l m t u = go (t .1) (u .1)
+    one-link l m = go
       where
-        same : (l .to ≡ m .to) × (l .reason ≡ m .reason) → l ≡ m
-        same e = λ i. record { from = (t .0 ∙ sym (u .0)) i; to = e .0 i; reason = e .1 i }
+        same : l .from ≡ m .from → (l .to ≡ m .to) × (l .reason ≡ m .reason) → l ≡ m
+        same d e = λ i. record { from = d i; to = e .0 i; reason = e .1 i }
 
-        go : RuleLink w rs p (l .to) (l .reason) ⊎ ((l .reason ≡ BITS) × BitsLink w rs p (l .to))
-            → RuleLink w rs p (m .to) (m .reason) ⊎ ((m .reason ≡ BITS) × BitsLink w rs p (m .to)) → l ≡ m
-        go (inl r) (inl s) = same (one-rule _ _ _ _ r s)
-        go (inl r) (inr s) = absurd (not-both _ _ _ r (s .1))
-        go (inr r) (inl s) = absurd (not-both _ _ _ s (r .1))
-        go (inr r) (inr s) =
-            same (omega (arith, no-less _ _ (r .1) (s .1), no-less _ _ (s .1) (r .1)), r .0 ∙ sym (s .0))
+        go : Taken w rs p l → Taken w rs p m → l ≡ m
+        go (inl (r, a)) (inl (s, b)) = let e = one-rule _ _ _ _ r s in same (one-start _ _ _ _ (e .1) a b) e
+        go (inl (r, a)) (inr (e, d, s)) = absurd (not-both _ _ _ r s)
+        go (inr (e, d, r)) (inl (s, b)) = absurd (not-both _ _ _ s r)
+        go (inr (e, d, r)) (inr (e′, d′, s)) = same (d ∙ sym d′) (omega (arith, no-less _ _ r s, no-less _ _ s r), e ∙ sym e′)
 
   pub one-chain : {p : ℕ} {ls ms : List Link} → IsChain w rs p ls → IsChain w rs p ms → ls ≡ ms
   one-chain (last t e) (last u d) = ap (λ (l : Link). l ∷ []) (one-link _ _ t u)

@@ -16,7 +16,7 @@ use Rattle.bits.specs.declared.Fixed.{Fixed}
 use Rattle.verdict.specs.Kept.{kept}
 use Rattle.verdict.proofs.Right.{kept-right}
 use Rattle.chain.specs.declared.Link.{Link}
-use Rattle.chain.specs.Links.{numbersOf, linkAt, links, linksFrom}
+use Rattle.chain.specs.Links.{goOn, numbersOf, linkAt, links, linksFrom}
 use Rattle.chain.specs.OfRules.{OfRules}
 use Rattle.chain.specs.OnBands.{linkOn}
 use Rattle.chain.proofs.Bound.{chain-bound}
@@ -39,7 +39,7 @@ pub own-link : (bands : List Band) (fixed : Fixed) (w : ℕ) (rs : List Rule) �
 own-link bands fixed w rs width h p word =
     ap₂ (λ (bs : List Band) (f : Fixed). linkOn bs f (top w) p) (h .own) (h .bits) ∙ link-law w width p word rs (h .lawful)
 
--- so many links are written, and the next starts at p
+-- so many links are written, and the next is the one at p
 pub record Walked (w : ℕ) (rs : List Rule) (out₀ out : List ℕ) (count p : ℕ) : Type 0 where
   pub rest : drop count (links w rs) ≡ linksFrom w rs (suc (top w) - p) p
   pub written : out ≡ numbersOf (take count (links w rs)) ++ drop (3 * count) out₀
@@ -69,7 +69,7 @@ put-next ls out₀ out count l n e =
     (sym (numbers-more (take count ls) (l ∷ [])) ∙ ap numbersOf (sym (n .taken)) ∙ ap (λ (k : ℕ). numbersOf (take k ls)) more) on
 
 some-link : (w : ℕ) (rs : List Rule) (k p : ℕ) → 1 ≤ k → (ls : List Link) × (linksFrom w rs k p ≡ linkAt w rs p ∷ ls)
-unfolding linksFrom
+unfolding linksFrom goOn
 some-link w rs zero p h = absurd (omega arith)
 some-link w rs (suc k) p h = (_, refl)
 

@@ -2,16 +2,16 @@
 use mathlib.Core.Path.{_≡_, refl}
 use mathlib.Core.List.{map}
 use Rattle.word.specs.Word.{half, minus, plus, signed, top}
-use Rattle.word.specs.Search.{climb, first, last}
-use Rattle.rule.specs.Meaning.{fits, meets, meets7, reach, rows, written}
+use Rattle.word.specs.Search.{climb, first, last, sink}
+use Rattle.rule.specs.Meaning.{fits, meets, meets7, reach, rows, written, start}
 use Rattle.verdict.specs.Kept.{kept, verdictOf}
 use Rattle.chain.specs.Findings.{findings, chainFor}
 use Rattle.chain.specs.Cases.{Case, case6, case6Words, cases, fitting}
-use Rattle.chain.specs.Links.{before, blocks, further, furthest, furthestOf, gap, linkAt, linkBy, links, linksFrom}
+use Rattle.chain.specs.Links.{before, blocks, further, furthest, furthestOf, gap, goOn, linkAt, linkBy, links, linksFrom}
 
 pub worked : map (λ (c : Case). findings (c .width) (c .rules)) cases ≡ map (λ (c : Case). c .expected) cases
 unfolding
-    findings chainFor kept verdictOf links linksFrom linkAt linkBy gap before furthest furthestOf further blocks reach meets7 fits meets written rows first last climb top half plus minus signed
+    findings chainFor kept verdictOf links linksFrom goOn linkAt linkBy gap before furthest furthestOf further blocks reach start meets7 fits meets written rows first last climb sink top half plus minus signed
 worked = refl
 
 -- case 6 has seven words

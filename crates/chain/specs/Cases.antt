@@ -1,4 +1,4 @@
--- The sheets worked by hand that 01 marks P, as one table: width, rules, verdict, smallest, largest and links.
+-- The sheets worked by hand that 01 marks P, and K8's, as one table: width, rules, verdict, smallest, largest and links.
 use mathlib.Core.List.{List, [], _∷_}
 use mathlib.Core.Bool.{true, false}
 use Prim.Native.Nat.{ℕ, zero, suc}
@@ -48,6 +48,8 @@ cases =
     ∷ case 4 (rule 3 0 0 2 ∷ rule 3 0 0 2 ∷ rule 2 0 3 0 ∷ []) (says (keeps 0 0 0) (link 0 2 2 ∷ link 3 15 0 ∷ []))
     -- 12
     ∷ case 4 (rule 8 0 14 3 ∷ []) (says (keeps 2 1 5) [])
+    -- K8: "With negated form 3, 0, 9 and then form 3, 0, 4 at width 4"
+    ∷ case 4 (rule 3 1 0 9 ∷ rule 3 0 0 4 ∷ []) (says (keeps 0 0 0) (link 0 9 0 ∷ link 5 15 1 ∷ []))
     ∷ []
 
 -- those of k words from p that fit, in rising order

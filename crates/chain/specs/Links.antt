@@ -3,12 +3,13 @@ use mathlib.Core.Bool.{Bool, true, false, not, _&&_, cond}
 use mathlib.Core.List.{List, [], _∷_}
 use Prim.Native.Nat.{ℕ, zero, suc, _+_, _-_, _*_, _^_}
 use lib.Dec.{eqb, ltb}
+use lib.ListN.{getD}
 use Rattle.word.specs.declared.Found.{Found}
 use Rattle.word.specs.declared.Found.the-variants.{At, Nothing}
 use Rattle.word.specs.Word.{top}
 use Rattle.word.specs.Search.{first}
 use Rattle.rule.specs.declared.Rule.{Rule}
-use Rattle.rule.specs.Meaning.{meets, meets7, reach}
+use Rattle.rule.specs.Meaning.{meets, meets7, reach, rule, start}
 use Rattle.chain.specs.declared.Far.{Far}
 use Rattle.chain.specs.declared.Far.the-variants.{To, Nowhere}
 use Rattle.chain.specs.declared.Link.{Link}
@@ -20,6 +21,10 @@ link from to reason = record { from = from; to = to; reason = reason }
 -- the reason of a link whose words fail a form 7 rule
 abbrev pub BITS : ℕ
 BITS = 255
+
+-- rule number i
+abbrev pub nth : List Rule → ℕ → Rule
+nth rs i = getD rs i (rule 0 0 0 0)
 
 -- "If p fails a rule that isn't of form 7"
 unfoldable pub blocks : ℕ → Rule → ℕ → Bool
@@ -48,20 +53,23 @@ before t Nothing = t
 unfoldable pub gap : ℕ → List Rule → ℕ → ℕ
 gap w rs p = before (top w) (first (meets7 w rs) (top w - p) (suc p))
 
--- the link that starts at p: the furthest reach with its rule's number, or where there is none the gap with 255
-unfoldable pub linkBy : (p gap : ℕ) → Far → Link
-linkBy p g (To q i) = link p q i
-linkBy p g Nowhere = link p g BITS
+-- the link at p: the furthest reach with its rule's number, or where there is none the gap with 255. A link that names a rule
+-- starts where it is said of the rule's number, the others at p.
+unfoldable pub linkBy : (starts : ℕ → ℕ) → (p gap : ℕ) → Far → Link
+linkBy starts p g (To q i) = link (starts i) q i
+linkBy starts p g Nowhere = link p g BITS
 
+-- "each link that names a rule to start where that rule's run of failing words starts" (K8)
 unfoldable pub linkAt : ℕ → List Rule → ℕ → Link
-linkAt w rs p = linkBy p (gap w rs p) (furthest w rs p)
+linkAt w rs p = linkBy (λ (i : ℕ). start w (nth rs i) p) p (gap w rs p) (furthest w rs p)
 
--- "Stop after the link that ends at the top word; else go on with p = q + 1": at most k links from p on
-unfoldable pub linksFrom : ℕ → List Rule → ℕ → ℕ → List Link
-linksFrom w rs zero p = []
-linksFrom w rs (suc k) p =
-    let l = linkAt w rs p in
-    l ∷ elim (eqb (l .to) (top w)) [ true ↦ [] | false ↦ linksFrom w rs k (suc (l .to)) ]
+-- "Stop after the link that ends at the top word; else go on with p = q + 1": at most k links from p on, each the one at its word
+unfoldable pub goOn : (at : ℕ → Link) → (t k p : ℕ) → List Link
+goOn at t zero p = []
+goOn at t (suc k) p = let l = at p in l ∷ elim (eqb (l .to) t) [ true ↦ [] | false ↦ goOn at t k (suc (l .to)) ]
+
+unfoldable pub linksFrom : ℕ → List Rule → (k p : ℕ) → List Link
+linksFrom w rs k p = goOn (linkAt w rs) (top w) k p
 
 -- "Start at p = 0." A link has at least one word, so there are at most 2^w of them.
 unfoldable pub links : ℕ → List Rule → List Link

@@ -3,11 +3,13 @@
 use mathlib.Core.Bool.{true, false}
 use mathlib.Core.List.{List, [], _∷_}
 use Prim.Native.Nat.{ℕ, suc, _-_}
-use Rattle.word.specs.Search.{climb, first}
+use lib.ListN.{getD}
+use Rattle.word.specs.Search.{climb, first, sink}
 use Rattle.band.specs.declared.Band.{Band}
 use Rattle.band.specs.Band.{holds}
 use Rattle.bits.specs.declared.Fixed.{Fixed}
 use Rattle.bits.specs.Fixed.{hasBits}
+use Rattle.lent.specs.Bands.{blankBand}
 use Rattle.chain.specs.declared.Far.{Far}
 use Rattle.chain.specs.declared.Far.the-variants.{Nowhere}
 use Rattle.chain.specs.declared.Link.{Link}
@@ -30,6 +32,6 @@ furthestBand bs t p = furthestBandOf t p Nowhere 0 bs
 unfoldable pub gapOn : Fixed → (t p : ℕ) → ℕ
 gapOn f t p = before t (first (hasBits f) (t - p) (suc p))
 
--- the link that starts at p
+-- the link at p
 unfoldable pub linkOn : List Band → Fixed → (t p : ℕ) → Link
-linkOn bs f t p = linkBy p (gapOn f t p) (furthestBand bs t p)
+linkOn bs f t p = linkBy (λ (i : ℕ). sink (holds (getD bs i blankBand)) p) p (gapOn f t p) (furthestBand bs t p)

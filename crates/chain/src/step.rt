@@ -1,4 +1,4 @@
-// One link: where it ends, why, and how it is written.
+// One link: where it starts and ends, why, and how it is written.
 ghost use mathlib.Core.Path.{_≡_};
 ghost use mathlib.Core.List.{_++_, _∷_};
 ghost use Prim.Native.Nat.{_+_, _≤_};
@@ -15,7 +15,7 @@ use rule::Rule;
 use word::Found;
 use word::Width;
 
-// The link that starts at p.
+// The link at p. Where it names a rule it starts where that rule's run of failing words starts.
 pub fn link_at(
     from: &[u64; Rule::LIMIT],
     to: &[u64; Rule::LIMIT],
@@ -30,17 +30,20 @@ pub fn link_at(
     requires { ⌜ Tidy fixed × (p ≤ top (width .bits)) ⌝ }
     ensures { λ r. ⌜ r ≡ linkOn (take n (zipped (now (from .entry)) (now (to .entry)) (now (side .entry)))) fixed (top (width .bits)) p ⌝ }
 {
-    match reach::furthest(from, to, side, n, width, p) {
-        Far::To { reach, rule } => Link {
-            from: p,
-            to: reach,
-            reason: rule,
-        },
-        Far::Nowhere => Link {
+    let Far::To { reach, rule } = reach::furthest(from, to, side, n, width, p) else {
+        return Link {
             from: p,
             to: gap(fixed, width, p),
             reason: Link::BITS,
-        },
+        };
+    };
+    let top = width.top();
+    let band = lent::band_at(from, to, side, rule as usize, false, top);
+    let run = band.run(top, p);
+    Link {
+        from: run.from,
+        to: reach,
+        reason: rule,
     }
 }
 

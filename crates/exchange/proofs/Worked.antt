@@ -2,13 +2,13 @@
 use mathlib.Core.Path.{_≡_, refl}
 use mathlib.Core.List.{[], _∷_, map}
 use Prim.Native.String.{String}
-use Rattle.word.specs.Search.{climb, first, last}
+use Rattle.word.specs.Search.{climb, first, last, sink}
 use Rattle.word.specs.Word.{half, minus, plus, signed, top}
-use Rattle.rule.specs.Meaning.{fits, meets, meets7, reach, rows, written}
+use Rattle.rule.specs.Meaning.{fits, meets, meets7, reach, rows, start, written}
 use Rattle.accept.specs.Accept.{badConstant, badForm, badSense, ruleGrounds, strayBit}
 use Rattle.verdict.specs.Kept.{kept, verdictOf}
 use Rattle.chain.specs.Findings.{findings, chainFor}
-use Rattle.chain.specs.Links.{before, blocks, further, furthest, furthestOf, gap, linkAt, linkBy, links, linksFrom}
+use Rattle.chain.specs.Links.{before, blocks, further, furthest, furthestOf, gap, goOn, linkAt, linkBy, links, linksFrom}
 use Rattle.page.specs.Calls.{after, changed, firstThatApplies, grounds, isBlank, marksOf, refusal, rulesOf, written as writes}
 use Rattle.page.specs.Page.{entriesOf, marksOn, rulesOn, struck, widthOf}
 use Rattle.hex.specs.Hex.{allDigits, glyph, hex, isDigit, number, numberFrom, value}
@@ -23,7 +23,7 @@ use Rattle.exchange.specs.Text.{bytesOf}
 
 pub paper : exchange (bytesOf paper-input) ≡ bytesOf paper-output
 unfolding
-    exchange answersTo answerTo pageAfter lineCall callOf lines inFront bytesOf frameOf byDigits bare ruleOf allDigits isDigit number numberFrom value answerBytes lineBytes digitsIn numberLine chainLines hex glyph after refusal firstThatApplies grounds ruleGrounds isBlank badForm badSense badConstant strayBit rulesOf marksOf writes changed entriesOf widthOf rulesOn marksOn struck findings chainFor kept verdictOf links linksFrom linkAt linkBy gap before furthest furthestOf further blocks reach meets7 fits meets written rows first last climb top half plus minus signed
+    exchange answersTo answerTo pageAfter lineCall callOf lines inFront bytesOf frameOf byDigits bare ruleOf allDigits isDigit number numberFrom value answerBytes lineBytes digitsIn numberLine chainLines hex glyph after refusal firstThatApplies grounds ruleGrounds isBlank badForm badSense badConstant strayBit rulesOf marksOf writes changed entriesOf widthOf rulesOn marksOn struck findings chainFor kept verdictOf links linksFrom goOn linkAt linkBy gap before furthest furthestOf further blocks reach start meets7 fits meets written rows first last climb sink top half plus minus signed
 paper = refl
 
 -- "each line ended by byte 10; the last may lack it, and a final byte 10 opens no further line"
