@@ -128,13 +128,13 @@ pub fn up(table: &[u8; TABLE], a: usize, b: usize, end: usize, p: usize) -> usiz
     end
 }
 
-// One more than the first word from p down that meets the first n rules, or 0 where there is none.
-pub fn down(table: &[u8; TABLE], n: usize, p: usize) -> usize
-    requires { ⌜ (n ≤ RULES) × (p < 256) ⌝ }
+// One more than the first word from p down that meets the rules numbered from a to below b, or 0 where there is none.
+pub fn down(table: &[u8; TABLE], a: usize, b: usize, p: usize) -> usize
+    requires { ⌜ (b ≤ RULES) × (p < 256) ⌝ }
 {
     let mut x = p;
     loop {
-        if fits(&*table, 0, n, x) {
+        if fits(&*table, a, b, x) {
             return x + 1;
         }
         if x == 0 {

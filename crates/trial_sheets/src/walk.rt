@@ -6,8 +6,9 @@ use crate::expected::LINKS;
 use crate::expected::NUMBERS;
 use trial_direct::direct;
 
-// Where a link ends, one above its last word, and why.
-struct Ending {
+// Where a link starts, where it ends, one above its last word, and why.
+struct Stretch {
+    pub start: usize,
     pub end: usize,
     pub reason: u64,
 }
@@ -26,7 +27,7 @@ pub fn walked(
     if smallest == size {
         return Expected::none(chain(&*table, n, size, &mut *out));
     }
-    let above = direct::down(&*table, n, size - 1);
+    let above = direct::down(&*table, 0, n, size - 1);
     Expected::some(smallest as u64, std::num::wrapping_sub_u64(above as u64, 1))
 }
 
@@ -37,12 +38,12 @@ fn chain(table: &[u8; direct::TABLE], n: usize, size: usize, out: &mut [u64; NUM
     let mut links = 0;
     let mut p = 0;
     while links < LINKS {
-        let ending = link_at(&*table, n, size, p);
-        out[3 * links] = p as u64;
-        out[3 * links + 1] = std::num::wrapping_sub_u64(ending.end as u64, 1);
-        out[3 * links + 2] = ending.reason;
+        let link = link_at(&*table, n, size, p);
+        out[3 * links] = link.start as u64;
+        out[3 * links + 1] = std::num::wrapping_sub_u64(link.end as u64, 1);
+        out[3 * links + 2] = link.reason;
         links += 1;
-        p = ending.end;
+        p = link.end;
         if size <= p {
             break;
         }
@@ -50,14 +51,15 @@ fn chain(table: &[u8; direct::TABLE], n: usize, size: usize, out: &mut [u64; NUM
     links
 }
 
-// The end of the link that starts at p.
-fn link_at(table: &[u8; direct::TABLE], n: usize, size: usize, p: usize) -> Ending
+// The link at p. "Links with reason 255 stay": they start at p.
+fn link_at(table: &[u8; direct::TABLE], n: usize, size: usize, p: usize) -> Stretch
     requires { ⌜ (n ≤ RULES) × (size ≤ 256) ⌝ }
     requires { ⌜ p < 256 ⌝ }
 {
     let furthest = furthest(&*table, n, size, p);
     if furthest.end == p {
-        return Ending {
+        return Stretch {
+            start: p,
             end: gap(&*table, n, size, p),
             reason: 255,
         };
@@ -65,17 +67,23 @@ fn link_at(table: &[u8; direct::TABLE], n: usize, size: usize, p: usize) -> Endi
     furthest
 }
 
-// "Take the rule of furthest reach, the lowest number on a tie." The end is p itself where p fails no rule outside form 7.
-fn furthest(table: &[u8; direct::TABLE], n: usize, size: usize, p: usize) -> Ending
+// "Take the rule of furthest reach, the lowest number on a tie", and "start where that rule's run of failing words starts". The end
+// is p itself where p fails no rule outside form 7.
+fn furthest(table: &[u8; direct::TABLE], n: usize, size: usize, p: usize) -> Stretch
     requires { ⌜ (n ≤ RULES) × (size ≤ 256) ⌝ }
     requires { ⌜ p < 256 ⌝ }
 {
-    let mut furthest = Ending { end: p, reason: 0 };
+    let mut furthest = Stretch {
+        start: p,
+        end: p,
+        reason: 0,
+    };
     for i in 0..n {
         if table[256 * i + p] == 1 {
             let end = direct::up(&*table, i, i + 1, size, p);
             if furthest.end < end {
-                furthest = Ending {
+                furthest = Stretch {
+                    start: direct::down(&*table, i, i + 1, p),
                     end,
                     reason: i as u64,
                 };

@@ -91,7 +91,7 @@ fn same_bits(
         ),
         Way::Prev => same(
             fixed.prev(width, p),
-            one_below(direct::down(&*table, k, p as usize)),
+            one_below(direct::down(&*table, 0, k, p as usize)),
         ),
     }
 }

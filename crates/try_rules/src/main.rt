@@ -106,7 +106,7 @@ fn same_run(rule: Rule, expected: Rule, width: Width, p: u64) -> bool
     let n = direct::size(width) as usize;
     let mut table = [0; direct::TABLE];
     direct::fill([expected; Rule::LIMIT], 1, width, &mut table);
-    if run.from == direct::down(&table, 1, p as usize) as u64 {
+    if run.from == direct::down(&table, 0, 1, p as usize) as u64 {
         return direct::is_next(run.to, direct::up(&table, 0, 1, n, p as usize) as u64);
     }
     false

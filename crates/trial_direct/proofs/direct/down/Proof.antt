@@ -8,7 +8,7 @@ pub down-spec : {M : Type 1} → statement M
 down-spec =
     tie.close
     (tie.spec
-    (λ table n p x₀ x. x ≤ p)
-    (λ table n p x₀ x. x)
+    (λ table a b p x₀ x. x ≤ p)
+    (λ table a b p x₀ x. x)
     (search needs) (search needs) (search needs) (search needs)
     (search needs) (search needs) (search needs) (search needs))

@@ -11,4 +11,4 @@ furthest-spec =
     (λ table n size p furthest₀ i₀ furthest i. Unit)
     (λ table n size p furthest₀ i₀ furthest i. n - i)
     (search needs) (search needs) (search needs) (search needs) (search needs) (search needs) (search needs) (search needs)
-    (search needs) (search needs))
+    (search needs) (search needs) (search needs) (search needs))
