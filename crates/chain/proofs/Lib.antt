@@ -6,6 +6,7 @@ pub mod Failing
 pub mod Furthest
 pub mod Lists
 pub mod OnBands
+pub mod Rising
 pub mod Steps
 pub mod Taken
 pub mod Unique
