@@ -132,6 +132,18 @@ impl Band {
         top
     }
 
+    // The start of the run of failing words around p.
+    fn start(&self, p: u64) -> u64 {
+        if self.inside {
+            if self.from <= p {
+                return self.from;
+            }
+        } else if self.to < p {
+            return self.to + 1;
+        }
+        0
+    }
+
     fn turned(&self, top: u64) -> Band {
         Band {
             from: top - self.to,
@@ -222,20 +234,23 @@ fn chain(rules: &[Rule], width: u64, links: &mut Vec<Link>) {
     let (bands, fixed) = laid(rules, width);
     let mut p = 0;
     loop {
-        let mut far: Option<(u64, u64)> = None;
+        let mut far: Option<(u64, usize)> = None;
         for (i, band) in bands.iter().enumerate() {
             if !band.holds(p) {
                 let reach = band.reach(top, p);
                 if far.is_none_or(|(best, _)| best < reach) {
-                    far = Some((reach, i as u64));
+                    far = Some((reach, i));
                 }
             }
         }
-        let (to, reason) = far.unwrap_or_else(|| {
-            let next = if p == top { None } else { next(fixed, top, p + 1) };
-            (next.map_or(top, |x| x - 1), BITS)
-        });
-        links.push(Link { from: p, to, reason });
+        let (from, to, reason) = match far {
+            Some((reach, i)) => (bands[i].start(p), reach, i as u64),
+            None => {
+                let next = if p == top { None } else { next(fixed, top, p + 1) };
+                (p, next.map_or(top, |x| x - 1), BITS)
+            }
+        };
+        links.push(Link { from, to, reason });
         if to == top {
             return;
         }
