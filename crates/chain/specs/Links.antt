@@ -53,8 +53,8 @@ before t Nothing = t
 unfoldable pub gap : ℕ → List Rule → ℕ → ℕ
 gap w rs p = before (top w) (first (meets7 w rs) (top w - p) (suc p))
 
--- the link at p: the furthest reach with its rule's number, or where there is none the gap with 255. A link that names a rule
--- starts where it is said of the rule's number, the others at p.
+-- the link at p: the furthest reach with its rule's number, or where there is none the gap with 255. Where a link starts that names
+-- rule number i is handed in; the others start at p.
 unfoldable pub linkBy : (starts : ℕ → ℕ) → (p gap : ℕ) → Far → Link
 linkBy starts p g (To q i) = link (starts i) q i
 linkBy starts p g Nowhere = link p g BITS

@@ -94,7 +94,7 @@ here a r h =
     a .link-at .ensures
     ∙ own-link (take (s .args .n) (lying (a .before))) (s .args .fixed) (s .args .width .bits) r (s .pre .0 .low) h _ (word (a .before))
 
--- the link starts at p and ends at a word
+-- the link goes up from p to a word
 order : (a : tie.After-link-at Inv-loop μ-loop)
     → (a .before .loop .p ≤ a .link-at .result .to) × (a .link-at .result .to ≤ top (start (a .before) .args .width .bits))
 order a =
