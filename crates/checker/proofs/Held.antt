@@ -1,0 +1,100 @@
+-- What a record that is laid out gives: where it is a sheet that is not blank, its bands and bits are those of its rules in force and
+-- may be looked at; and what the check says of it, whichever it is. Assumes nothing.
+use mathlib.Core.Path.{_≡_, refl, sym, ap, ap₂, _∙_, subst}
+use mathlib.Core.Bool.{Bool, true, false, false≢true, not, _&&_, and-false}
+use mathlib.Core.Logic.{_↔_}
+use mathlib.Core.List.{List, [], _∷_}
+use Prim.Native.Nat.{ℕ, _≤_}
+use native.Mathlib.Omega.{arith}
+use borrow.Author.Tests.{eq-eqb, ne-eqb}
+use lib.Dec.{eqb}
+use lib.ListN.{length, take}
+use Rattle.word.specs.Word.{IsWidth, top}
+use Rattle.rule.specs.declared.Rule.{Rule}
+use Rattle.rule.specs.Meaning.{RULES}
+use Rattle.band.specs.Band.{AllLaid}
+use Rattle.bits.specs.Fixed.{Tidy}
+use Rattle.bits.proofs.Joined.{fixed-tidy}
+use Rattle.lent.proofs.Passes.{bands-laid}
+use Rattle.sheet.specs.declared.Sheet.{Sheet}
+use Rattle.sheet.specs.Shape.{isSheet}
+use Rattle.sheet.specs.Stands.{Standing}
+use Rattle.page.proofs.Lawful.{reached-lawful}
+use Rattle.sheet.proofs.Stands.{has-page, has-width, known, rules-lawful, width-of}
+use Rattle.sheet.proofs.Tested.{passes-sheet}
+use Rattle.lent.specs.Lent.{Lie, zipped}
+use Rattle.places.specs.Places.{rulesIn}
+use Rattle.sheet.specs.declared.Head.{Head}
+use Rattle.sheet.specs.Held.{Held, packed}
+use Rattle.checker.specs.Accepted.{Accepted}
+use Rattle.checker.specs.Check.{accepts, linksIn, shown, shownBy}
+use Rattle.checker.specs.Route.{OfRules}
+use Rattle.checker.proofs.Exactly.{accepted-yes, yes-accepted}
+
+-- what the call promises of its answer
+abbrev pub Says : Sheet → List ℕ → Bool → Type 0
+Says s ns r = (r ≡ accepts s ns) × (r ≡ true ↔ Accepted s ns)
+
+-- no is right, whatever the record, where the definition says it
+pub says-no : (s : Sheet) (ns : List ℕ) → false ≡ accepts s ns → Says s ns false
+says-no s ns e = (e, ((λ t. absurd (false≢true t)), λ a. e ∙ accepted-yes s ns a))
+
+pub empty-no : (s : Sheet) (ns : List ℕ) → length ns ≡ 0 → false ≡ accepts s ns
+unfolding accepts shownBy linksIn shown
+empty-no s [] e = sym (ap (λ (b : Bool). isSheet s && b) (and-false (not (eqb (s .width) 0))) ∙ and-false (isSheet s))
+empty-no s (n ∷ ns) e = absurd (omega arith)
+
+module _ {h : Head} {rules marks from to : List ℕ} {side : List Bool} (held : Held h rules marks from to side) where
+  abbrev s : Sheet
+  s = packed h rules marks
+
+  pub says : (ns : List ℕ) (r : Bool) → r ≡ accepts s ns → Says s ns r
+  unfolding packed
+  says ns r e =
+      (e, ((λ t. yes-accepted s ns (held .room .rules-places) (held .room .marks-places) (sym e ∙ t)), λ a. e ∙ accepted-yes s ns a))
+
+  pub no-sheet-no : h .stands ≡ false → (ns : List ℕ) → false ≡ accepts s ns
+  unfolding accepts
+  no-sheet-no e ns =
+      sym (ap (λ (b : Bool). b && (not (eqb (s .width) 0) && shownBy (s .width) (take (s .count) (s .rules)) ns)) (sym (held .tested) ∙ e))
+
+  pub blank-no : h .width ≡ 0 → (ns : List ℕ) → false ≡ accepts s ns
+  unfolding accepts packed
+  blank-no z ns =
+      sym
+      (ap (λ (b : Bool). isSheet s && (not b && shownBy (h .width) (take (h .count) (rulesIn rules)) ns)) (eq-eqb (h .width) 0 z)
+      ∙ and-false (isSheet s))
+
+  module _ (e : h .stands ≡ true) (z : h .width ≡ 0 → ⊥) where
+    abbrev pub own : List Rule
+    own = take (h .count) (rulesIn rules)
+
+    standing : Standing s
+    unfolding packed
+    standing = has-page (has-width (passes-sheet s (held .room .rules-places) (held .room .marks-places) (sym (held .tested) ∙ e)) z) refl
+
+    pub width-so : IsWidth (h .width)
+    unfolding packed
+    width-so = width-of standing
+
+    pub own-rules : OfRules (h .width) (take (h .count) (zipped from to side)) (h .fixed) own
+    unfolding packed
+    own-rules = let d = held .drawn e z in record { lawful = rules-lawful standing; own = d .own; bits = d .bits }
+
+    pub lie-so : Lie (top (h .width)) (h .count) (zipped from to side)
+    unfolding packed
+    lie-so =
+        let o = own-rules in
+        record {
+          places = held .room .band-places;
+          count = omega (arith, known standing .count, reached-lawful (standing .reached) .rules-fit);
+          laid = subst (AllLaid (top (h .width))) (sym (o .own)) (bands-laid (h .width) (width-so .low) own (o .lawful));
+        }
+
+    pub tidy-so : Tidy (h .fixed)
+    tidy-so = subst Tidy (sym (own-rules .bits)) (fixed-tidy own)
+
+    pub shown-so : (ns : List ℕ) → shownBy (h .width) own ns ≡ accepts s ns
+    unfolding accepts packed
+    shown-so ns =
+        sym (ap₂ (λ (a b : Bool). a && (not b && shownBy (h .width) own ns)) (sym (held .tested) ∙ e) (ne-eqb (h .width) 0 z))

@@ -1,0 +1,9 @@
+pub mod Covering
+pub mod EveryWord
+pub mod Exactly
+pub mod Held
+pub mod Midway
+pub mod NoFit
+pub mod Reasons
+pub mod Worked
+pub mod Written

@@ -1,0 +1,4 @@
+pub mod Accepted
+pub mod Check
+pub mod Examples
+pub mod Route

@@ -1,0 +1,47 @@
+// A chain that somebody else wrote, checked: whether its links show that no word fits the sheet.
+ghost use mathlib.Core.Bool.{true};
+ghost use mathlib.Core.Logic.{_↔_};
+ghost use mathlib.Core.Path.{_≡_};
+ghost use Rattle.checker.specs.Accepted.{Accepted};
+ghost use Rattle.checker.specs.Check.{accepts};
+use places::NUMBERS;
+use rule::Rule;
+use sheet::Sheet;
+use word::Width;
+
+mod link;
+mod walk;
+
+// Whether the links, three numbers each, are a chain of the sheet: any record, and any numbers.
+pub fn accepts(sheet: Sheet, links: &[u64]) -> bool
+    ensures { λ r. ⌜ r ≡ accepts sheet (now (links .entry)) ⌝ }
+    ensures { λ r. ⌜ (r ≡ true ↔ Accepted sheet (now (links .entry))) ⌝ }
+{
+    // an empty list shows nothing, whatever the sheet
+    if links.len() == 0 {
+        return false;
+    }
+    let mut rules = [0; NUMBERS];
+    let mut marks: [usize; Sheet::MARKS] = [0; Sheet::MARKS];
+    let mut from = [0; Rule::LIMIT];
+    let mut to = [0; Rule::LIMIT];
+    let mut side = [false; Rule::LIMIT];
+    let head = sheet::laid::lay_out(sheet, &mut rules, &mut marks, &mut from, &mut to, &mut side);
+    let width = head.width;
+    let count = head.count;
+    let fixed = head.fixed;
+    if head.stands {
+        if width != 0 {
+            return walk::covers(
+                links,
+                &from,
+                &to,
+                &side,
+                count,
+                fixed,
+                Width { bits: width },
+            );
+        }
+    }
+    false
+}

@@ -1,0 +1,87 @@
+// One link: whether it starts where it may, and whether its words fail for the reason that it gives.
+ghost use mathlib.Core.Bool.{not};
+ghost use mathlib.Core.List.{List};
+ghost use mathlib.Core.Path.{_≡_};
+ghost use Prim.Native.Nat.{ℕ, _≤_};
+ghost use lib.Dec.{leb};
+ghost use lib.ListN.{take};
+ghost use Rattle.word.specs.Word.{IsWidth, top};
+ghost use Rattle.rule.specs.declared.Rule.{Rule as RuleOf};
+ghost use Rattle.band.specs.Band.{Laid, holds};
+ghost use Rattle.bits.specs.Fixed.{Tidy, hasBits};
+ghost use Rattle.chain.specs.Links.{link};
+ghost use Rattle.lent.specs.Lent.{Lie, zipped};
+ghost use Rattle.checker.specs.Check.{everyWord, rightReason};
+ghost use Rattle.checker.specs.Route.{OfRules, covered};
+use band::Band;
+use bits::Fixed;
+use chain::Link;
+use rule::Rule;
+use word::Found;
+use word::Width;
+
+// Whether a link at place i of the list may start at a word: the first at 0, a later one at most one past the largest end so far.
+// That end may be the largest number there is, so nothing is added to it.
+pub fn follows(i: usize, end: u64, first: u64) -> bool
+    ensures { λ r. ⌜ r ≡ leb first (covered i end) ⌝ }
+{
+    if i == 0 {
+        return first == 0;
+    }
+    if first <= end {
+        return true;
+    }
+    first - end == 1
+}
+
+// Whether every word from one to another fails a rule, by its band: the first does, and its run reaches the last.
+fn fails(band: Band, top: u64, first: u64, last: u64) -> bool
+    requires { ⌜ (Laid top band) × (first ≤ last) × (last ≤ top) ⌝ }
+    ensures { λ r. ⌜ r ≡ everyWord (λ (x : ℕ). not (holds band x)) first last ⌝ }
+{
+    if band.holds(first) {
+        return false;
+    }
+    last <= band.run(top, first).to
+}
+
+// Whether no word from one to another has the bits: the next one that has them comes after.
+fn lacks(fixed: Fixed, width: Width, first: u64, last: u64) -> bool
+    requires { ⌜ IsWidth (width .bits) ⌝ }
+    requires { ⌜ Tidy fixed × (first ≤ last) × (last ≤ top (width .bits)) ⌝ }
+    ensures { λ r. ⌜ r ≡ everyWord (λ (x : ℕ). not (hasBits fixed x)) first last ⌝ }
+{
+    let Found::At(next) = fixed.next(width, first) else {
+        return true;
+    };
+    last < next
+}
+
+// Whether the words from one to another fail for the reason given: the number of one of the first n rules, or that of the bits.
+// The band of a form 7 rule fails no word, so that its number is never a reason.
+pub fn shows(
+    from: &[u64; Rule::LIMIT],
+    to: &[u64; Rule::LIMIT],
+    side: &[bool; Rule::LIMIT],
+    n: usize,
+    fixed: Fixed,
+    width: Width,
+    first: u64,
+    last: u64,
+    reason: u64,
+) -> bool
+    requires { ⌜ IsWidth (width .bits) ⌝ }
+    requires { ⌜ Lie (top (width .bits)) n (zipped (now from) (now to) (now side)) ⌝ }
+    requires { ⌜ Tidy fixed × (first ≤ last) × (last ≤ top (width .bits)) ⌝ }
+    ensures { λ r. ⌜ ((rs : List RuleOf) → OfRules (width .bits) (take n (zipped (now (from .entry)) (now (to .entry)) (now (side .entry)))) fixed rs → r ≡ rightReason (width .bits) rs (link first last reason)) ⌝ }
+{
+    if reason < n as u64 {
+        let top = width.top();
+        let band = lent::band_at(from, to, side, reason as usize, false, top);
+        return fails(band, top, first, last);
+    }
+    if reason == Link::BITS {
+        return lacks(fixed, width, first, last);
+    }
+    false
+}
