@@ -1,0 +1,14 @@
+-- `put_drawn` is safe and ends: the measure is the numbers left. Assumes nothing.
+use Prim.Native.Nat.{_-_}
+use borrow.Author.Needs.{needs}
+use Rattle.trial_links.proofs.tried.put_drawn.Statement.{statement}
+use Rattle.trial_links.proofs.tried.put_drawn.Tie as tie
+
+pub put-drawn-spec : {M : Type 1} → statement M
+put-drawn-spec =
+    tie.close
+    (tie.spec
+    (λ seed n size list₀ s₀ i₀ list s i. Unit)
+    (λ seed n size list₀ s₀ i₀ list s i. 12 - i)
+    (search needs) (search needs) (search needs) (search needs) (search needs) (search needs) (search needs) (search needs)
+    (search needs))
