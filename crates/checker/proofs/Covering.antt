@@ -1,11 +1,11 @@
 -- The clauses say that the links cover the wheel: one past the largest end so far is how many words are covered from 0 on, so no gap
 -- is a link that starts at or below it, and the top word reached is all words covered. By induction on the links.
 -- Assumes nothing.
-use mathlib.Core.Path.{_≡_, refl, sym, ap, ap₂, _∙_, subst}
-use mathlib.Core.Bool.{Bool, true, false, false≢true, not, _&&_, _||_, cond}
+use mathlib.Core.Path.{_≡_, refl, ap, ap₂, subst}
+use mathlib.Core.Bool.{Bool, true, false, false≢true, not, _&&_, _||_}
 use mathlib.Core.Logic.{_⊎_, inl, inr}
 use mathlib.Core.List.{List, [], _∷_}
-use Prim.Native.Nat.{ℕ, zero, suc, max, _≤_, _<_}
+use Prim.Native.Nat.{ℕ, suc, max, _≤_}
 use native.Mathlib.Omega.{arith}
 use borrow.Author.Tests.{eq-eqb, eqb-false, eqb-true, le-leb, leb-true, lt-ltb, ltb-true, ne-eqb, not-true}
 use lib.Dec.{eqb, leb, ltb}
@@ -16,10 +16,10 @@ use Rattle.rule.specs.declared.Rule.{Rule}
 use Rattle.rule.specs.Meaning.{meets, meets7}
 use Rattle.accept.specs.Accept.{every}
 use Rattle.chain.specs.declared.Link.{Link}
-use Rattle.chain.specs.Chain.{Covers, Fails, Lacks, Shows}
+use Rattle.chain.specs.Chain.{Covers, Shows, nth}
 use Rattle.chain.specs.Chain.Covers.{end, on}
-use Rattle.chain.specs.Links.{BITS, nth}
-use Rattle.checker.specs.Check.{everyWord, inOrder, largestEnd, namesBits, namesRule, noGap, rightReason, shown}
+use Rattle.chain.specs.Links.{BITS}
+use Rattle.checker.specs.Check.{inOrder, largestEnd, namesBits, namesRule, noGap, rightReason, shown}
 use Rattle.checker.proofs.EveryWord.{each-every, every-each}
 
 either : (a b : Bool) → (a || b) ≡ true → (a ≡ true) ⊎ (b ≡ true)

@@ -2,7 +2,6 @@
 -- length is a multiple of three is the numbers of its links. Assumes nothing.
 use mathlib.Core.Path.{_≡_, refl, sym, ap, ap₂, _∙_, subst}
 use mathlib.Core.Bool.{Bool, true, false, false≢true, not, _&&_}
-use mathlib.Core.Logic.{_↔_}
 use mathlib.Core.List.{List, [], _∷_}
 use Prim.Native.Nat.{ℕ, zero, suc, max, _%_, _≤_, _<_}
 use native.Mathlib.Omega.{arith}
@@ -21,9 +20,9 @@ use Rattle.sheet.specs.declared.Sheet.{Sheet}
 use Rattle.page.specs.Page.{MARKS}
 use Rattle.sheet.specs.Shape.{isSheet}
 use Rattle.sheet.proofs.Tested.{passes-sheet, sheet-passes}
-use Rattle.checker.specs.Accepted.{Accepted, InOrder, ShownBy, linkNo}
+use Rattle.checker.specs.Accepted.{Accepted, ShownBy, linkNo}
 use Rattle.checker.specs.Check.{accepts, inOrder, largestEnd, linksIn, noGap, rightReason, shown, shownBy}
-use Rattle.checker.proofs.Covering.{order-is, order-shown, shows-is, shows-order, shows-reason}
+use Rattle.checker.proofs.Covering.{order-is, order-shown, shows-is, shows-reason}
 
 -- ---- a test of every link
 

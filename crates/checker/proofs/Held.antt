@@ -4,14 +4,13 @@ use mathlib.Core.Path.{_≡_, refl, sym, ap, ap₂, _∙_, subst}
 use mathlib.Core.Bool.{Bool, true, false, false≢true, not, _&&_, and-false}
 use mathlib.Core.Logic.{_↔_}
 use mathlib.Core.List.{List, [], _∷_}
-use Prim.Native.Nat.{ℕ, _≤_}
+use Prim.Native.Nat.{ℕ}
 use native.Mathlib.Omega.{arith}
 use borrow.Author.Tests.{eq-eqb, ne-eqb}
 use lib.Dec.{eqb}
 use lib.ListN.{length, take}
 use Rattle.word.specs.Word.{IsWidth, top}
 use Rattle.rule.specs.declared.Rule.{Rule}
-use Rattle.rule.specs.Meaning.{RULES}
 use Rattle.band.specs.Band.{AllLaid}
 use Rattle.bits.specs.Fixed.{Tidy}
 use Rattle.bits.proofs.Joined.{fixed-tidy}

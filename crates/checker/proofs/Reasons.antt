@@ -7,7 +7,7 @@ use Prim.Native.Nat.{ℕ, zero, suc, _≤_, _<_}
 use native.Mathlib.Decide.{ℕ-discrete}
 use native.Mathlib.Omega.{arith}
 use borrow.Author.Tests.{eq-eqb, le-ltb, lt-ltb, ne-eqb}
-use lib.Dec.{eqb, ltb}
+use lib.Dec.{eqb}
 use lib.ListN.{getD, length, length-map, take}
 use lib.Seq.{getD-take, length-take-le}
 use Rattle.word.specs.Word.{top}
@@ -21,7 +21,7 @@ use Rattle.bits.proofs.Joined.{fixed-bits}
 use Rattle.chain.specs.Links.{nth}
 use Rattle.chain.specs.Links.{BITS, link}
 use Rattle.lent.specs.Lent.{Lie}
-use Rattle.checker.specs.Check.{everyWord, namesBits, namesRule, rightReason}
+use Rattle.checker.specs.Check.{namesBits, namesRule, rightReason}
 use Rattle.checker.proofs.EveryWord.{every-same, first-passes, misses}
 
 or-false : (b : Bool) → b ≡ (b || false)

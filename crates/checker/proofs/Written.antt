@@ -2,15 +2,14 @@
 -- three numbers each. Assumes nothing.
 use mathlib.Core.Path.{_≡_, refl, sym, ap, ap₂, _∙_}
 use mathlib.Core.Bool.{Bool, true, false, not, _&&_}
-use mathlib.Core.List.{List, _++_}
-use Prim.Native.Nat.{ℕ, _*_, _≤_}
+use mathlib.Core.List.{List}
+use Prim.Native.Nat.{ℕ, _*_}
 use native.Mathlib.Omega.{arith}
 use borrow.Author.Tests.{eq-eqb, eqb-true, ne-eqb}
 use lib.Dec.{eqb}
-use lib.ListN.{drop, length, take}
+use lib.ListN.{length, take}
 use lib.Seq.{take-at}
 use Rattle.rule.specs.declared.Rule.{Rule}
-use Rattle.verdict.specs.declared.Kept.{Kept}
 use Rattle.verdict.specs.Kept.{kept}
 use Rattle.chain.specs.declared.Link.{Link}
 use Rattle.chain.specs.Chain.{IsChain}
@@ -21,18 +20,15 @@ use Rattle.chain.proofs.Steps.{chain-is}
 use Rattle.chain.proofs.Walk.{none-fits, numbers-length}
 use Rattle.sheet.specs.declared.Reply.{Reply}
 use Rattle.sheet.specs.declared.Sheet.{Sheet}
-use Rattle.page.specs.Calls.{ask, refusal, rulesOf}
-use Rattle.page.specs.Page.{OpenPage, Page, entriesOf, no-page, page, rulesOn, widthOf}
-use Rattle.sheet.specs.Record.{fresh}
-use Rattle.sheet.specs.Shape.{isSheet}
-use Rattle.sheet.specs.Statements.{Asked, IsSheet, chainOn, overlaid, refuses, replies, reply}
-use Rattle.page.specs.Reached.{Reached}
-use Rattle.sheet.proofs.Fresh.{Given, given}
-use Rattle.page.proofs.Lawful.{reached-lawful}
-use Rattle.page.proofs.Refusals.{blank-ask}
+use Rattle.sheet.specs.Calls.{ask, refusal, rulesOf}
+use Rattle.sheet.specs.Page.{OpenPage, Page, entriesOf, fresh, no-page, page, rulesOn, widthOf}
+use Rattle.sheet.specs.Statements.{Asked, IsSheet, Reached, chainOn, overlaid, reply}
+use Rattle.sheet.proofs.Fresh.{given}
+use Rattle.sheet.proofs.Lawful.{reached-lawful}
+use Rattle.sheet.proofs.Refusals.{blank-ask}
 use Rattle.sheet.proofs.Tested.{sheet-dec, sheet-passes}
 use Rattle.sheet.proofs.WaysOfAsking.{accepted-reply, the-chain}
-use Rattle.checker.specs.Check.{accepts, linksIn, shown, shownBy}
+use Rattle.checker.specs.Check.{accepts, shown, shownBy}
 use Rattle.checker.proofs.Covering.{covers-shown}
 use Rattle.checker.proofs.Exactly.{in-threes, links-of}
 

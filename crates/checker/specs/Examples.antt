@@ -1,9 +1,8 @@
 -- Lists that 01 would not write and K3 allows, and near each one that gets no, as one table: the rules at width 4, the numbers, and
 -- what the check says.
 use mathlib.Core.Bool.{Bool, true, false}
-use mathlib.Core.List.{List, [], _∷_, _++_}
+use mathlib.Core.List.{List, [], _∷_}
 use Prim.Native.Nat.{ℕ}
-use Rattle.rule.specs.declared.Rule.{Rule}
 use Rattle.rule.specs.Meaning.{rule}
 use Rattle.sheet.specs.declared.Sheet.{Sheet}
 use Rattle.page.specs.Page.{Entry, a-rule, at-width, newPage, page, withEntries}

@@ -1,5 +1,5 @@
 -- `lacks` meets its contract: no word lacks the bits from the next one that has them on. Assumes nothing.
-use mathlib.Core.Path.{_≡_, sym, ap, _∙_}
+use mathlib.Core.Path.{sym, _∙_}
 use borrow.Author.Needs.{needs}
 use Rattle.word.specs.Word.{top}
 use Rattle.bits.specs.Fixed.{hasBits}

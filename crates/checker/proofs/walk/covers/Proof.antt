@@ -1,9 +1,9 @@
 -- `covers` meets its contract. The loop's invariant: the walk has come to place i, a multiple of three, with the largest end so far,
 -- whichever rules the bands and the bits are those of. The measure is the numbers left. Assumes nothing.
-use mathlib.Core.Path.{_≡_, refl, sym, ap, ap₂, _∙_, subst}
+use mathlib.Core.Path.{_≡_, refl, ap, _∙_, subst}
 use mathlib.Core.Logic.{⊎-elim}
 use mathlib.Core.List.{List}
-use Prim.Native.Nat.{ℕ, max, _+_, _-_, _%_, _≤_, _<_}
+use Prim.Native.Nat.{ℕ, max, _+_, _-_, _%_, _≤_}
 use native.Mathlib.Omega.{arith}
 use borrow.Author.Needs.{needs}
 use borrow.Author.Tests.{leb-false, leb-true}

@@ -1,7 +1,6 @@
 -- `record` is safe and ends: the measure is the rules left. Assumes nothing.
 use Prim.Native.Nat.{_-_}
 use borrow.Author.Needs.{needs}
-use native.Mathlib.Omega.{arith}
 use Rattle.trial_links.proofs.tried.record.Statement.{statement}
 use Rattle.trial_links.proofs.tried.record.Tie as tie
 
