@@ -16,9 +16,9 @@ use Rattle.rule.specs.declared.Rule.{Rule}
 use Rattle.rule.specs.Meaning.{meets, meets7}
 use Rattle.accept.specs.Accept.{every}
 use Rattle.chain.specs.declared.Link.{Link}
-use Rattle.chain.specs.Chain.{Covers, Shows, nth}
+use Rattle.chain.specs.Chain.{Covers, Shows}
 use Rattle.chain.specs.Chain.Covers.{end, on}
-use Rattle.chain.specs.Links.{BITS}
+use Rattle.chain.specs.Links.{BITS, nth}
 use Rattle.checker.specs.Check.{inOrder, largestEnd, namesBits, namesRule, noGap, rightReason, shown}
 use Rattle.checker.proofs.EveryWord.{each-every, every-each}
 

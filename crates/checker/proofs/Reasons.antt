@@ -18,8 +18,7 @@ use Rattle.band.specs.Band.{bandOf, holds}
 use Rattle.band.proofs.Law.{band-law, bit-band}
 use Rattle.bits.specs.Fixed.{fixedBits, hasBits}
 use Rattle.bits.proofs.Joined.{fixed-bits}
-use Rattle.chain.specs.Links.{nth}
-use Rattle.chain.specs.Links.{BITS, link}
+use Rattle.chain.specs.Links.{BITS, link, nth}
 use Rattle.lent.specs.Lent.{Lie}
 use Rattle.checker.specs.Check.{namesBits, namesRule, rightReason}
 use Rattle.checker.proofs.EveryWord.{every-same, first-passes, misses}

@@ -20,12 +20,14 @@ use Rattle.chain.proofs.Steps.{chain-is}
 use Rattle.chain.proofs.Walk.{none-fits, numbers-length}
 use Rattle.sheet.specs.declared.Reply.{Reply}
 use Rattle.sheet.specs.declared.Sheet.{Sheet}
-use Rattle.sheet.specs.Calls.{ask, refusal, rulesOf}
-use Rattle.sheet.specs.Page.{OpenPage, Page, entriesOf, fresh, no-page, page, rulesOn, widthOf}
-use Rattle.sheet.specs.Statements.{Asked, IsSheet, Reached, chainOn, overlaid, reply}
+use Rattle.page.specs.Calls.{ask, refusal, rulesOf}
+use Rattle.page.specs.Page.{OpenPage, Page, entriesOf, no-page, page, rulesOn, widthOf}
+use Rattle.sheet.specs.Record.{fresh}
+use Rattle.sheet.specs.Statements.{Asked, IsSheet, chainOn, overlaid, reply}
+use Rattle.page.specs.Reached.{Reached}
 use Rattle.sheet.proofs.Fresh.{given}
-use Rattle.sheet.proofs.Lawful.{reached-lawful}
-use Rattle.sheet.proofs.Refusals.{blank-ask}
+use Rattle.page.proofs.Lawful.{reached-lawful}
+use Rattle.page.proofs.Refusals.{blank-ask}
 use Rattle.sheet.proofs.Tested.{sheet-dec, sheet-passes}
 use Rattle.sheet.proofs.WaysOfAsking.{accepted-reply, the-chain}
 use Rattle.checker.specs.Check.{accepts, shown, shownBy}

@@ -9,8 +9,7 @@ use Rattle.rule.specs.declared.Rule.{Rule}
 use Rattle.rule.specs.Meaning.{meets, meets7}
 use Rattle.accept.specs.Accept.{every}
 use Rattle.chain.specs.declared.Link.{Link}
-use Rattle.chain.specs.Links.{nth}
-use Rattle.chain.specs.Links.{BITS, link}
+use Rattle.chain.specs.Links.{BITS, link, nth}
 use Rattle.sheet.specs.declared.Sheet.{Sheet}
 use Rattle.sheet.specs.Shape.{isSheet}
 
