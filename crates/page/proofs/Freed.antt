@@ -7,7 +7,7 @@ use lib.ListN.{length}
 use Rattle.rule.specs.declared.Rule.{Rule}
 use Rattle.accept.specs.Accept.{refusalOf}
 use Rattle.page.specs.Calls.{add, back, changed, mark, refusal, written}
-use Rattle.page.specs.Page.{OpenPage, marksOn, page, rulesOn, struck, withEntries}
+use Rattle.page.specs.Page.{OpenPage, laidAside, marksOn, page, rulesOn, struck}
 use Rattle.page.specs.Reached.{Reached}
 use Rattle.page.proofs.Lawful.{reached-lawful}
 use Rattle.page.proofs.Refusals.{add-fits, mark-fits}
@@ -15,13 +15,13 @@ use Rattle.page.proofs.Struck.{marks-left-length}
 
 module _ (o : OpenPage) (reached : Reached (page o)) (some : 0 < length (marksOn (o .entries))) where
   pub mark-freed : refusal (written (page o) back) mark ≡ 0
-  unfolding written changed
+  unfolding written changed laidAside
   mark-freed =
       let l = reached-lawful reached in
-      mark-fits (withEntries o (struck (o .entries))) (omega (arith, marks-left-length (o .entries) some, l .marks-fit))
+      mark-fits (laidAside o) (omega (arith, marks-left-length (o .entries) some, l .marks-fit))
 
   pub rule-freed : length (rulesOn (struck (o .entries))) < length (rulesOn (o .entries)) → (r : Rule) → refusalOf (o .opening .width) r ≡ 0 → refusal (written (page o) back) (add r) ≡ 0
-  unfolding written changed
+  unfolding written changed laidAside
   rule-freed fewer r allowed =
       let l = reached-lawful reached in
-      add-fits (withEntries o (struck (o .entries))) r allowed (omega (arith, l .rules-fit))
+      add-fits (laidAside o) r allowed (omega (arith, l .rules-fit))

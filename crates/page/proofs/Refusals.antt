@@ -7,7 +7,7 @@ use mathlib.Core.List.{[], _∷_}
 use Prim.Native.Nat.{ℕ, _≤_, _<_}
 use native.Mathlib.Decide.{ℕ-discrete}
 use native.Mathlib.Omega.{arith}
-use borrow.Author.Tests.{eq-eqb, le-leb, le-ltb, leb-false, leb-true, lt-leb, lt-ltb, ne-eqb, not-false}
+use borrow.Author.Tests.{eq-eqb, eqb-false, le-leb, le-ltb, leb-false, leb-true, lt-leb, lt-ltb, ne-eqb, not-false}
 use lib.Dec.{eqb, leb}
 use lib.ListN.{length}
 use Rattle.word.proofs.Tests.{both-pass}
@@ -16,8 +16,8 @@ use Rattle.rule.specs.Meaning.{RULES}
 use Rattle.accept.specs.Accept.{refusalOf}
 use Rattle.accept.proofs.Grounds.{none-given, rule-first}
 use Rattle.chain.specs.Links.{chainRoom}
-use Rattle.page.specs.Calls.{Call, add, after, ask, back, firstThatApplies, ground, grounds, isBlank, mark, marksOf, open-at, refusal, rulesOf, written}
-use Rattle.page.specs.Page.{MARKS, OpenPage, Opening, Page, WIDEST, entriesOf, marksOn, no-page, page, rulesOn, widthOf}
+use Rattle.page.specs.Calls.{Call, add, after, ask, back, firstThatApplies, forward, ground, grounds, isBlank, mark, marksOf, open-at, refusal, rulesOf, written}
+use Rattle.page.specs.Page.{MARKS, OpenPage, Opening, Page, WIDEST, entriesOf, marksOn, no-page, page, pileOf, rulesOn, widthOf}
 
 -- ---- opening
 
@@ -54,6 +54,10 @@ blank-mark = refl
 pub blank-back : refusal no-page back ≡ 1
 unfolding refusal grounds firstThatApplies isBlank
 blank-back = refl
+
+pub blank-forward : refusal no-page forward ≡ 1
+unfolding refusal grounds firstThatApplies isBlank
+blank-forward = refl
 
 pub blank-ask : (m : ℕ) → refusal no-page (ask m) ≡ 1
 unfolding refusal grounds firstThatApplies isBlank
@@ -114,6 +118,19 @@ module _ (o : OpenPage) where
   unfolding refusal grounds firstThatApplies isBlank marksOf entriesOf
   back-fits h = rw (ne-eqb (length (marksOn (o .entries))) 0 (λ e. omega arith))
 
+  pub back-marked : refusal (page o) back ≡ 0 → 0 < length (marksOn (o .entries))
+  unfolding refusal grounds isBlank marksOf entriesOf
+  back-marked e =
+      let z = eqb-false (length (marksOn (o .entries))) 0 (none-given 7 _ _ (none-given 0 _ _ e .1) .0) in omega arith
+
+  pub forward-none : length (o .pile) ≡ 0 → refusal (page o) forward ≡ 12
+  unfolding refusal grounds firstThatApplies isBlank pileOf
+  forward-none h = rw (eq-eqb (length (o .pile)) 0 h)
+
+  pub forward-fits : 0 < length (o .pile) → refusal (page o) forward ≡ 0
+  unfolding refusal grounds firstThatApplies isBlank pileOf
+  forward-fits h = rw (ne-eqb (length (o .pile)) 0 (λ e. omega arith))
+
   pub ask-short : (m : ℕ) → m < chainRoom (length (rulesOn (o .entries))) → refusal (page o) (ask m) ≡ 9
   unfolding refusal grounds firstThatApplies isBlank rulesOf entriesOf
   ask-short m h = rw (lt-ltb m (chainRoom (length (rulesOn (o .entries)))) h)
@@ -131,3 +148,12 @@ after-refused pg c n = rw (ne-eqb (refusal pg c) 0 n, after)
 pub after-accepted : (pg : Page) (c : Call) → refusal pg c ≡ 0 → after pg c ≡ written pg c
 unfolding after
 after-accepted pg c e = rw (eq-eqb (refusal pg c) 0 e, after)
+
+-- asking leaves the page
+pub after-ask : (pg : Page) (m : ℕ) → after pg (ask m) ≡ pg
+unfolding written
+after-ask pg m = go (ℕ-discrete (refusal pg (ask m)) 0)
+  where
+    go : Dec (refusal pg (ask m) ≡ 0) → after pg (ask m) ≡ pg
+    go (yes e) = after-accepted pg (ask m) e
+    go (no n) = after-refused pg (ask m) n

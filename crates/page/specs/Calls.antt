@@ -3,14 +3,14 @@ use mathlib.Core.Bool.{Bool, true, false, not, _&&_}
 use mathlib.Core.List.{List, [], _∷_, _++_}
 use Prim.Native.Nat.{ℕ}
 use lib.Dec.{eqb, leb, ltb}
-use lib.ListN.{length}
+use lib.ListN.{length, replicate}
 use Rattle.rule.specs.declared.Rule.{Rule}
 use Rattle.rule.specs.Meaning.{RULES}
 use Rattle.accept.specs.Accept.{ruleGrounds}
 pub use Rattle.accept.specs.Grounds.{Ground, ground}
 unfoldable pub use Rattle.accept.specs.Grounds.{firstThatApplies}
 use Rattle.chain.specs.Links.{chainRoom}
-use Rattle.page.specs.Page.{Entry, MARKS, Opening, Page, WIDEST, a-mark, a-rule, entriesOf, marksOn, newPage, no-page, page, rulesOn, struck, widthOf, withEntries}
+use Rattle.page.specs.Page.{Entry, MARKS, OpenPage, Opening, Page, WIDEST, a-mark, a-rule, entriesOf, laidAside, marksOn, newPage, no-page, page, pileOf, rulesOn, takenUp, widthOf, withEntries}
 
 -- a call with what it is handed: of the buffer, only its length counts
 pub data Call : Type 0 where
@@ -18,6 +18,7 @@ pub data Call : Type 0 where
   add : Rule → Call
   mark : Call
   back : Call
+  forward : Call
   ask : (room : ℕ) → Call
 
 unfoldable pub isBlank : Page → Bool
@@ -38,23 +39,25 @@ grounds pg (add r) =
     ground 1 (isBlank pg) ∷ (ruleGrounds (widthOf pg) r ++ ground 6 (leb RULES (length (rulesOf pg))) ∷ [])
 grounds pg mark = ground 1 (isBlank pg) ∷ ground 7 (leb MARKS (length (marksOf pg))) ∷ []
 grounds pg back = ground 1 (isBlank pg) ∷ ground 8 (eqb (length (marksOf pg)) 0) ∷ []
+grounds pg forward = ground 1 (isBlank pg) ∷ ground 12 (eqb (length (pileOf pg)) 0) ∷ []
 grounds pg (ask m) = ground 1 (isBlank pg) ∷ ground 9 (ltb m (chainRoom (length (rulesOf pg)))) ∷ []
 
 -- the number that is given, 0 where the call is accepted
 unfoldable pub refusal : Page → Call → ℕ
 refusal pg c = firstThatApplies (grounds pg c)
 
--- a page whose entries the clerk changes so
-unfoldable pub changed : Page → (List Entry → List Entry) → Page
+-- an open page that the clerk changes so
+unfoldable pub changed : Page → (OpenPage → OpenPage) → Page
 changed no-page f = no-page
-changed (page o) f = page (withEntries o (f (o .entries)))
+changed (page o) f = page (f o)
 
--- what the clerk does at an accepted call: a new page, one entry more, the strikes of a step back, or nothing
+-- what the clerk does at an accepted call: a new page, one entry more, a stretch struck out or written back, or nothing
 unfoldable pub written : Page → Call → Page
 written pg (open-at g) = page (newPage g)
-written pg (add r) = changed pg (λ es. a-rule r ∷ es)
-written pg mark = changed pg (λ es. a-mark ∷ es)
-written pg back = changed pg struck
+written pg (add r) = changed pg (λ o. withEntries o (a-rule r ∷ o .entries))
+written pg mark = changed pg (λ o. withEntries o (a-mark ∷ o .entries))
+written pg back = changed pg laidAside
+written pg forward = changed pg (λ o. takenUp (o .pile) o)
 written pg (ask m) = pg
 
 -- the page after a call, accepted or refused
@@ -81,7 +84,13 @@ unfoldable pub gives : List Entry → List Call
 gives [] = []
 gives (e ∷ es) = gives es ++ enters e ∷ []
 
--- "one freshly opened and given what stands on a clerk's page": the calls that a page replays
+-- "then every waiting stretch, the one next to come back first"
+unfoldable pub givesEach : List (List Entry) → List Call
+givesEach [] = []
+givesEach (s ∷ ss) = gives s ++ givesEach ss
+
+-- "a fresh one given what stands on the page, then every waiting stretch, ..., and then taken back once for each of them": the calls
+-- that a page and its pile replay
 unfoldable pub replay : Page → List Call
 replay no-page = []
-replay (page o) = open-at (o .opening) ∷ gives (o .entries)
+replay (page o) = open-at (o .opening) ∷ (gives (o .entries) ++ (givesEach (o .pile) ++ replicate (length (o .pile)) back))

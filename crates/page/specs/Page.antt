@@ -25,17 +25,23 @@ pub record Opening : Type 0 where
 abbrev pub at-width : ℕ → Opening
 at-width w = record { width = w }
 
--- what an open page has: how it was opened, and the entries that stand, the newest first
+-- what an open page has: how it was opened, the entries that stand, the newest first, and the pile of stretches that wait, the one
+-- next to come back on top; a stretch has its entries newest first too
 pub record OpenPage : Type 0 where
   pub opening : Opening
   pub entries : List Entry
+  pub pile : List (List Entry)
 
--- the page of an accepted opening, and a page with other entries on it
+-- the page of an accepted opening; a page with other entries on it, and with another pile beside it
 abbrev pub newPage : Opening → OpenPage
-newPage g = record { opening = g; entries = [] }
+newPage g = record { opening = g; entries = []; pile = [] }
 
+abbrev pub withPile : OpenPage → List Entry → List (List Entry) → OpenPage
+withPile o es ss = record { opening = o .opening; entries = es; pile = ss }
+
+-- "clears the pile at an accepted add, mark or open"
 abbrev pub withEntries : OpenPage → List Entry → OpenPage
-withEntries o es = record { opening = o .opening; entries = es }
+withEntries o es = withPile o es []
 
 -- the page: none before the first accepted opening
 pub data Page : Type 0 where
@@ -49,6 +55,10 @@ widthOf (page o) = o .opening .width
 unfoldable pub entriesOf : Page → List Entry
 entriesOf no-page = []
 entriesOf (page o) = o .entries
+
+unfoldable pub pileOf : Page → List (List Entry)
+pileOf no-page = []
+pileOf (page o) = o .pile
 
 -- the rules that stand, "numbered from 0 in the order added"
 unfoldable pub rulesOn : List Entry → List Rule
@@ -67,6 +77,26 @@ unfoldable pub struck : List Entry → List Entry
 struck [] = []
 struck (a-rule r ∷ es) = struck es
 struck (a-mark ∷ es) = es
+
+-- the stretch that is struck out so: that mark and those rules
+unfoldable pub stretch : List Entry → List Entry
+stretch [] = []
+stretch (a-rule r ∷ es) = a-rule r ∷ stretch es
+stretch (a-mark ∷ es) = a-mark ∷ []
+
+-- "lays the stretch struck out at each accepted step back on top of a pile"
+unfoldable pub laidAside : OpenPage → OpenPage
+laidAside o = withPile o (struck (o .entries)) (stretch (o .entries) ∷ o .pile)
+
+-- "writes the top one back below what stands on the page at each accepted step forward"
+unfoldable pub takenUp : List (List Entry) → OpenPage → OpenPage
+takenUp [] o = o
+takenUp (s ∷ ss) o = withPile o (s ++ o .entries) ss
+
+-- what stands with every waiting stretch written back, the one next to come back first
+unfoldable pub restored : List (List Entry) → List Entry → List Entry
+restored [] es = es
+restored (s ∷ ss) es = restored ss (s ++ es)
 
 -- "Places not in use hold zeros."
 abbrev pub padded : {A : Type 0} → ℕ → A → List A → List A
