@@ -1,20 +1,23 @@
--- The record of a page after an accepted call, made from the record before it: a new rule or mark goes into the first place
--- not in use, and what a step back strikes leaves zeros behind. What is kept is found anew from the rules that stand.
--- Assumes nothing.
+-- The record of a page after an accepted call, made from the record before it. A step back or forward leaves what is so restored, and
+-- with it all rules and marks: only the counters move. An add or a mark clears what waits, and goes into the first place then not in
+-- use. What is kept is found anew from the rules that stand. Assumes nothing.
 use mathlib.Core.Path.{_≡_, refl, sym, ap, ap₂, _∙_, subst}
-use mathlib.Core.List.{List, [], _∷_, _++_}
+use mathlib.Core.List.{List, [], _∷_, _++_, append-assoc}
 use Prim.Native.Nat.{ℕ, suc, _+_, _-_, _≤_, _<_}
 use native.Mathlib.Omega.{arith}
-use lib.ListN.{List·getD-append, getD, length, length-append, length-replicate, replicate, set, take}
-use lib.Seq.{append-snoc, set-append-seam, take-append-le, take-append-seam, take-at}
+use borrow.Author.Tests.{eq-eqb, ne-eqb}
+use lib.ListN.{drop, getD, length, length-append, length-replicate, replicate, set, take}
+use lib.Seq.{append-snoc, drop-append-seam, drop-at, getD-append-seam, getD-take, set-append-seam, take-append-seam, take-at}
 use Rattle.rule.specs.declared.Rule.{Rule}
 use Rattle.rule.specs.Meaning.{RULES}
 use Rattle.verdict.specs.Kept.{kept}
 use Rattle.sheet.specs.declared.Sheet.{Sheet}
-use Rattle.page.specs.Page.{Entry, MARKS, OpenPage, a-mark, a-rule, marksOn, noRule, padded, page, rulesOn, struck, withEntries}
+use Rattle.page.specs.Page.{Entry, MARKS, OpenPage, a-mark, a-rule, laidAside, marksOn, noRule, padded, page, restored, rulesOn, stretch, struck, takenUp, withEntries, withPile}
 use Rattle.sheet.specs.Record.{fresh}
-use Rattle.page.proofs.Lawful.{LawfulOpen}
-use Rattle.page.proofs.Struck.{count-left, marks-left-length, marks-split, newest, newest-low, rules-left}
+use Rattle.sheet.specs.Shape.{inForce}
+use Rattle.page.proofs.Lawful.{LawfulPile}
+use Rattle.page.proofs.Stretches.{Stretches, marks-more, restored-marked, restored-marks, restored-rules, rules-more, stretch-struck, waitingMarks, waitingRules}
+use Rattle.page.proofs.Struck.{count-left, marks-left-length, newest, newest-low}
 
 -- ---- places not in use
 
@@ -36,10 +39,39 @@ module _ {A : Type 0} (n : ℕ) (z : A) (xs : List A) where
         next-taken x
         ∙ sym (ap (λ (l : List A). set l (length xs) x) next-place ∙ set-append-seam xs z (replicate (n - suc (length xs)) z) x)
 
-    padded-less : (x : A) → padded n z xs ≡ set (padded n z (xs ++ x ∷ [])) (length xs) z
-    padded-less x =
-        next-place
-        ∙ sym (ap (λ (l : List A). set l (length xs) z) (next-taken x) ∙ set-append-seam xs x (replicate (n - suc (length xs)) z) z)
+-- ---- what stands, of what is restored
+
+module _ (ss : List (List Entry)) (es : List Entry) (zs : List Rule) where
+  standing-rules : take (length (rulesOn es)) (rulesOn (restored ss es) ++ zs) ≡ rulesOn es
+  standing-rules = rw (restored-rules ss es, append-assoc (rulesOn es)) (take-append-seam (rulesOn es) (waitingRules ss ++ zs))
+
+module _ (ss : List (List Entry)) (es : List Entry) (h : Stretches ss) (zs : List ℕ) where
+  standing-marks : take (length (marksOn es)) (marksOn (restored ss es) ++ zs) ≡ marksOn es
+  standing-marks = rw (restored-marks ss es h, append-assoc (marksOn es)) (take-append-seam (marksOn es) (waitingMarks (length (rulesOn es)) ss ++ zs))
+
+-- ---- how many rules are in force
+
+module _ (given : ℕ) (ms : List ℕ) (marked : ℕ) {waiting : ℕ} where
+  pub none-waits : waiting ≡ 0 → inForce given ms marked waiting ≡ given
+  unfolding inForce
+  none-waits z = rw (eq-eqb waiting 0 z)
+
+  pub some-wait : 0 < waiting → inForce given ms marked waiting ≡ getD ms marked 0
+  unfolding inForce
+  some-wait h = rw (ne-eqb waiting 0 (λ z. omega arith))
+
+-- the mark next to come back notes the rules that stand
+pub in-force : (ss : List (List Entry)) (es : List Entry) → Stretches ss → (zs : List ℕ)
+    → inForce (length (rulesOn (restored ss es))) (marksOn (restored ss es) ++ zs) (length (marksOn es)) (length ss) ≡ length (rulesOn es)
+unfolding restored waitingMarks
+in-force [] es h zs = none-waits _ _ _ refl
+in-force (s ∷ ss) es h zs =
+    let n : ℕ = length (rulesOn es) in
+    let ms : List ℕ = marksOn es in
+    some-wait _ _ _ (omega arith)
+    ∙ ap (λ (l : List ℕ). getD (l ++ zs) (length ms) 0) (restored-marks (s ∷ ss) es h)
+    ∙ ap (λ (l : List ℕ). getD l (length ms) 0) (append-assoc ms (n ∷ waitingMarks (n + length (rulesOn s)) ss) zs)
+    ∙ getD-append-seam ms n (waitingMarks (n + length (rulesOn s)) ss ++ zs) 0
 
 -- ---- what a sheet's record says of its page
 
@@ -51,9 +83,34 @@ pub record Given (o : OpenPage) (s : Sheet) : Type 0 where
   pub marked : s .marked ≡ length (marksOn (o .entries))
   pub rules-length : length (s .rules) ≡ RULES
   pub marks-length : length (s .marks) ≡ MARKS
+  -- with every waiting stretch written back
+  pub all-rules : take (s .given) (s .rules) ≡ rulesOn (restored (o .pile) (o .entries))
+  pub all-marks : take (s .marked + s .waiting) (s .marks) ≡ marksOn (restored (o .pile) (o .entries))
+  pub waiting : s .waiting ≡ length (o .pile)
+  pub given-low : s .count ≤ s .given
+  pub given-high : s .given ≤ RULES
+  pub marks-high : s .marked + s .waiting ≤ MARKS
+  -- and after that, nothing
+  pub rules-after : drop (s .given) (s .rules) ≡ replicate (RULES - s .given) noRule
+  pub marks-after : drop (s .marked + s .waiting) (s .marks) ≡ replicate (MARKS - (s .marked + s .waiting)) 0
 
 -- ---- the records that the calls make
 
+-- nothing waits any more
+abbrev pub cleared : Sheet → Sheet
+cleared s =
+    record {
+      width = s .width;
+      rules = take (s .count) (s .rules) ++ replicate (RULES - s .count) noRule;
+      count = s .count;
+      marks = take (s .marked) (s .marks) ++ replicate (MARKS - s .marked) 0;
+      marked = s .marked;
+      kept = s .kept;
+      given = s .count;
+      waiting = 0;
+    }
+
+-- one rule or one mark more, where nothing waits
 abbrev pub withRule : Sheet → Rule → Sheet
 withRule s r =
     record {
@@ -63,6 +120,8 @@ withRule s r =
       marks = s .marks;
       marked = s .marked;
       kept = kept (s .width) (take (s .count + 1) (set (s .rules) (s .count) r));
+      given = s .count + 1;
+      waiting = 0;
     }
 
 abbrev pub withMark : Sheet → Sheet
@@ -74,22 +133,36 @@ withMark s =
       marks = set (s .marks) (s .marked) (s .count);
       marked = s .marked + 1;
       kept = s .kept;
+      given = s .count;
+      waiting = 0;
     }
 
--- how many rules a step back leaves
+-- the same rules and marks, of which so many rules and marks are in force, and so many stretches wait
+abbrev pub moved : Sheet → (count marked waiting : ℕ) → Sheet
+moved s n m v =
+    record {
+      width = s .width;
+      rules = s .rules;
+      count = n;
+      marks = s .marks;
+      marked = m;
+      kept = kept (s .width) (take n (s .rules));
+      given = s .given;
+      waiting = v;
+    }
+
+-- how many rules a step back leaves, and how many are in force after a step forward
 abbrev pub leaves : Sheet → ℕ
 leaves s = getD (s .marks) (s .marked - 1) 0
 
+abbrev pub brings : Sheet → ℕ
+brings s = inForce (s .given) (s .marks) (s .marked + 1) (s .waiting - 1)
+
 abbrev pub steppedBack : Sheet → Sheet
-steppedBack s =
-    record {
-      width = s .width;
-      rules = take (leaves s) (s .rules) ++ replicate (RULES - leaves s) noRule;
-      count = leaves s;
-      marks = set (s .marks) (s .marked - 1) 0;
-      marked = s .marked - 1;
-      kept = kept (s .width) (take (leaves s) (s .rules));
-    }
+steppedBack s = moved s (leaves s) (s .marked - 1) (s .waiting + 1)
+
+abbrev pub steppedForward : Sheet → Sheet
+steppedForward s = moved s (brings s) (s .marked + 1) (s .waiting - 1)
 
 module _ (o : OpenPage) where
   abbrev es : List Entry
@@ -98,21 +171,56 @@ module _ (o : OpenPage) where
   abbrev w : ℕ
   w = o .opening .width
 
-  given-fresh : LawfulOpen o → Given o (fresh (page o))
-  unfolding fresh
-  given-fresh l =
-      record {
-        width = refl;
-        rules = take-append-seam (rulesOn es) (replicate (RULES - length (rulesOn es)) noRule);
-        count = refl;
-        marks = take-append-seam (marksOn es) (replicate (MARKS - length (marksOn es)) 0);
-        marked = refl;
-        rules-length = padded-length RULES noRule (rulesOn es) (l .rules-fit);
-        marks-length = padded-length MARKS 0 (marksOn es) (l .marks-fit);
-      }
+  abbrev all : List Entry
+  all = restored (o .pile) es
 
-  add-fresh : (r : Rule) → length (rulesOn es) < RULES → fresh (page (withEntries o (a-rule r ∷ es))) ≡ withRule (fresh (page o)) r
-  unfolding fresh rulesOn marksOn
+  module _ (l : LawfulPile o) where
+    abbrev no-rules : List Rule
+    no-rules = replicate (RULES - length (rulesOn all)) noRule
+
+    abbrev no-marks : List ℕ
+    no-marks = replicate (MARKS - length (marksOn all)) 0
+
+    all-marked : length (marksOn all) ≡ length (marksOn es) + length (o .pile)
+    all-marked = restored-marked (o .pile) es (l .stretches)
+
+    given-fresh : Given o (fresh (page o))
+    unfolding fresh
+    given-fresh =
+        record {
+          width = refl;
+          rules = standing-rules (o .pile) es no-rules;
+          count = refl;
+          marks = standing-marks (o .pile) es (l .stretches) no-marks;
+          marked = refl;
+          rules-length = padded-length RULES noRule (rulesOn all) (l .restores .rules-fit);
+          marks-length = padded-length MARKS 0 (marksOn all) (l .restores .marks-fit);
+          all-rules = take-append-seam (rulesOn all) no-rules;
+          all-marks = take-at (marksOn all) no-marks _ all-marked;
+          waiting = refl;
+          given-low = omega (arith, ap length (restored-rules (o .pile) es), length-append (rulesOn es) (waitingRules (o .pile)));
+          given-high = l .restores .rules-fit;
+          marks-high = omega (arith, all-marked, l .restores .marks-fit);
+          rules-after = drop-append-seam (rulesOn all) no-rules;
+          marks-after = drop-at (marksOn all) no-marks _ all-marked ∙ ap (λ (k : ℕ). replicate (MARKS - k) 0) all-marked;
+        }
+
+    clear-fresh : fresh (page (withEntries o es)) ≡ cleared (fresh (page o))
+    unfolding fresh restored
+    clear-fresh =
+        λ i. record {
+          width = w;
+          rules = sym (standing-rules (o .pile) es no-rules) i ++ replicate (RULES - length (rulesOn es)) noRule;
+          count = length (rulesOn es);
+          marks = sym (standing-marks (o .pile) es (l .stretches) no-marks) i ++ replicate (MARKS - length (marksOn es)) 0;
+          marked = length (marksOn es);
+          kept = kept w (rulesOn es);
+          given = length (rulesOn es);
+          waiting = 0;
+        }
+
+  add-fresh : (r : Rule) → length (rulesOn es) < RULES → fresh (page (withEntries o (a-rule r ∷ es))) ≡ withRule (fresh (page (withEntries o es))) r
+  unfolding fresh rulesOn marksOn restored
   add-fresh r h =
       let rs : List Rule = rulesOn es in
       let more = padded-more RULES noRule rs h r in
@@ -126,10 +234,12 @@ module _ (o : OpenPage) where
         marks = padded MARKS 0 (marksOn es);
         marked = length (marksOn es);
         kept = kept w (held i);
+        given = n i;
+        waiting = 0;
       }
 
-  mark-fresh : length (marksOn es) < MARKS → fresh (page (withEntries o (a-mark ∷ es))) ≡ withMark (fresh (page o))
-  unfolding fresh rulesOn marksOn
+  mark-fresh : length (marksOn es) < MARKS → fresh (page (withEntries o (a-mark ∷ es))) ≡ withMark (fresh (page (withEntries o es)))
+  unfolding fresh rulesOn marksOn restored
   mark-fresh h =
       let n : ℕ = length (rulesOn es) in
       let more = padded-more MARKS 0 (marksOn es) h n in
@@ -140,58 +250,105 @@ module _ (o : OpenPage) where
         marks = more i;
         marked = length-append (marksOn es) (n ∷ []) i;
         kept = kept w (rulesOn es);
+        given = n;
+        waiting = 0;
       }
 
-  module _ (some : 0 < length (marksOn es)) where
+  -- another way to part what is restored
+  moved-fresh : (ss : List (List Entry)) (fs : List Entry) → restored ss fs ≡ all
+      → fresh (page (withPile o fs ss)) ≡ moved (fresh (page o)) (length (rulesOn fs)) (length (marksOn fs)) (length ss)
+  unfolding fresh
+  moved-fresh ss fs same =
+      let n : ℕ = length (rulesOn fs) in
+      let stand =
+      sym (standing-rules ss fs (replicate (RULES - length (rulesOn (restored ss fs))) noRule))
+      ∙ ap (λ (ds : List Entry). take n (padded RULES noRule (rulesOn ds))) same in
+      λ i. record {
+        width = w;
+        rules = padded RULES noRule (rulesOn (same i));
+        count = n;
+        marks = padded MARKS 0 (marksOn (same i));
+        marked = length (marksOn fs);
+        kept = kept w (stand i);
+        given = length (rulesOn (same i));
+        waiting = length ss;
+      }
+
+  module _ (l : LawfulPile o) (some : 0 < length (marksOn es)) where
     leaves-newest : leaves (fresh (page o)) ≡ newest (marksOn es)
     unfolding fresh
-    leaves-newest = List·getD-append (marksOn es) (replicate (MARKS - length (marksOn es)) 0) 0 (length (marksOn es) - 1) (omega arith)
+    leaves-newest =
+        let n : ℕ = length (marksOn es) in
+        sym (getD-take n (padded MARKS 0 (marksOn all)) (n - 1) 0 (omega arith))
+        ∙ ap (λ (ms : List ℕ). getD ms (n - 1) 0) (standing-marks (o .pile) es (l .stretches) (no-marks l))
 
     leaves-low : leaves (fresh (page o)) ≤ fresh (page o) .count
     unfolding fresh
     leaves-low = omega (arith, leaves-newest, newest-low es some)
 
-    back-fresh : length (marksOn es) ≤ MARKS → fresh (page (withEntries o (struck es))) ≡ steppedBack (fresh (page o))
-    unfolding fresh
-    back-fresh h =
-        λ i. record {
-          width = w;
-          rules = left i ++ replicate (RULES - n i) noRule;
-          count = n i;
-          marks = zeroed i;
-          marked = marks-left-length es some i;
-          kept = kept w (left i);
-        }
-      where
-        n : length (rulesOn (struck es)) ≡ leaves (fresh (page o))
-        n = count-left es some ∙ sym leaves-newest
+    back-fresh : fresh (page (laidAside o)) ≡ steppedBack (fresh (page o))
+    unfolding fresh laidAside restored
+    back-fresh =
+        let n = count-left es some ∙ sym leaves-newest in
+        let v : suc (length (o .pile)) ≡ length (o .pile) + 1 = omega arith in
+        moved-fresh (stretch es ∷ o .pile) (struck es) (ap (restored (o .pile)) (stretch-struck es))
+        ∙ (λ i. moved (fresh (page o)) (n i) (marks-left-length es some i) (v i))
 
-        left : rulesOn (struck es) ≡ take (leaves (fresh (page o))) (fresh (page o) .rules)
-        left =
-            rules-left es some
-            ∙ ap (λ (k : ℕ). take k (rulesOn es)) (sym leaves-newest)
-            ∙ sym (take-append-le (leaves (fresh (page o))) (rulesOn es) (replicate (RULES - length (rulesOn es)) noRule) leaves-low)
+module _ (o : OpenPage) (es : List Entry) where
+  abbrev f : List (List Entry) → Sheet
+  f ss = fresh (page (withPile o es ss))
 
-        zeroed : padded MARKS 0 (marksOn (struck es)) ≡ set (padded MARKS 0 (marksOn es)) (length (marksOn es) - 1) 0
-        zeroed =
-            padded-less MARKS 0 (marksOn (struck es)) (omega (arith, marks-left-length es some)) (length (rulesOn (struck es)))
-            ∙ ap₂ (λ (ms : List ℕ) (k : ℕ). set (padded MARKS 0 ms) k 0) (sym (marks-split es some)) (marks-left-length es some)
+  module _ (s : List Entry) (ss : List (List Entry)) (h : Stretches (s ∷ ss)) where
+    marks-brought : length (marksOn (s ++ es)) ≡ length (marksOn es) + 1
+    marks-brought = ap length (marks-more es (h .0)) ∙ length-append (marksOn es) (length (rulesOn es) ∷ [])
+
+    fewer-wait : length ss ≡ suc (length ss) - 1
+    fewer-wait = omega arith
+
+    rules-brought : length (rulesOn (s ++ es)) ≡ brings (f (s ∷ ss))
+    unfolding fresh restored
+    rules-brought =
+        sym (in-force ss (s ++ es) (h .1) _) ∙ ap₂ (inForce (f (s ∷ ss) .given) (f (s ∷ ss) .marks)) marks-brought fewer-wait
+
+  brings-low : (ss : List (List Entry)) → Stretches ss → 0 < length ss → f ss .count ≤ brings (f ss)
+  unfolding fresh
+  brings-low [] h some = absurd (omega arith)
+  brings-low (s ∷ ss) h some =
+      omega (arith, rules-brought s ss h, ap length (rules-more s es), length-append (rulesOn es) (rulesOn s))
+
+  forward-fresh : (ss : List (List Entry)) → Stretches ss → 0 < length ss → fresh (page (takenUp ss (withPile o es ss))) ≡ steppedForward (f ss)
+  unfolding fresh takenUp restored
+  forward-fresh [] h some = absurd (omega arith)
+  forward-fresh (s ∷ ss) h some =
+      moved-fresh (withPile o es (s ∷ ss)) ss (s ++ es) refl
+      ∙ (λ i. moved (f (s ∷ ss)) (rules-brought s ss h i) (marks-brought s ss h i) (fewer-wait s ss h i))
 
 -- ---- so of any record that a page gives
 
-module _ (o : OpenPage) {s : Sheet} (e : s ≡ fresh (page o)) where
-  pub given : LawfulOpen o → Given o s
-  given l = subst (Given o) (sym e) (given-fresh o l)
+module _ (o : OpenPage) {s : Sheet} (e : s ≡ fresh (page o)) (l : LawfulPile o) where
+  pub given : Given o s
+  given = subst (Given o) (sym e) (given-fresh o l)
 
-  pub after-add : (r : Rule) → length (rulesOn (o .entries)) < RULES → fresh (page (withEntries o (a-rule r ∷ o .entries))) ≡ withRule s r
-  after-add r h = add-fresh o r h ∙ ap (λ (t : Sheet). withRule t r) (sym e)
+  after-clear : fresh (page (withEntries o (o .entries))) ≡ cleared s
+  after-clear = clear-fresh o l ∙ ap cleared (sym e)
 
-  pub after-mark : length (marksOn (o .entries)) < MARKS → fresh (page (withEntries o (a-mark ∷ o .entries))) ≡ withMark s
-  after-mark h = mark-fresh o h ∙ ap withMark (sym e)
+  pub after-add : (r : Rule) → length (rulesOn (o .entries)) < RULES
+      → fresh (page (withEntries o (a-rule r ∷ o .entries))) ≡ withRule (cleared s) r
+  after-add r h = add-fresh o r h ∙ ap (λ (t : Sheet). withRule t r) after-clear
+
+  pub after-mark : length (marksOn (o .entries)) < MARKS → fresh (page (withEntries o (a-mark ∷ o .entries))) ≡ withMark (cleared s)
+  after-mark h = mark-fresh o h ∙ ap withMark after-clear
 
   module _ (some : 0 < length (marksOn (o .entries))) where
-    pub after-back : length (marksOn (o .entries)) ≤ MARKS → fresh (page (withEntries o (struck (o .entries)))) ≡ steppedBack s
-    after-back h = back-fresh o some h ∙ ap steppedBack (sym e)
+    pub after-back : fresh (page (laidAside o)) ≡ steppedBack s
+    after-back = back-fresh o l some ∙ ap steppedBack (sym e)
 
     pub back-low : leaves s ≤ s .count
-    back-low = subst (λ (t : Sheet). leaves t ≤ t .count) (sym e) (leaves-low o some)
+    back-low = subst (λ (t : Sheet). leaves t ≤ t .count) (sym e) (leaves-low o l some)
+
+  module _ (some : 0 < length (o .pile)) where
+    pub after-forward : fresh (page (takenUp (o .pile) o)) ≡ steppedForward s
+    after-forward = forward-fresh o (o .entries) (o .pile) (l .stretches) some ∙ ap steppedForward (sym e)
+
+    pub forward-low : s .count ≤ brings s
+    forward-low = subst (λ (t : Sheet). t .count ≤ brings t) (sym e) (brings-low o (o .entries) (o .pile) (l .stretches) some)

@@ -1,6 +1,6 @@
--- Each sheet has one page: the newest entry is a mark where the last mark says that all rules stand above it, and else a
--- rule, so that the rules and the marks in order fix the entries; and no page has width 0, as the blank sheet has. By
--- induction on the entries. Assumes nothing.
+-- Each sheet has one page and one pile: the newest entry is a mark where the last mark says that all rules stand above it, and else a
+-- rule, so that the rules and the marks in order fix the entries, and the number of stretches that wait fixes the pile; and no page has
+-- width 0, as the blank sheet has. By induction on the entries. Assumes nothing.
 use mathlib.Core.Path.{_≡_, refl, sym, ap, ap₂, _∙_}
 use mathlib.Core.List.{List, [], _∷_, _++_}
 use Prim.Native.Nat.{ℕ, _+_, _<_}
@@ -11,7 +11,8 @@ use Rattle.rule.specs.declared.Rule.{Rule}
 use Rattle.page.specs.Page.{Entry, Page, a-mark, a-rule, marksOn, no-page, page, rulesOn, struck}
 use Rattle.sheet.specs.Record.{fresh}
 use Rattle.page.specs.Reached.{Reached}
-use Rattle.page.proofs.Lawful.{LawfulPage, reached-lawful}
+use Rattle.page.proofs.Lawful.{LawfulPage, reached-page}
+use Rattle.page.proofs.Stretches.{one-pile}
 use Rattle.page.proofs.Struck.{count-left, marks-split, newest-low}
 use Rattle.sheet.proofs.Fresh.{given}
 
@@ -59,13 +60,14 @@ same-entries (a-mark ∷ es) (a-mark ∷ fs) r m =
 same-page : (pg qg : Page) → LawfulPage pg → LawfulPage qg → fresh pg ≡ fresh qg → pg ≡ qg
 unfolding fresh
 same-page no-page no-page l k e = refl
-same-page no-page (page o) l k e = absurd (omega (arith, k .low, given o e k .width))
-same-page (page o) no-page l k e = absurd (omega (arith, l .low, given o (sym e) l .width))
+same-page no-page (page o) l k e = absurd (omega (arith, k .restores .low, given o e k .width))
+same-page (page o) no-page l k e = absurd (omega (arith, l .restores .low, given o (sym e) l .width))
 same-page (page o) (page q) l k e =
     let g = given o refl l in
     let h = given q e k in
-    let same = same-entries (o .entries) (q .entries) (sym (g .rules) ∙ h .rules) (sym (g .marks) ∙ h .marks) in
-    λ i. page (record { opening = record { width = (sym (g .width) ∙ h .width) i }; entries = same i })
+    let all = same-entries _ _ (sym (g .all-rules) ∙ h .all-rules) (sym (g .all-marks) ∙ h .all-marks) in
+    let same = one-pile (o .pile) (q .pile) (o .entries) (q .entries) (l .stretches) (k .stretches) (sym (g .waiting) ∙ h .waiting) all in
+    λ i. page (record { opening = record { width = (sym (g .width) ∙ h .width) i }; entries = same .0 i; pile = same .1 i })
 
 pub one-page : {pg qg : Page} → Reached pg → Reached qg → fresh pg ≡ fresh qg → pg ≡ qg
-one-page {pg} {qg} r s e = same-page pg qg (reached-lawful r) (reached-lawful s) e
+one-page {pg} {qg} r s e = same-page pg qg (reached-page r) (reached-page s) e

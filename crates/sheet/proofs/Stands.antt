@@ -9,15 +9,15 @@ use Rattle.word.specs.Word.{IsWidth}
 use Rattle.rule.specs.declared.Rule.{Rule}
 use Rattle.rule.specs.Meaning.{AllLawful}
 use Rattle.sheet.specs.declared.Sheet.{Sheet}
-use Rattle.page.specs.Calls.{Call, add, back, changed, refusal, written}
-use Rattle.page.specs.Page.{Page, a-rule, marksOn, no-page, page, struck, withEntries}
+use Rattle.page.specs.Calls.{Call, add, back, changed, forward, refusal, written}
+use Rattle.page.specs.Page.{Page, a-rule, laidAside, marksOn, no-page, page, takenUp, withEntries}
 use Rattle.sheet.specs.Record.{fresh}
 use Rattle.sheet.specs.Stands.{RuleSeen, Standing, Stands, before-table, blank-sheet, by-table, no-sheet, on-page}
 use Rattle.sheet.specs.Statements.{IsSheet, Reads, answers}
 use Rattle.page.specs.Reached.{Reached, start, step}
-use Rattle.sheet.proofs.Fresh.{Given, after-add, after-back, given, steppedBack, withRule}
-use Rattle.page.proofs.Lawful.{lawful-rules, lawful-width, reached-lawful}
-use Rattle.page.proofs.Refusals.{added-rule, back-fits, blank-add}
+use Rattle.sheet.proofs.Fresh.{Given, after-add, after-back, after-forward, cleared, given, steppedBack, steppedForward, withRule}
+use Rattle.page.proofs.Lawful.{lawful-rules, lawful-width, reached-lawful, reached-page}
+use Rattle.page.proofs.Refusals.{added-rule, back-fits, blank-add, forward-fits}
 use Rattle.sheet.proofs.Ways.{refused-reads}
 
 pub is-blank : {s : Sheet} → IsSheet s → s .width ≡ 0 → Stands s 1
@@ -63,7 +63,7 @@ accepted-rule (by-table p) e = (p, e)
 
 -- what is known of the record by its page
 pub known : {s : Sheet} (p : Standing s) → Given (p .on) s
-known p = given _ (p .gives) (reached-lawful (p .reached))
+known p = given _ (p .gives) (reached-page (p .reached))
 
 pub width-of : {s : Sheet} → Standing s → IsWidth (s .width)
 width-of p = subst IsWidth (sym (known p .width)) (lawful-width (reached-lawful (p .reached)))
@@ -73,21 +73,30 @@ rules-lawful p =
     let g = known p in
     subst₂ AllLawful (sym (g .width)) (sym (g .rules)) (lawful-rules (reached-lawful (p .reached)))
 
--- the record with one rule more, and the one after a step back, stand too
-pub with-rule : {s : Sheet} (r : Rule) (p : Standing s) → refusal (page (p .on)) (add r) ≡ 0 → Standing (withRule s r)
+-- the record with one rule more, and those after a step back and a step forward, stand too
+pub with-rule : {s : Sheet} (r : Rule) (p : Standing s) → refusal (page (p .on)) (add r) ≡ 0 → Standing (withRule (cleared s) r)
 unfolding written changed
 with-rule r p q =
     record {
       on = withEntries (p .on) (a-rule r ∷ p .on .entries);
       reached = step (p .reached) (add r) q;
-      gives = sym (after-add _ (p .gives) r (added-rule _ _ q .1));
+      gives = sym (after-add _ (p .gives) (reached-page (p .reached)) r (added-rule _ _ q .1));
     }
 
 pub stepped-back : {s : Sheet} (p : Standing s) → 0 < length (marksOn (p .on .entries)) → Standing (steppedBack s)
 unfolding written changed
 stepped-back p some =
     record {
-      on = withEntries (p .on) (struck (p .on .entries));
+      on = laidAside (p .on);
       reached = step (p .reached) back (back-fits _ some);
-      gives = sym (after-back _ (p .gives) some (reached-lawful (p .reached) .marks-fit));
+      gives = sym (after-back _ (p .gives) (reached-page (p .reached)) some);
+    }
+
+pub stepped-forward : {s : Sheet} (p : Standing s) → 0 < length (p .on .pile) → Standing (steppedForward s)
+unfolding written changed
+stepped-forward p some =
+    record {
+      on = takenUp (p .on .pile) (p .on);
+      reached = step (p .reached) forward (forward-fits _ some);
+      gives = sym (after-forward _ (p .gives) (reached-page (p .reached)) some);
     }

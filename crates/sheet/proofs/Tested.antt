@@ -1,32 +1,32 @@
 -- The test passes exactly for sheets: what a reached page gives is well shaped, with what is kept of its rules, and a record
 -- that passes is blank or is what a page with its rules and its marks gives. So the number of its places and the test
 -- decide whether a record is a sheet. Assumes nothing.
-use mathlib.Core.Path.{_≡_, refl, sym, ap₂, _∙_}
+use mathlib.Core.Path.{_≡_, refl, sym, ap, ap₂, _∙_}
 use mathlib.Core.Bool.{Bool, true, false, false≢true, _&&_}
 use mathlib.Core.List.{List}
-use Prim.Native.Nat.{ℕ}
+use Prim.Native.Nat.{ℕ, _+_}
 use native.Mathlib.Decide.{ℕ-discrete}
 use native.Mathlib.Omega.{arith}
 use borrow.Author.Tests.{eq-eqb, eqb-true, le-leb, leb-true, ne-eqb}
 use lib.Dec.{eqb, leb}
 use lib.ListN.{length, take}
-use lib.Seq.{take-append-seam}
 use Rattle.word.proofs.Tests.{both-pass}
-use Rattle.rule.specs.declared.Rule.{Rule}
 use Rattle.rule.specs.Meaning.{RULES}
 use Rattle.accept.specs.Accept.{every, isNoRule}
 use Rattle.verdict.specs.declared.Kept.{Kept}
 use Rattle.verdict.specs.Kept.{keeps, kept}
 use Rattle.sheet.specs.declared.Sheet.{Sheet}
-use Rattle.page.specs.Page.{MARKS, OpenPage, Page, WIDEST, at-width, marksOn, newPage, no-page, page, rulesOn, withEntries}
+use Rattle.page.specs.Page.{Entry, MARKS, OpenPage, Page, WIDEST, at-width, marksOn, newPage, no-page, padded, page, restored, rulesOn, withPile}
 use Rattle.sheet.specs.Record.{fresh}
-use Rattle.sheet.specs.Shape.{isSheet, sameKept, wellShaped}
+use Rattle.sheet.specs.Shape.{inForce, isSheet, sameKept, wellShaped}
 use Rattle.page.specs.Shape.{marksShaped, rising, rulesShaped}
 use Rattle.sheet.specs.Statements.{IsSheet}
 use Rattle.page.specs.Reached.Reached.{start}
-use Rattle.sheet.proofs.Fresh.{given}
-use Rattle.page.proofs.Lawful.{LawfulPage, lawful-reached, reached-lawful}
-use Rattle.page.proofs.ShapedMarks.{shaped-entered, shaped-marks-rise}
+use Rattle.sheet.proofs.Fresh.{given, in-force, none-waits}
+use Rattle.page.proofs.Lawful.{LawfulPage, LawfulPile, reached-page}
+use Rattle.page.proofs.Replayed.{lawful-reached}
+use Rattle.page.proofs.ShapedMarks.{Entered, shaped-entered, shaped-marks-rise}
+use Rattle.page.proofs.Stretches.{Parted, parted, restored-marked}
 use Rattle.sheet.proofs.ShapedRecord.{ShapedSheet, filled, marksIn, rulesIn, shaped-filled, shaped-sheet}
 
 same-passes : (k : Kept) → sameKept k k ≡ true
@@ -47,55 +47,97 @@ passes-same k l e =
 -- ---- what a page gives passes
 
 fresh-passes : (pg : Page) → LawfulPage pg → isSheet (fresh pg) ≡ true
-unfolding isSheet fresh wellShaped rulesShaped marksShaped every isNoRule rising sameKept
+unfolding isSheet fresh wellShaped inForce rulesShaped marksShaped every isNoRule rising sameKept
 fresh-passes no-page l = refl
 fresh-passes (page o) l =
     let w : ℕ = o .opening .width in
-    let rs : List Rule = rulesOn (o .entries) in
+    let all : List Entry = restored (o .pile) (o .entries) in
+    let k = l .restores in
     ap₂ _&&_
-    (shaped-filled w rs (marksOn (o .entries)) (kept w rs) (l .rules-fit) (l .marks-fit) (l .allowed) (shaped-marks-rise (o .entries)))
-    (rw (ne-eqb w 0 (omega arith), take-append-seam rs) (ap₂ _&&_ (le-leb w WIDEST (l .high)) (same-passes (kept w rs))))
+    (shaped-filled w (rulesOn all) (marksOn all) _ _ _ (kept w (rulesOn (o .entries))) (k .rules-fit) (k .marks-fit) (restored-marked (o .pile) (o .entries) (l .stretches)) (k .allowed)
+    (shaped-marks-rise all) (in-force (o .pile) (o .entries) (l .stretches) _))
+    (rw (ne-eqb w 0 (omega arith), given o refl l .rules) (ap₂ _&&_ (le-leb w WIDEST (k .high)) (same-passes (kept w (rulesOn (o .entries))))))
 
 pub sheet-passes : (s : Sheet) → IsSheet s → isSheet s ≡ true
-sheet-passes s h = rw (h .gives) (fresh-passes (h .on) (reached-lawful (h .reached)))
+sheet-passes s h = rw (h .gives) (fresh-passes (h .on) (reached-page (h .reached)))
 
 -- ---- what passes, a page gives
 
 passes-blank : (s : Sheet) → ShapedSheet s → s .width ≡ 0 → isSheet s ≡ true → IsSheet s
 unfolding isSheet fresh
 passes-blank s h z e =
-    let count = both-pass (eqb (s .count) 0) _ (rw (eq-eqb (s .width) 0 z) at (both-pass (wellShaped s) _ e .1)) in
-    let marked = both-pass (eqb (s .marked) 0) _ (count .1) in
-    let c : s .count ≡ 0 = eqb-true (s .count) 0 (count .0) in
+    let given = both-pass (eqb (s .given) 0) _ (rw (eq-eqb (s .width) 0 z) at (both-pass (wellShaped s) _ e .1)) in
+    let marked = both-pass (eqb (s .marked) 0) _ (given .1) in
+    let waiting = both-pass (eqb (s .waiting) 0) _ (marked .1) in
+    let g : s .given ≡ 0 = eqb-true (s .given) 0 (given .0) in
     let m : s .marked ≡ 0 = eqb-true (s .marked) 0 (marked .0) in
-    let k : s .kept ≡ keeps 0 0 0 = passes-same (s .kept) (keeps 0 0 0) (marked .1) in
+    let v : s .waiting ≡ 0 = eqb-true (s .waiting) 0 (waiting .0) in
+    let c : s .count ≡ 0 = h .counted ∙ none-waits _ _ _ v ∙ g in
+    let k : s .kept ≡ keeps 0 0 0 = passes-same (s .kept) (keeps 0 0 0) (waiting .1) in
     record {
       on = no-page;
       reached = start;
-      gives = h .places ∙ (λ i. filled (z i) (take (c i) (s .rules)) (take (m i) (s .marks)) (k i));
+      gives = h .places ∙ (λ i. filled (z i) (take (g i) (s .rules)) (take (m i + v i) (s .marks)) (c i) (m i) (v i) (k i));
     }
+
+-- a record's rules and marks are those of a page: what is noted is entered, and what waits is laid aside again
+module _ (s : Sheet) (h : ShapedSheet s) where
+  abbrev noted : Entered (rulesIn s) (marksIn s)
+  noted = shaped-entered (rulesIn s) (marksIn s) (h .rise)
+
+  abbrev parts : Parted (s .waiting) (noted .on)
+  parts = parted (s .waiting) (noted .on) (omega (arith, ap length (noted .marks), h .many))
+
+  abbrev all : List Entry
+  all = restored (parts .pile) (parts .left)
+
+  noted-rules : rulesIn s ≡ rulesOn all
+  noted-rules = sym (ap rulesOn (parts .whole) ∙ noted .rules)
+
+  noted-marks : marksIn s ≡ marksOn all
+  noted-marks = sym (ap marksOn (parts .whole) ∙ noted .marks)
+
+  noted-marked : s .marked ≡ length (marksOn (parts .left))
+  noted-marked = omega (arith, restored-marked (parts .pile) (parts .left) (parts .stretches), parts .many, ap length noted-marks, h .many)
+
+  noted-count : s .count ≡ length (rulesOn (parts .left))
+  noted-count =
+      let given = ap Sheet.given (h .places) ∙ ap length noted-rules in
+      let marks = ap Sheet.marks (h .places) ∙ ap (padded MARKS 0) noted-marks in
+      h .counted
+      ∙ (λ i. inForce (given i) (marks i) (noted-marked i) (sym (parts .many) i))
+      ∙ in-force (parts .pile) (parts .left) (parts .stretches) _
+
+  noted-places : s ≡ filled (s .width) (rulesOn all) (marksOn all) (length (rulesOn (parts .left))) (length (marksOn (parts .left))) (length (parts .pile)) (s .kept)
+  noted-places =
+      h .places ∙ (λ i. filled (s .width) (noted-rules i) (noted-marks i) (noted-count i) (noted-marked i) (sym (parts .many) i) (s .kept))
 
 passes-opened : (s : Sheet) → ShapedSheet s → (s .width ≡ 0 → ⊥) → isSheet s ≡ true → IsSheet s
 unfolding isSheet fresh
 passes-opened s h z e =
     let w : ℕ = s .width in
     let t = both-pass (leb w WIDEST) _ (rw (ne-eqb w 0 z) at (both-pass (wellShaped s) _ e .1)) in
-    let b = shaped-entered (rulesIn s) (marksIn s) (h .rise) in
-    let k : s .kept ≡ kept w (rulesIn s) = passes-same (s .kept) (kept w (rulesIn s)) (t .1) in
-    let o : OpenPage = withEntries (newPage (at-width w)) (b .on) in
+    let p = parts s h in
+    let o : OpenPage = withPile (newPage (at-width w)) (p .left) (p .pile) in
+    let l : LawfulPile o =
+    record {
+      restores = record {
+        low = omega arith;
+        high = leb-true w WIDEST (t .0);
+        rules-fit = rw (← noted-rules s h) (h .few-rules);
+        marks-fit = rw (← noted-marks s h) (h .few-marks);
+        allowed = rw (← noted-rules s h) (h .good-rules);
+      };
+      stretches = p .stretches;
+    } in
+    let k : s .kept ≡ kept w (rulesOn (p .left)) =
+    passes-same (s .kept) (kept w (take (s .count) (s .rules))) (t .1)
+    ∙ ap (λ (u : Sheet). kept w (take (u .count) (u .rules))) (noted-places s h)
+    ∙ ap (kept w) (given o refl l .rules) in
     record {
       on = page o;
-      reached = lawful-reached (page o)
-          (record {
-            low = omega arith;
-            high = leb-true w WIDEST (t .0);
-            rules-fit = rw (b .rules) (h .few-rules);
-            marks-fit = rw (b .marks) (h .few-marks);
-            allowed = rw (b .rules) (h .good-rules);
-          });
-      gives = h .places
-          ∙ (λ i. filled w (rulesIn s) (marksIn s) (k i))
-          ∙ (λ i. filled w (sym (b .rules) i) (sym (b .marks) i) (kept w (sym (b .rules) i)));
+      reached = lawful-reached (page o) l;
+      gives = noted-places s h ∙ (λ i. filled w (rulesOn (all s h)) (marksOn (all s h)) (length (rulesOn (p .left))) (length (marksOn (p .left))) (length (p .pile)) (k i));
     }
 
 pub passes-sheet : (s : Sheet) → length (s .rules) ≡ RULES → length (s .marks) ≡ MARKS → isSheet s ≡ true → IsSheet s
@@ -120,7 +162,7 @@ pub sheet-dec : (s : Sheet) → Dec (IsSheet s)
 sheet-dec s = go (ℕ-discrete (length (s .rules)) RULES) (ℕ-discrete (length (s .marks)) MARKS) (isSheet s) refl
   where
     sized : IsSheet s → (length (s .rules) ≡ RULES) × (length (s .marks) ≡ MARKS)
-    sized h = rw (h .gives) (places (h .on) (reached-lawful (h .reached)))
+    sized h = rw (h .gives) (places (h .on) (reached-page (h .reached)))
 
     go : Dec (length (s .rules) ≡ RULES) → Dec (length (s .marks) ≡ MARKS) → (t : Bool) → isSheet s ≡ t → Dec (IsSheet s)
     go (no a) b t e = no (λ h. a (sized h .0))

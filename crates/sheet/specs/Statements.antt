@@ -13,7 +13,7 @@ use Rattle.chain.specs.Findings.{findings}
 use Rattle.sheet.specs.declared.Answer.{Answer}
 use Rattle.sheet.specs.declared.Reply.{Reply}
 use Rattle.sheet.specs.declared.Sheet.{Sheet}
-use Rattle.page.specs.Calls.{Call, add, after, ask, back, mark, open-at, refusal, rulesOf}
+use Rattle.page.specs.Calls.{Call, add, after, ask, back, forward, mark, open-at, refusal, rulesOf}
 use Rattle.page.specs.Page.{Opening, Page, newPage, no-page, page, widthOf}
 use Rattle.page.specs.Reached.{Reached}
 use Rattle.sheet.specs.Record.{fresh}
@@ -45,6 +45,7 @@ Outcome s (open-at g) r = r ≡ opened s g
 Outcome s (add u) r = Reads s (add u) r
 Outcome s mark r = Reads s mark r
 Outcome s back r = Reads s back r
+Outcome s forward r = Reads s forward r
 Outcome s (ask m) r = ⊥
 
 abbrev pub replies : ℕ → Kept → ℕ → Reply

@@ -20,8 +20,9 @@ use rule::Rule;
 pub use shape::same_kept;
 use verdict::Kept;
 
-// A rule desk's sheet: the width, the rules in force in the order added, for each mark in force how many rules there were
-// when it was set, and what is kept of the rules. Places not in use hold zeros, and the blank sheet is all zeros.
+// A rule desk's sheet: the width, the rules in the order added, for each mark how many rules there were when it was set, and what is
+// kept of the rules in force. The first `count` rules and the first `marked` marks are in force; the rules up to `given` and the next
+// `waiting` marks wait to come back. Places not in use hold zeros, and the blank sheet is all zeros.
 pub struct Sheet {
     pub width: u64,
     pub rules: [Rule; Rule::LIMIT],
@@ -29,6 +30,8 @@ pub struct Sheet {
     pub marks: [usize; Sheet::MARKS],
     pub marked: usize,
     pub kept: Kept,
+    pub given: usize,
+    pub waiting: usize,
 }
 
 // What a call answers: 0 or the number of a refusal, and the sheet as it is then.
