@@ -1,6 +1,6 @@
 -- Demand 3: any outcome of a call that satisfies its statement has the record of the clerk's page after the call, and that
 -- page is again one of accepted calls; so by induction any outcome of calls has the record of the clerk's page after them, and
--- so has any outcome of that page replayed. Demand 2 of a page's record is that of what is kept. Assumes nothing.
+-- so has any outcome of that page and its pile replayed. Demand 2 of a page's record is that of what is kept. Assumes nothing.
 use mathlib.Core.Path.{_≡_, refl, sym, ap, _∙_, subst}
 use mathlib.Core.Bool.{true}
 use mathlib.Core.Logic.{_⊎_, inl, inr}
@@ -16,16 +16,17 @@ use Rattle.verdict.proofs.Right.{kept-right}
 use Rattle.sheet.specs.declared.Answer.{Answer}
 use Rattle.sheet.specs.declared.Reply.{Reply}
 use Rattle.sheet.specs.declared.Sheet.{Sheet}
-use Rattle.page.specs.Calls.{Call, accepts, add, after, ask, back, clerk, grounds, mark, open-at, refusal, replay, written}
+use Rattle.page.specs.Calls.{Call, accepts, add, after, ask, back, clerk, forward, grounds, mark, open-at, refusal, replay, written}
 use Rattle.demands.specs.Demands.{FreshlyGiven}
 use Rattle.page.specs.Page.{OpenPage, Opening, Page, no-page, page, rulesOn}
 use Rattle.sheet.specs.Record.{blank, fresh}
-use Rattle.sheet.specs.Statements.{AllAccepted, Outcome, Sequence, answers, asks, calls, done, opened}
+use Rattle.sheet.specs.Statements.{AllAccepted, IsSheet, Outcome, Sequence, answers, asks, calls, done, opened}
 use Rattle.page.specs.Reached.{Reached, start}
 use Rattle.sheet.proofs.WaysOfAsking.{accepted-reply, asked-on}
-use Rattle.page.proofs.Lawful.{clerk-reached, lawful-replays, reached-lawful}
-pub use Rattle.page.proofs.Lawful.{after-reached}
-use Rattle.page.proofs.Refusals.{after-accepted, after-refused}
+use Rattle.page.proofs.Lawful.{reached-page}
+use Rattle.page.proofs.Refusals.{after-ask}
+use Rattle.page.proofs.Replayed.{clerk-reached, lawful-replays}
+pub use Rattle.page.proofs.Replayed.{after-reached}
 use Rattle.sheet.proofs.Ways.{sheet-reads}
 
 pub kept-is : (o : OpenPage) → Right (o .opening .width) (rulesOn (o .entries)) (fresh (page o) .kept)
@@ -50,20 +51,12 @@ module _ {s : Sheet} (pg : Page) (e : s ≡ fresh pg) where
   outcome-on h (add u) p = p .on-page pg h e
   outcome-on h mark p = p .on-page pg h e
   outcome-on h back p = p .on-page pg h e
+  outcome-on h forward p = p .on-page pg h e
   outcome-on h (ask m) p = absurd p
-
--- asking leaves the page
-pub after-ask : (pg : Page) (m : ℕ) → after pg (ask m) ≡ pg
-unfolding written
-after-ask pg m = go (ℕ-discrete (refusal pg (ask m)) 0)
-  where
-    go : Dec (refusal pg (ask m) ≡ 0) → after pg (ask m) ≡ pg
-    go (yes e) = after-accepted pg (ask m) e
-    go (no n) = after-refused pg (ask m) n
 
 -- ---- calls one after another
 
-sequence-clerk : {s t : Sheet} {cs : List Call} {pg : Page} → Reached pg → s ≡ fresh pg → Sequence s cs t → t ≡ fresh (clerk pg cs)
+pub sequence-clerk : {s t : Sheet} {cs : List Call} {pg : Page} → Reached pg → s ≡ fresh pg → Sequence s cs t → t ≡ fresh (clerk pg cs)
 unfolding clerk
 sequence-clerk h e done = e
 sequence-clerk {pg} h e (calls c r p rest) = sequence-clerk (after-reached h c) (ap Answer.sheet (outcome-on pg e h c p)) rest
@@ -74,7 +67,7 @@ pub as-fresh : {s : Sheet} {cs : List Call} → Sequence blank cs s → s ≡ fr
 unfolding fresh
 as-fresh q = sequence-clerk start refl q
 
-sequence-accepted : {s t : Sheet} {cs : List Call} {pg : Page} → Reached pg → s ≡ fresh pg → accepts pg cs ≡ true → (q : Sequence s cs t) → AllAccepted q
+pub sequence-accepted : {s t : Sheet} {cs : List Call} {pg : Page} → Reached pg → s ≡ fresh pg → accepts pg cs ≡ true → (q : Sequence s cs t) → AllAccepted q
 unfolding AllAccepted accepts
 sequence-accepted h e a done = tt
 sequence-accepted {pg = pg} h e a (calls c r p rest) =
@@ -95,6 +88,7 @@ module _ {s : Sheet} (pg : Page) (h : Reached pg) (e : s ≡ fresh pg) where
   some-outcome (add u) = inl (_, sheet-reads pg h e (add u) refl)
   some-outcome mark = inl (_, sheet-reads pg h e mark refl)
   some-outcome back = inl (_, sheet-reads pg h e back refl)
+  some-outcome forward = inl (_, sheet-reads pg h e forward refl)
   some-outcome (ask m) = inr (m, refl)
 
 some-sequence : (s : Sheet) (pg : Page) → Reached pg → s ≡ fresh pg → (cs : List Call) → (t : Sheet) × Sequence s cs t
@@ -114,13 +108,21 @@ some-sequence s pg h e (c ∷ cs) = go (some-outcome pg h e c) (λ u qg k d. som
 
 -- ---- the demand
 
-pub demand-3 : {s : Sheet} {cs : List Call} → Sequence blank cs s → FreshlyGiven s (clerk no-page cs)
+-- each sheet is one freshly given so, and nothing else is: "that is also what refusal 17 tests"
+pub sheet-given : {s : Sheet} (h : IsSheet s) → FreshlyGiven s (h .on)
 unfolding fresh
-demand-3 {s} {cs} q =
-    let pg : Page = clerk no-page cs in
-    let l = lawful-replays pg (reached-lawful (clerk-reached start cs)) in
+sheet-given h =
+    let pg : Page = h .on in
+    let l = lawful-replays pg (reached-page (h .reached)) in
     record {
       given = some-sequence blank no-page start refl (replay pg);
-      equals = λ p. as-fresh q ∙ sym (ap fresh (l .comes-to)) ∙ sym (as-fresh p);
+      equals = λ p. h .gives ∙ sym (ap fresh (l .comes-to)) ∙ sym (as-fresh p);
       accepted = λ p. sequence-accepted start refl (l .accepted) p;
     }
+
+pub given-sheet : {s : Sheet} {pg : Page} → FreshlyGiven s pg → IsSheet s
+given-sheet {pg = pg} g =
+    record { on = clerk no-page (replay pg); reached = clerk-reached start (replay pg); gives = g .equals (g .given .1) ∙ as-fresh (g .given .1) }
+
+pub demand-3 : {s : Sheet} {cs : List Call} → Sequence blank cs s → FreshlyGiven s (clerk no-page cs)
+demand-3 {cs = cs} q = sheet-given (record { on = clerk no-page cs; reached = clerk-reached start cs; gives = as-fresh q })

@@ -1,3 +1,4 @@
+pub mod Again
 pub mod Answered
 pub mod Demand
 pub mod Unique

@@ -11,7 +11,7 @@ use Rattle.chain.specs.Links.{numbersOf}
 use Rattle.sheet.specs.declared.Answer.{Answer}
 use Rattle.sheet.specs.declared.Reply.{Reply}
 use Rattle.sheet.specs.declared.Sheet.{Sheet}
-use Rattle.page.specs.Calls.{Call, add, ask, back, mark, open-at, refusal}
+use Rattle.page.specs.Calls.{Call, add, ask, back, forward, mark, open-at, refusal}
 use Rattle.page.specs.Page.{Opening, Page, no-page}
 use Rattle.sheet.specs.Record.{fresh}
 use Rattle.sheet.specs.Statements.{Asked, IsSheet, Outcome, Reads, chainOn, opened, overlaid, reply}
@@ -31,6 +31,7 @@ outcome-unique s (open-at g) a a′ = a ∙ sym a′
 outcome-unique s (add u) a a′ = reads-unique a a′
 outcome-unique s mark a a′ = reads-unique a a′
 outcome-unique s back a a′ = reads-unique a a′
+outcome-unique s forward a a′ = reads-unique a a′
 outcome-unique s (ask m) a a′ = absurd a
 
 pub asked-unique : {s : Sheet} {b b₁ b₂ : List ℕ} {r₁ r₂ : Reply} → Asked s b b₁ r₁ → Asked s b b₂ r₂
@@ -66,6 +67,7 @@ outcome-leaves {s} (open-at g) r a k =
 outcome-leaves (add u) r a k = reads-leaves a k
 outcome-leaves mark r a k = reads-leaves a k
 outcome-leaves back r a k = reads-leaves a k
+outcome-leaves forward r a k = reads-leaves a k
 outcome-leaves (ask m) r a k = absurd a
 
 -- no link is written where asking is refused

@@ -29,8 +29,9 @@ pub record AskedRight (w : ℕ) (rs : List Rule) (b b′ : List ℕ) (r : Reply)
   pub none : r .kept .verdict ≡ 0 → ChainLaid w rs b b′ (r .links)
   pub one-or-many : (r .kept .verdict ≡ 0 → ⊥) → (r .links ≡ 0) × (b′ ≡ b)
 
--- Demand 3. "After any sequence of calls the sheet equals, in every field, one freshly opened and given what stands on a clerk's
--- page": what stands there can be given to a blank sheet, and whatever comes of it is the sheet, with none of it refused.
+-- Demand 3. After any sequence of calls "the sheet equals a fresh one given what stands on the page, then every waiting stretch, the one
+-- next to come back first, and then taken back once for each of them", in every field: these calls can be made on a blank sheet, and
+-- whatever comes of them is the sheet, with none of them refused.
 pub record FreshlyGiven (s : Sheet) (pg : Page) : Type 0 where
   pub given : (t : Sheet) × Sequence blank (replay pg) t
   pub equals : {t : Sheet} → Sequence blank (replay pg) t → s ≡ t

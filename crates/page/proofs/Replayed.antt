@@ -11,8 +11,8 @@ use borrow.Author.Tests.{eq-eqb}
 use lib.Dec.{eqb}
 use lib.ListN.{length, replicate}
 use Rattle.word.proofs.Tests.{both-pass}
-use Rattle.page.specs.Calls.{Call, accepts, add, after, back, changed, clerk, enters, forward, gives, givesEach, mark, open-at, refusal, replay, written}
-use Rattle.page.specs.Page.{Entry, OpenPage, Page, a-mark, a-rule, laidAside, marksOn, no-page, page, restored, takenUp, withEntries, withPile}
+use Rattle.page.specs.Calls.{Call, accepts, add, after, back, changed, clerk, enters, forward, gives, givesEach, mark, marksOf, open-at, refusal, replay, written}
+use Rattle.page.specs.Page.{Entry, OpenPage, Page, a-mark, a-rule, entriesOf, laidAside, marksOn, no-page, page, restored, takenUp, withEntries, withPile}
 use Rattle.page.specs.Reached.{Reached, start, step}
 use Rattle.page.proofs.Lawful.{LawfulPage, Lawfully, under-mark, under-rule}
 use Rattle.page.proofs.Refusals.{add-fits, after-accepted, after-refused, back-fits, forward-fits, mark-fits, open-fits}
@@ -122,13 +122,14 @@ pub forward-again : (o : OpenPage) → takenUp (laidAside o .pile) (laidAside o)
 unfolding laidAside takenUp
 forward-again o = ap (λ (es : List Entry). withPile o es (o .pile)) (stretch-struck (o .entries))
 
--- and so do n steps back and then n steps forward
-pub back-and-forward : (n : ℕ) (o : OpenPage) → n ≤ length (marksOn (o .entries))
-    → Leads (page o) (replicate n back ++ replicate n forward) (page o)
-unfolding written changed laidAside
-back-and-forward zero o h = leads-none (page o)
-back-and-forward (suc n) o h =
+-- and so do n steps back and then n steps forward, where so many marks are in force
+pub back-and-forward : (n : ℕ) (pg : Page) → n ≤ length (marksOf pg) → Leads pg (replicate n back ++ replicate n forward) pg
+unfolding written changed laidAside marksOf entriesOf marksOn
+back-and-forward zero pg h = leads-none pg
+back-and-forward (suc n) no-page h = absurd (omega arith)
+back-and-forward (suc n) (page o) h =
     let p : OpenPage = laidAside o in
-    let fewer = back-and-forward n p (omega (arith, marks-left-length (o .entries) (omega arith))) in
+    let fewer = back-and-forward n (page p) (omega (arith, marks-left-length (o .entries) (omega arith))) in
     let again = leads-on fewer (leads-one (page p) forward (forward-fits p (omega arith)) (ap page (forward-again o))) in
-    rw (← last-first forward n, ← append-assoc (replicate n back) (replicate n forward) (forward ∷ [])) (leads-on (leads-one (page o) back (back-fits o (omega arith)) refl) again)
+    rw (← last-first forward n, ← append-assoc (replicate n back) (replicate n forward) (forward ∷ []))
+    (leads-on (leads-one (page o) back (back-fits o (omega arith)) refl) again)
