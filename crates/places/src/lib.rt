@@ -15,6 +15,7 @@ mod marks;
 pub use drawing::bits_of;
 pub use drawing::draw;
 pub use marks::all_zero;
+pub use marks::clear_marks;
 pub use marks::marked_so;
 use rule::Rule;
 use word::Width;

@@ -1,7 +1,8 @@
 // Marks in a lent array of numbers: for each, how many rules there were when it was set.
 ghost use mathlib.Core.Path.{_≡_};
-ghost use Prim.Native.Nat.{_≤_};
-ghost use lib.ListN.{drop, length, take};
+ghost use mathlib.Core.List.{_++_};
+ghost use Prim.Native.Nat.{_-_, _≤_};
+ghost use lib.ListN.{drop, length, replicate, take};
 ghost use Rattle.accept.specs.Accept.{every};
 ghost use Rattle.page.specs.Page.{MARKS};
 ghost use Rattle.page.specs.Shape.{isZero, marksShaped, rising};
@@ -43,4 +44,14 @@ pub fn all_zero(marks: &[usize; page::MARKS], m: usize) -> bool
         }
     }
     true
+}
+
+// Takes the marks from place n up to m away.
+pub fn clear_marks(marks: &mut [usize; page::MARKS], n: usize, m: usize)
+    requires { ⌜ (n ≤ m) × (m ≤ MARKS) × (length (now marks) ≡ MARKS) ⌝ }
+    ensures { λ _. ⌜ now (marks .exit) ≡ take n (now (marks .entry)) ++ (replicate (m - n) 0 ++ drop m (now (marks .entry))) ⌝ }
+{
+    for i in n..m {
+        marks[i] = 0;
+    }
 }
