@@ -2,12 +2,15 @@ pub mod Added
 pub mod ByValue
 pub mod Fresh
 pub mod Holding
+pub mod Marked
+pub mod Moved
 pub mod Numbers
 pub mod OnePage
 pub mod Opened
 pub mod ShapedRecord
 pub mod Stands
 pub mod SteppedBack
+pub mod SteppedForward
 pub mod Tested
 pub mod Told
 pub mod Ways

@@ -7,11 +7,12 @@ use native.Mathlib.Omega.{arith}
 use lib.ListN.{drop, drop-of-length-le, length, length-replicate, replicate, take}
 use Rattle.rule.specs.declared.Rule.{Rule}
 use Rattle.rule.specs.Meaning.{AllLawful, RULES}
+use Rattle.band.specs.declared.Band.{Band}
 use Rattle.bits.specs.declared.Fixed.the-variants.{Bits}
 use Rattle.bits.specs.Fixed.{fixedBits, fixedFrom}
 use Rattle.verdict.specs.declared.Kept.{Kept}
 use Rattle.page.specs.Calls.{changed, open-at, written}
-use Rattle.page.specs.Page.{MARKS, WIDEST, at-width, marksOn, newPage, no-page, page, rulesOn}
+use Rattle.page.specs.Page.{MARKS, WIDEST, at-width, marksOn, newPage, no-page, page, restored, rulesOn}
 use Rattle.sheet.specs.Record.{fresh}
 use Rattle.sheet.specs.Statements.{Outcome, answers}
 use Rattle.page.specs.Reached.{start, step}
@@ -28,16 +29,26 @@ use Rattle.sheet.proofs.Holding.{Swept, still-held, swept}
 
 -- the head of a sheet with no rule
 abbrev pub newHead : ℕ → Kept → Head
-newHead w k = record { stands = true; width = w; count = 0; marked = 0; kept = k; fixed = Bits 0 0 }
+newHead w k =
+    record {
+      stands = true;
+      width = w;
+      count = 0;
+      marked = 0;
+      kept = k;
+      fixed = Bits 0 0;
+      given = 0;
+      waiting = 0;
+    }
 
 module _ (w : ℕ) (low : 1 ≤ w) (high : w ≤ WIDEST) where
-  no-rules : (from to : List ℕ) (side : List Bool) → Drawn w [] (take 0 (zipped from to side)) (Bits 0 0)
+  no-rules : (rs : List Rule) (bands : List Band) → Drawn w 0 0 rs bands (Bits 0 0)
   unfolding fixedBits fixedFrom
-  no-rules from to side = record { own = refl; bits = refl }
+  no-rules rs bands = record { own = refl; bits = refl }
 
   pub swept-none : (from to : List ℕ) (side : List Bool) → length (zipped from to side) ≡ RULES → Swept w 0 from to side (Bits 0 0)
   unfolding AllLawful
-  swept-none from to side places = swept w 0 from to side (Bits 0 0) [] low (omega arith) places tt (no-rules from to side)
+  swept-none from to side places = swept w 0 from to side (Bits 0 0) [] low (omega arith) places tt (no-rules [] (zipped from to side))
 
   module _ {h : Head} {rules marks from to : List ℕ} {side : List Bool} (held : Held h rules marks from to side) (rules′ marks′ : List ℕ) (k : Kept)
       (cleared : rulesIn rules′ ≡ take 0 (rulesIn rules) ++ (replicate (RULES - 0) noRule ++ drop RULES (rulesIn rules))) (unmarked : marks′ ≡ replicate MARKS 0)
@@ -48,9 +59,18 @@ module _ (w : ℕ) (low : 1 ≤ w) (high : w ≤ WIDEST) where
         cleared ∙ ap (λ (l : List Rule). replicate RULES noRule ++ l) (drop-of-length-le (rulesIn rules) {i = RULES} few)
 
     record-open : packed (newHead w k) rules′ marks′ ≡ fresh (page (newPage (at-width w)))
-    unfolding packed fresh rulesOn marksOn fixedBits fixedFrom AllLawful
+    unfolding packed fresh rulesOn marksOn restored fixedBits fixedFrom AllLawful
     record-open =
-        λ i. record { width = w; rules = empty i; count = 0; marks = unmarked i; marked = 0; kept = (found ∙ kept-is w low [] tt) i }
+        λ i. record {
+          width = w;
+          rules = empty i;
+          count = 0;
+          marks = unmarked i;
+          marked = 0;
+          kept = (found ∙ kept-is w low [] tt) i;
+          given = 0;
+          waiting = 0;
+        }
 
     pub opened-so : After (packed h rules marks) (open-at (at-width w)) 0 (newHead w k) rules′ marks′ from to side
     unfolding Outcome written changed
@@ -64,5 +84,5 @@ module _ (w : ℕ) (low : 1 ≤ w) (high : w ≤ WIDEST) where
                 marks-places = ap length unmarked ∙ length-replicate {A = ℕ} MARKS 0;
                 band-places = held .room .band-places;
               })
-              (no-rules from to side);
+              (no-rules (rulesIn rules′) (zipped from to side));
         }

@@ -29,7 +29,7 @@ use Rattle.page.proofs.ShapedMarks.{Entered, shaped-entered, shaped-marks-rise}
 use Rattle.page.proofs.Stretches.{Parted, parted, restored-marked}
 use Rattle.sheet.proofs.ShapedRecord.{ShapedSheet, filled, marksIn, rulesIn, shaped-filled, shaped-sheet}
 
-same-passes : (k : Kept) → sameKept k k ≡ true
+pub same-passes : (k : Kept) → sameKept k k ≡ true
 unfolding sameKept
 same-passes k = ap₂ _&&_ (eq-eqb (k .verdict) _ refl) (ap₂ _&&_ (eq-eqb (k .smallest) _ refl) (eq-eqb (k .largest) _ refl))
 

@@ -1,22 +1,23 @@
--- The test whether a record is a sheet, where the width is not 0: its shape, and then what is kept. Where the shape is right the
--- rules in force are lawful. Assumes nothing.
-use mathlib.Core.Path.{_≡_, sym, ap, _∙_}
+-- The test whether a record is a sheet. Where the width is not 0: its shape, and then what is kept; where the shape is right the rules in
+-- force are lawful, and the first of those given. Where it is 0: that nothing is in any place. Assumes nothing.
+use mathlib.Core.Path.{_≡_, refl, sym, ap, ap₂, _∙_}
 use mathlib.Core.Bool.{Bool, true, false, _&&_, and-assoc}
 use Prim.Native.Nat.{_≤_}
-use native.Mathlib.Omega.{arith}
-use borrow.Author.Tests.{leb-true, ne-eqb}
-use lib.Dec.{leb}
-use lib.ListN.{drop, take}
+use borrow.Author.Tests.{eq-eqb, ne-eqb}
+use lib.Dec.{eqb, leb}
+use lib.ListN.{take}
 use Rattle.word.specs.Word.{IsWidth}
 use Rattle.word.proofs.Tests.{both-pass}
 use Rattle.rule.specs.Meaning.{AllLawful, RULES}
-use Rattle.accept.specs.Accept.{acceptable, every, isNoRule}
-use Rattle.accept.proofs.Accepted.{all-lawful}
-use Rattle.verdict.specs.Kept.{kept}
+use Rattle.accept.specs.Accept.{every, isNoRule}
+use Rattle.verdict.specs.Kept.{keeps, kept}
 use Rattle.sheet.specs.declared.Sheet.{Sheet}
-use Rattle.page.specs.Page.{MARKS, WIDEST}
-use Rattle.sheet.specs.Shape.{isSheet, sameKept, wellShaped}
-use Rattle.page.specs.Shape.{marksShaped, rulesShaped}
+use Rattle.page.specs.Page.{WIDEST}
+use Rattle.page.specs.Shape.{isZero, marksShaped, rising, rulesShaped}
+use Rattle.sheet.specs.Shape.{Whole, inForce, isSheet, sameKept, wellShaped}
+use Rattle.sheet.specs.Stands.{Standing}
+use Rattle.sheet.proofs.Stands.{has-page, has-width, known, rules-lawful, width-of}
+use Rattle.sheet.proofs.Tested.{passes-sheet, same-passes}
 
 -- the shape that a record whose width is not 0 must have
 abbrev pub shape : Sheet → Bool
@@ -36,23 +37,58 @@ module _ (s : Sheet) (open-sheet : s .width ≡ 0 → ⊥) where
   pub told-kept : shape s ≡ true → keeps-so ≡ isSheet s
   told-kept e = sym (told ∙ ap (λ (b : Bool). b && keeps-so) e)
 
-  module _ (e : shape s ≡ true) where
-    pub told-width : IsWidth (s .width)
-    told-width =
-        let h = leb-true (s .width) WIDEST (both-pass (wellShaped s) _ e .1) in
-        record { low = omega (arith, open-sheet); high = omega (arith, h) }
+  -- with what is kept put right the record is a sheet, so that its page tells of its rules
+  module _ (places : Whole (s .rules) (s .marks)) (e : shape s ≡ true) where
+    abbrev put-right : Sheet
+    put-right =
+        record {
+          width = s .width;
+          rules = s .rules;
+          count = s .count;
+          marks = s .marks;
+          marked = s .marked;
+          kept = kept (s .width) (take (s .count) (s .rules));
+          given = s .given;
+          waiting = s .waiting;
+        }
 
-    pub told-few : s .count ≤ RULES
-    unfolding wellShaped
-    told-few = leb-true (s .count) RULES (both-pass _ _ (both-pass (wellShaped s) _ e .0) .0)
+    right-passes : isSheet put-right ≡ true
+    unfolding isSheet wellShaped
+    right-passes =
+        let t = both-pass (wellShaped s) _ e in
+        rw (ne-eqb (s .width) 0 open-sheet) (ap₂ _&&_ (t .0) (ap₂ _&&_ (t .1) (same-passes (put-right .kept))))
+
+    told-right : Standing put-right
+    told-right = has-page (has-width (passes-sheet put-right (places .rules-length) (places .marks-length) right-passes) open-sheet) refl
+
+    pub told-width : IsWidth (s .width)
+    told-width = width-of told-right
+
+    pub told-low : s .count ≤ s .given
+    told-low = known told-right .given-low
+
+    pub told-few : s .given ≤ RULES
+    told-few = known told-right .given-high
 
     pub told-lawful : AllLawful (s .width) (take (s .count) (s .rules))
-    unfolding wellShaped rulesShaped
-    told-lawful =
-        let w = s .width in
-        let n = s .count in
-        let marks = marksShaped n (s .marked) (s .marks) in
-        let few = both-pass (leb n RULES) (leb (s .marked) MARKS && (rulesShaped w n (s .rules) && marks)) (both-pass (wellShaped s) _ e .0) in
-        let set = both-pass (leb (s .marked) MARKS) (rulesShaped w n (s .rules) && marks) (few .1) in
-        let good = both-pass (rulesShaped w n (s .rules)) marks (set .1) in
-        all-lawful w (take n (s .rules)) (both-pass (every (acceptable w) (take n (s .rules))) (every isNoRule (drop n (s .rules))) (good .0) .0)
+    told-lawful = rules-lawful told-right
+
+-- where the width is 0, and no rule is given and no mark set or waiting
+module _ (s : Sheet) (width : s .width ≡ 0) (given : s .given ≡ 0) (marked : s .marked ≡ 0) (waiting : s .waiting ≡ 0) where
+  blank-told : isSheet s ≡ ((eqb (s .count) 0 && (every isNoRule (s .rules) && every isZero (s .marks))) && sameKept (s .kept) (keeps 0 0 0))
+  unfolding isSheet wellShaped inForce rulesShaped marksShaped every rising
+  blank-told = rw (width, given, marked, waiting)
+
+  pub blank-count : (s .count ≡ 0 → ⊥) → false ≡ isSheet s
+  blank-count z = sym (blank-told ∙ rw (ne-eqb (s .count) 0 z))
+
+  module _ (count : s .count ≡ 0) where
+    pub blank-rules : every isNoRule (s .rules) ≡ false → false ≡ isSheet s
+    blank-rules e = sym (blank-told ∙ rw (eq-eqb (s .count) 0 count, e))
+
+    module _ (rules : every isNoRule (s .rules) ≡ true) where
+      pub blank-marks : every isZero (s .marks) ≡ false → false ≡ isSheet s
+      blank-marks e = sym (blank-told ∙ rw (eq-eqb (s .count) 0 count, rules, e))
+
+      pub blank-kept : every isZero (s .marks) ≡ true → sameKept (s .kept) (keeps 0 0 0) ≡ isSheet s
+      blank-kept e = sym (blank-told ∙ rw (eq-eqb (s .count) 0 count, rules, e))

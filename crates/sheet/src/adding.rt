@@ -9,6 +9,7 @@ use crate::Answer;
 use crate::Head;
 use crate::Said;
 use crate::Sheet;
+use crate::clearing;
 use crate::laying;
 use crate::standing;
 use band::Band;
@@ -30,7 +31,7 @@ impl Sheet {
         let said = add(
             head,
             &mut rules,
-            &marks,
+            &mut marks,
             &mut from,
             &mut to,
             &mut side,
@@ -40,42 +41,46 @@ impl Sheet {
     }
 }
 
-// Adds a rule: its band is laid beside the others, and what is kept is found from the old ends.
+// Adds a rule: what waited is taken away, the rule's band is laid beside those in force, and what is kept is found from the old ends.
 pub fn add(
     head: Head,
     rules: &mut [u64; NUMBERS],
-    marks: &[usize; Sheet::MARKS],
+    marks: &mut [usize; Sheet::MARKS],
     from: &mut [u64; Rule::LIMIT],
     to: &mut [u64; Rule::LIMIT],
     side: &mut [bool; Rule::LIMIT],
     rule: Rule,
 ) -> Said
     requires { ⌜ Held head (now rules) (now marks) (now from) (now to) (now side) ⌝ }
-    ensures { λ r. ⌜ After (packed head (now (rules .entry)) (now (marks .entry))) (add rule) (r .number) (r .head) (now (rules .exit)) (now (marks .entry)) (now (from .exit)) (now (to .exit)) (now (side .exit)) ⌝ }
+    ensures { λ r. ⌜ After (packed head (now (rules .entry)) (now (marks .entry))) (add rule) (r .number) (r .head) (now (rules .exit)) (now (marks .exit)) (now (from .exit)) (now (to .exit)) (now (side .exit)) ⌝ }
 {
+    let count = head.count;
+    let width = head.width;
+    let old = head.fixed;
+    let found = head.kept;
     let number = refuses_rule(head, rule);
     if number != 0 {
         return Said { number, head };
     }
-    let count = head.count;
-    let width = head.width;
+    let next = count + 1;
     let bits = Width { bits: width };
+    clearing::clear_waiting(head, &mut *rules, &mut *marks);
     places::put(&mut *rules, count, rule);
     let band = Band::of(rule, bits);
     lent::lay(&mut *from, &mut *to, &mut *side, count, band);
-    let old = head.fixed;
     let fixed = old.with(rule);
-    let found = head.kept;
-    let kept = verdict::laid::narrowed(&*from, &*to, &*side, count + 1, fixed, bits, found);
+    let kept = verdict::laid::narrowed(&*from, &*to, &*side, next, fixed, bits, found);
     Said {
         number: 0,
         head: Head {
             stands: true,
             width,
-            count: count + 1,
+            count: next,
             marked: head.marked,
             kept,
             fixed,
+            given: next,
+            waiting: 0,
         },
     }
 }

@@ -14,7 +14,7 @@ use rule::Rule;
 use word::Width;
 
 impl Sheet {
-    // Goes back to the newest mark: strikes it and the rules added after it.
+    // Goes back to the newest mark: strikes it and the rules added after it, which wait to come back.
     pub fn back(self) -> Answer
         ensures { λ r. ⌜ Outcome self back r ⌝ }
     {
@@ -24,26 +24,26 @@ impl Sheet {
         let mut to = [0; Rule::LIMIT];
         let mut side = [false; Rule::LIMIT];
         let head = laying::lay_out(self, &mut rules, &mut marks, &mut from, &mut to, &mut side);
-        let said = back(head, &mut rules, &mut marks, &from, &to, &side);
+        let said = back(head, &rules, &marks, &from, &to, &side);
         laying::answered(said, &rules, &marks)
     }
 }
 
-// Goes back to the newest mark: strikes it and the rules added after it. The bands of the rules that stay lie where they lay.
+// Goes back to the newest mark: it and the rules added after it wait from now on, where they are. Only the head changes.
 pub fn back(
     head: Head,
-    rules: &mut [u64; NUMBERS],
-    marks: &mut [usize; Sheet::MARKS],
+    rules: &[u64; NUMBERS],
+    marks: &[usize; Sheet::MARKS],
     from: &[u64; Rule::LIMIT],
     to: &[u64; Rule::LIMIT],
     side: &[bool; Rule::LIMIT],
 ) -> Said
     requires { ⌜ Held head (now rules) (now marks) (now from) (now to) (now side) ⌝ }
-    ensures { λ r. ⌜ After (packed head (now (rules .entry)) (now (marks .entry))) back (r .number) (r .head) (now (rules .exit)) (now (marks .exit)) (now (from .entry)) (now (to .entry)) (now (side .entry)) ⌝ }
+    ensures { λ r. ⌜ After (packed head (now (rules .entry)) (now (marks .entry))) back (r .number) (r .head) (now (rules .entry)) (now (marks .entry)) (now (from .entry)) (now (to .entry)) (now (side .entry)) ⌝ }
 {
     let marked = head.marked;
-    let count = head.count;
     let width = head.width;
+    let waiting = head.waiting;
     let number = standing::standing(head);
     if number != 0 {
         return Said { number, head };
@@ -52,10 +52,9 @@ pub fn back(
         return Said { number: 8, head };
     }
     let at = marked - 1;
+    let more = waiting + 1;
     let left = marks[at];
-    marks[at] = 0;
-    let fixed = places::bits_of(&*rules, left);
-    places::clear(&mut *rules, left, count);
+    let fixed = places::bits_of(rules, left);
     let bits = Width { bits: width };
     let kept = verdict::laid::solve(from, to, side, left, fixed, bits, 0, bits.top());
     Said {
@@ -67,6 +66,8 @@ pub fn back(
             marked: at,
             kept,
             fixed,
+            given: head.given,
+            waiting: more,
         },
     }
 }

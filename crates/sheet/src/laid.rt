@@ -5,6 +5,7 @@
 pub use crate::adding::add;
 pub use crate::asking::ask;
 pub use crate::going_back::back;
+pub use crate::going_forward::forward;
 pub use crate::laying::lay_out;
 pub use crate::laying::pack;
 pub use crate::marking::mark;

@@ -41,6 +41,8 @@ pub fn lay_out(
         marked: sheet.marked,
         kept,
         fixed: Fixed::Bits { mask: 0, value: 0 },
+        given: sheet.given,
+        waiting: sheet.waiting,
     };
     tested(head, &*rules, &*marks, &mut *from, &mut *to, &mut *side)
 }
@@ -52,7 +54,8 @@ fn set_marks(marks: &mut [usize; Sheet::MARKS], set: [usize; Sheet::MARKS])
     *marks = set;
 }
 
-// The head with the test whether the record is a sheet and, where it is and is not blank, its bands drawn.
+// The head with the test whether the record is a sheet and, where it is and is not blank, the bands of its rules drawn, of those that
+// wait too.
 fn tested(
     head: Head,
     rules: &[u64; NUMBERS],
@@ -67,6 +70,7 @@ fn tested(
 {
     let width = head.width;
     let count = head.count;
+    let given = head.given;
     let kept = head.kept;
     if width == 0 {
         return head.standing(shape::blank(head, rules, marks));
@@ -79,7 +83,7 @@ fn tested(
         &mut *from,
         &mut *to,
         &mut *side,
-        count,
+        given,
         Width { bits: width },
     );
     let fixed = places::bits_of(rules, count);
@@ -92,6 +96,8 @@ fn tested(
         marked: head.marked,
         kept,
         fixed,
+        given,
+        waiting: head.waiting,
     }
 }
 
@@ -110,6 +116,8 @@ pub fn pack(head: Head, rules: &[u64; NUMBERS], marks: &[usize; Sheet::MARKS]) -
         marks: set,
         marked: head.marked,
         kept,
+        given: head.given,
+        waiting: head.waiting,
     }
 }
 
@@ -139,6 +147,8 @@ impl Head {
             marked: self.marked,
             kept,
             fixed,
+            given: self.given,
+            waiting: self.waiting,
         }
     }
 }

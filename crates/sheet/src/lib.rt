@@ -5,7 +5,9 @@ ghost use Rattle.sheet.specs.Record.{blank};
 
 mod adding;
 mod asking;
+mod clearing;
 mod going_back;
+mod going_forward;
 pub mod laid;
 mod laying;
 mod marking;
@@ -56,6 +58,8 @@ pub struct Head {
     pub marked: usize,
     pub kept: Kept,
     pub fixed: Fixed,
+    pub given: usize,
+    pub waiting: usize,
 }
 
 // What a call on a sheet that is laid out answers: 0 or the number of a refusal, and the head as it is then.
@@ -94,6 +98,8 @@ impl Sheet {
                 smallest: 0,
                 largest: 0,
             },
+            given: 0,
+            waiting: 0,
         }
     }
 }

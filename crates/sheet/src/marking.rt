@@ -7,6 +7,7 @@ use crate::Answer;
 use crate::Head;
 use crate::Said;
 use crate::Sheet;
+use crate::clearing;
 use crate::laying;
 use crate::standing;
 use places::NUMBERS;
@@ -23,22 +24,22 @@ impl Sheet {
         let mut to = [0; Rule::LIMIT];
         let mut side = [false; Rule::LIMIT];
         let head = laying::lay_out(self, &mut rules, &mut marks, &mut from, &mut to, &mut side);
-        let said = mark(head, &rules, &mut marks, &from, &to, &side);
+        let said = mark(head, &mut rules, &mut marks, &from, &to, &side);
         laying::answered(said, &rules, &marks)
     }
 }
 
-// Sets a mark.
+// Sets a mark. What waited is taken away.
 pub fn mark(
     head: Head,
-    rules: &[u64; NUMBERS],
+    rules: &mut [u64; NUMBERS],
     marks: &mut [usize; Sheet::MARKS],
     from: &[u64; Rule::LIMIT],
     to: &[u64; Rule::LIMIT],
     side: &[bool; Rule::LIMIT],
 ) -> Said
     requires { ⌜ Held head (now rules) (now marks) (now from) (now to) (now side) ⌝ }
-    ensures { λ r. ⌜ After (packed head (now (rules .entry)) (now (marks .entry))) mark (r .number) (r .head) (now (rules .entry)) (now (marks .exit)) (now (from .entry)) (now (to .entry)) (now (side .entry)) ⌝ }
+    ensures { λ r. ⌜ After (packed head (now (rules .entry)) (now (marks .entry))) mark (r .number) (r .head) (now (rules .exit)) (now (marks .exit)) (now (from .entry)) (now (to .entry)) (now (side .entry)) ⌝ }
 {
     let marked = head.marked;
     let count = head.count;
@@ -49,6 +50,7 @@ pub fn mark(
     if Sheet::MARKS <= marked {
         return Said { number: 7, head };
     }
+    clearing::clear_waiting(head, &mut *rules, &mut *marks);
     marks[marked] = count;
     let kept = head.kept;
     let fixed = head.fixed;
@@ -62,6 +64,8 @@ pub fn mark(
             marked: next,
             kept,
             fixed,
+            given: count,
+            waiting: 0,
         },
     }
 }

@@ -73,6 +73,8 @@ pub fn open(
             marked: 0,
             kept,
             fixed,
+            given: 0,
+            waiting: 0,
         },
     }
 }

@@ -1,13 +1,14 @@
 // Whether a record is a sheet at all, what is kept aside.
 ghost use mathlib.Core.Path.{_≡_};
 ghost use mathlib.Core.Bool.{true, _&&_};
+ghost use Prim.Native.Nat.{_+_, _≤_};
 ghost use lib.Dec.{leb};
 ghost use lib.ListN.{length};
 ghost use Rattle.rule.specs.Meaning.{RULES};
 ghost use Rattle.places.specs.Places.{rulesIn};
 ghost use Rattle.sheet.specs.Held.{packed};
 ghost use Rattle.page.specs.Page.{MARKS, WIDEST};
-ghost use Rattle.sheet.specs.Shape.{Whole, isSheet, sameKept, wellShaped};
+ghost use Rattle.sheet.specs.Shape.{Whole, inForce, isSheet, sameKept, wellShaped};
 use crate::Head;
 use crate::Sheet;
 use crate::laying;
@@ -37,10 +38,16 @@ pub fn blank(head: Head, rules: &[u64; NUMBERS], marks: &[usize; Sheet::MARKS]) 
     ensures { λ r. ⌜ r ≡ isSheet (packed head (now (rules .entry)) (now (marks .entry))) ⌝ }
 {
     let kept = head.kept;
-    if head.count != 0 {
+    if head.given != 0 {
         return false;
     }
     if head.marked != 0 {
+        return false;
+    }
+    if head.waiting != 0 {
+        return false;
+    }
+    if head.count != 0 {
         return false;
     }
     if !places::none_from(rules, 0) {
@@ -67,23 +74,42 @@ pub fn shaped(head: Head, rules: &[u64; NUMBERS], marks: &[usize; Sheet::MARKS])
 {
     let width = head.width;
     let count = head.count;
+    let given = head.given;
     let marked = head.marked;
-    if Rule::LIMIT < count {
+    let waiting = head.waiting;
+    if Rule::LIMIT < given {
         return false;
     }
     if Sheet::MARKS < marked {
         return false;
     }
+    if Sheet::MARKS - marked < waiting {
+        return false;
+    }
+    if count != in_force(given, marks, marked, waiting) {
+        return false;
+    }
     if Width::LIMIT < width {
         return false;
     }
-    if !places::all_acceptable(rules, count, Width { bits: width }) {
+    if !places::all_acceptable(rules, given, Width { bits: width }) {
         return false;
     }
-    if !places::none_from(rules, count) {
+    if !places::none_from(rules, given) {
         return false;
     }
-    places::marked_so(marks, marked, count)
+    places::marked_so(marks, marked + waiting, given)
+}
+
+// How many rules are in force: all that were given where nothing waits, else as many as the mark next to come back notes.
+pub fn in_force(given: usize, marks: &[usize; Sheet::MARKS], marked: usize, waiting: usize) -> usize
+    requires { ⌜ (marked + waiting ≤ MARKS) × (length (now marks) ≡ MARKS) ⌝ }
+    ensures { λ r. ⌜ r ≡ inForce given (now (marks .entry)) marked waiting ⌝ }
+{
+    if waiting == 0 {
+        return given;
+    }
+    marks[marked]
 }
 
 // Whether the two agree in all three numbers.

@@ -1,13 +1,11 @@
--- `add` meets its contract: the rule and its band go into the next place, and what is kept is found from the old ends. Assumes
--- nothing.
+-- `add` meets its contract: what waited is taken away, the rule and its band go into the next place, and what is kept is found from the
+-- old ends. Assumes nothing.
 use mathlib.Core.Path.{_≡_, sym, ap, _∙_, subst}
 use Prim.Native.Nat.{ℕ, _-_, _<_}
 use native.Mathlib.Omega.{arith}
 use borrow.Author.Needs.{needs}
 use lib.ListN.{set}
 use Rattle.band.specs.Band.{bandOf}
-use Rattle.bits.specs.Fixed.{joined}
-use Rattle.places.specs.Places.{rulesIn}
 use Rattle.lent.specs.Lent.{zipped}
 use Rattle.rule.specs.Meaning.{RULES}
 use Rattle.page.specs.Calls.{add, refusal}
@@ -17,8 +15,8 @@ use Rattle.sheet.specs.Statements.{Outcome}
 use Rattle.sheet.proofs.Stands.{accepted-rule, refused-rule}
 use Rattle.sheet.specs.Held.{before, packed}
 use Rattle.sheet.specs.Laid.{ruleNumber}
-use Rattle.sheet.proofs.Added.{added, bounds-more, next-free, swept-more}
-use Rattle.sheet.proofs.Holding.{rule-so, width-so}
+use Rattle.sheet.proofs.Added.{added, bounds-more, next-free, put-free, swept-more}
+use Rattle.sheet.proofs.Holding.{rule-so, waits-so, width-so}
 use Rattle.sheet.proofs.Numbers.{number-zero}
 use Rattle.sheet.proofs.adding.add.Statement.{statement}
 use Rattle.sheet.proofs.adding.add.Tie as tie
@@ -29,7 +27,7 @@ seen s n e = subst (RuleSeen _ (s .args .rule)) (sym e) (rule-so (s .pre) (s .ar
 
 -- where the rule is accepted
 abbrev start : tie.Else1 → tie.Start
-start a = a .before .before
+start a = a .before .before .before
 
 none : (a : tie.Else1) → before (start a .args .head .stands) (start a .args .head .width) ≡ 0
 none a = number-zero (start a .args .head) (start a .args .rule) (sym (a .before .refuses-rule .ensures) ∙ a .if1 .left)
@@ -41,65 +39,82 @@ free : (a : tie.Else1) → start a .args .head .count < RULES
 free a = next-free (start a .pre) (none a) (start a .args .rule) (on a .0) (on a .1)
 
 refuses-rule-requires : tie.Need-refuses-rule-requires
-refuses-rule-requires c κs = width-so (c .pre)
+refuses-rule-requires c κs = width-so (c .before .pre)
 
 returns : tie.Need-returns
 unfolding Outcome
 returns c =
-    let s = c .before .before in
+    let s = c .before .before .before in
     record { outcome = refused-rule (seen s (c .before .refuses-rule .result) (c .before .refuses-rule .ensures)) (c .if1 .taken); held = s .pre }
 
+add-next : tie.Need-add-next
+add-next c = omega (arith, free c)
+
+clear-waiting-requires : tie.Need-clear-waiting-requires
+clear-waiting-requires c κs = let a = c .before .before in waits-so (start a .pre) (none a)
+
+-- what was taken away
+abbrev chosen : tie.After-clear-waiting → tie.Else1
+chosen l = l .before .before .before
+
 put-requires : tie.Need-put-requires
-put-requires c κs = let f = free (c .before) in (f, omega (arith, f, start (c .before) .pre .room .rules-places))
+put-requires c κs =
+    let l = c .before in
+    let a = chosen l in
+    let o = on a in
+    (free a, put-free (start a .pre) (none a) (start a .args .rule) (o .0) (o .1) _ (l .clear-waiting .ensures .0))
 
 of-requires : tie.Need-of-requires
-of-requires c κs = let a = c .before .before in width-so (start a .pre) (none a)
+of-requires c κs = let a = chosen (c .before .before) in width-so (start a .pre) (none a)
 
 lay-requires : tie.Need-lay-requires
-lay-requires c κs = free (c .before .before .before .before .before .before)
+lay-requires c κs = free (chosen (c .before .before .before .before .before .before))
 
 with-requires : tie.Need-with-requires
 with-requires c κs = search needs
 
-add-narrowed : tie.Need-add-narrowed
-add-narrowed c = omega (arith, free (c .before .before .before .before .before .before .before .before .before .before .before .before))
-
 -- what was put, laid and joined
-abbrev chosen : tie.After-with → tie.Else1
-chosen b = b .before .before .before .before .before .before .before .before
+abbrev bare : tie.After-with → tie.After-clear-waiting
+bare b = b .before .before .before .before .before .before .before .before
 
-put : (b : tie.After-with) → rulesIn (b .before .before .before .before .before .before .put .last .0) ≡ set (rulesIn (start (chosen b) .args .rules .now)) (start (chosen b) .args .head .count) (start (chosen b) .args .rule)
-put b = b .before .before .before .before .before .before .put .ensures
+abbrev begun : tie.After-with → tie.Start
+begun b = start (chosen (bare b))
 
 laid : (b : tie.After-with)
     → zipped (b .before .lay .last .0) (b .before .lay .last .1 .0) (b .before .lay .last .1 .1 .0)
-    ≡ set (zipped (start (chosen b) .args .from .now) (start (chosen b) .args .to .now) (start (chosen b) .args .side .now)) (start (chosen b) .args .head .count) (bandOf (start (chosen b) .args .head .width) (start (chosen b) .args .rule))
+    ≡ set (zipped (begun b .args .from .now) (begun b .args .to .now) (begun b .args .side .now)) (begun b .args .head .count) (bandOf (begun b .args .head .width) (begun b .args .rule))
 laid b =
-    let s = start (chosen b) in
+    let s = begun b in
     b .before .lay .ensures ∙ ap (set (zipped (s .args .from .now) (s .args .to .now) (s .args .side .now)) (s .args .head .count)) (b .before .before .before .before .before .of .ensures)
-
-bits : (b : tie.After-with) → b .with .result ≡ joined (start (chosen b) .args .head .fixed) (start (chosen b) .args .rule)
-bits b = b .with .ensures
 
 narrowed-requires : tie.Need-narrowed-requires
 narrowed-requires c κs =
-    let b = c .before .before .before .before in
-    let a = chosen b in
+    let b = c .before .before .before in
+    let l = bare b in
+    let a = chosen l in
     let s = start a in
     let o = on a in
-    let w = swept-more (s .pre) (none a) (s .args .rule) (o .0) (o .1) _ _ _ _ _ (put b) (laid b) (bits b) in
-    (width-so (s .pre) (none a), (w .lie, ((w .tidy, w .within), bounds-more (s .pre) (none a) (s .args .rule) (o .0) (o .1) _ _ _ _ _ (put b) (laid b) (bits b))))
-
-add-t26 : tie.Need-add-t26
-add-t26 c = omega (arith, free (c .before .before .before .before .before .before .before .before .before .before .before .before .before))
+    let put = b .before .before .before .before .before .before .put .ensures in
+    let w = swept-more (s .pre) (none a) (s .args .rule) (o .0) (o .1) _ _ _ _ _ _ _ (l .clear-waiting .ensures .0) (l .clear-waiting .ensures .1) put (laid b) (b .with .ensures) in (
+      width-so (s .pre) (none a),
+      (
+        w .lie,
+        (
+          (w .tidy, w .within),
+          bounds-more (s .pre) (none a) (s .args .rule) (o .0) (o .1) _ _ _ _ _ _ _ (l .clear-waiting .ensures .0) (l .clear-waiting .ensures .1) put (laid b) (b .with .ensures),
+        ),
+      ),
+    )
 
 returns-2 : tie.Need-returns-2
 returns-2 c =
-    let b = c .before .before .before .before .before in
-    let a = chosen b in
+    let b = c .before .before .before .before in
+    let l = bare b in
+    let a = chosen l in
     let s = start a in
     let o = on a in
-    added (s .pre) (none a) (s .args .rule) (o .0) (o .1) _ _ _ _ _ (put b) (laid b) (bits b) _ (c .narrowed .ensures)
+    let put = b .before .before .before .before .before .before .put .ensures in
+    added (s .pre) (none a) (s .args .rule) (o .0) (o .1) _ _ _ _ _ _ _ (l .clear-waiting .ensures .0) (l .clear-waiting .ensures .1) put (laid b) (b .with .ensures) _ (c .narrowed .ensures)
 
 pub add-spec : {M : Type 1} → statement M
 add-spec =
@@ -107,11 +122,11 @@ add-spec =
     (tie.spec
     refuses-rule-requires
     returns
+    add-next
+    clear-waiting-requires
     put-requires
     of-requires
     lay-requires
     with-requires
-    add-narrowed
     narrowed-requires
-    add-t26
     returns-2)

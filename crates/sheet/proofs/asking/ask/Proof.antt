@@ -81,7 +81,7 @@ write-requires c κs =
     let e = c .before .before .before in
     let a = e .before .before .before in
     let h = start a .pre in
-    let t = swept _ _ _ _ _ _ (rs a) (width-so h (none a) .low) (few a) (h .room .band-places) (lawful-so h (none a)) (drawn-so h (none a)) in
+    let t = swept _ _ _ _ _ _ (rulesIn (start a .args .rules .now)) (width-so h (none a) .low) (few a) (h .room .band-places) (lawful-so h (none a)) (drawn-so h (none a)) in
     (width-so h (none a), (t .lie, ((rs a, of-rules a (c .before .if3 .left)), omega (arith, e .before .room .ensures, e .if2 .left))))
 
 same-length : tie.Need-same-length

@@ -8,14 +8,16 @@ use Rattle.verdict.specs.OnBands.{Ends}
 use Rattle.verdict.proofs.Rules.{whole-wheel}
 use Rattle.page.specs.Calls.{back}
 use Rattle.page.specs.Page.{MARKS}
-use Rattle.sheet.specs.Stands.{Stands}
+use Rattle.sheet.specs.Stands.{Standing, Stands}
 use Rattle.sheet.specs.Statements.{Outcome}
 use Rattle.page.proofs.Refusals.{back-none, blank-back}
+use Rattle.sheet.proofs.Fresh.{steppedBack}
 use Rattle.sheet.proofs.Stands.{known, refused-standing}
 use Rattle.sheet.proofs.Ways.{refused-reads}
 use Rattle.sheet.specs.Held.{before, packed}
 use Rattle.sheet.proofs.Holding.{on-sheet, stands-so, width-so}
-use Rattle.sheet.proofs.SteppedBack.{count-few, gone-back, left-low, mark-there, swept-left}
+use Rattle.sheet.proofs.Moved.{moved-few, moved-swept}
+use Rattle.sheet.proofs.SteppedBack.{gone-back, mark-there, one-more, stands-back}
 use Rattle.sheet.proofs.going_back.back.Statement.{statement}
 use Rattle.sheet.proofs.going_back.back.Tie as tie
 
@@ -51,52 +53,45 @@ returns-2 c =
 sub-at : tie.Need-sub-at
 sub-at c = search needs
 
+add-more : tie.Need-add-more
+add-more c = omega (arith, one-more (start (c .before) .pre) (none (c .before)) (c .if2 .left))
+
 mul-left : tie.Need-mul-left
 mul-left c = omega (arith, there c)
 
 element-copy-out-left : tie.Need-element-copy-out-left
 element-copy-out-left c = there c
 
-mul-marks : tie.Need-mul-marks
-mul-marks c = omega (arith, there (c .before))
-
-element-write-marks : tie.Need-element-write-marks
-element-write-marks c = there (c .before)
+-- the counters may move so
+stands : (b : tie.Else2) → Standing (steppedBack (packed (start (b .before) .args .head) (start (b .before) .args .rules .now) (start (b .before) .args .marks .now)))
+stands b = stands-back (start (b .before) .pre) (none (b .before)) (b .if2 .left)
 
 bits-of-requires : tie.Need-bits-of-requires
+unfolding packed
 bits-of-requires c κs =
-    let b = c .before .before in
+    let b = c .before in
     let h = start (b .before) .pre in
-    let n = none (b .before) in
-    (omega (arith, left-low h n (b .if2 .left), count-few h n (b .if2 .left)), h .room .rules-places)
-
-clear-requires : tie.Need-clear-requires
-clear-requires c κs =
-    let b = c .before .before .before .before in
-    let h = start (b .before) .pre in
-    (left-low h (none (b .before)) (b .if2 .left), count-few h (none (b .before)) (b .if2 .left), h .room .rules-places)
+    (moved-few h (none (b .before)) _ _ _ (stands b), h .room .rules-places)
 
 top-requires : tie.Need-top-requires
-top-requires c κs = let b = c .before .before .before .before .before in width-so (start (b .before) .pre) (none (b .before))
+top-requires c κs = let b = c .before .before in width-so (start (b .before) .pre) (none (b .before))
 
 solve-requires : tie.Need-solve-requires
+unfolding packed
 solve-requires c κs =
-    let l = c .before in
-    let o = l .before .before in
-    let b = o .before .before .before in
+    let o = c .before in
+    let b = o .before .before in
     let h = start (b .before) .pre in
     let n = none (b .before) in
     let w = start (b .before) .args .head .width in
-    let t = swept-left h n (b .if2 .left) _ (l .clear .ensures) _ (o .bits-of .ensures) in
+    let t = moved-swept h n _ _ _ (stands b) _ (o .bits-of .ensures) in
     (width-so h n, (t .lie, ((t .tidy, t .within), subst (Ends w _ _ 0) (sym (c .top .ensures)) (whole-wheel w _ _))))
 
 returns-3 : tie.Need-returns-3
-unfolding Outcome packed
 returns-3 c =
-    let l = c .before .before in
-    let o = l .before .before in
-    let b = o .before .before .before in
-    gone-back (start (b .before) .pre) (none (b .before)) (b .if2 .left) _ (l .clear .ensures) _ (o .bits-of .ensures) _ (c .solve .ensures)
+    let o = c .before .before in
+    let b = o .before .before in
+    gone-back (start (b .before) .pre) (none (b .before)) (b .if2 .left) _ (o .bits-of .ensures) _ (c .solve .ensures)
 
 pub back-spec : {M : Type 1} → statement M
 back-spec =
@@ -106,12 +101,10 @@ back-spec =
     returns
     returns-2
     sub-at
+    add-more
     mul-left
     element-copy-out-left
-    mul-marks
-    element-write-marks
     bits-of-requires
-    clear-requires
     top-requires
     solve-requires
     returns-3)

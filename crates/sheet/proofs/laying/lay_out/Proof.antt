@@ -36,6 +36,8 @@ returns c =
             marks = m .set-marks .ensures .0 i;
             marked = s .args .sheet .marked;
             kept = s .args .sheet .kept;
+            given = s .args .sheet .given;
+            waiting = s .args .sheet .waiting;
           }),
       c .tested .ensures .1,
     )

@@ -19,6 +19,8 @@ returns c =
       marks = s .args .marks .now;
       marked = s .args .head .marked;
       kept = s .args .head .kept;
+      given = s .args .head .given;
+      waiting = s .args .head .waiting;
     }
 
 pub pack-spec : {M : Type 1} → statement M

@@ -1,21 +1,17 @@
--- `mark` meets its contract: the number of rules in force goes into the next place. Assumes nothing.
-use mathlib.Core.Path.{_≡_, refl, sym, _∙_, subst}
-use mathlib.Core.List.{_∷_}
-use Prim.Native.Nat.{_-_, _<_}
+-- `mark` meets its contract: what waited is taken away, and the number of rules in force goes into the next place. Assumes nothing.
+use mathlib.Core.Path.{_≡_, sym, _∙_, subst}
+use Prim.Native.Nat.{_-_}
 use native.Mathlib.Omega.{arith}
 use borrow.Author.Needs.{needs}
-use lib.ListN.{length, length-set}
-use Rattle.page.specs.Calls.{changed, mark, written}
-use Rattle.page.specs.Page.{MARKS, a-mark, marksOn, withEntries}
+use Rattle.page.specs.Calls.{mark}
 use Rattle.sheet.specs.Stands.{Stands}
 use Rattle.sheet.specs.Statements.{Outcome}
-use Rattle.page.specs.Reached.{step}
-use Rattle.sheet.proofs.Fresh.{after-mark}
-use Rattle.page.proofs.Refusals.{blank-mark, mark-fits, mark-full}
+use Rattle.page.proofs.Refusals.{blank-mark, mark-full}
 use Rattle.sheet.proofs.Stands.{known, refused-standing}
-use Rattle.sheet.proofs.Ways.{accepted-reads, refused-reads}
+use Rattle.sheet.proofs.Ways.{refused-reads}
 use Rattle.sheet.specs.Held.{before, packed}
-use Rattle.sheet.proofs.Holding.{drawn-so, on-sheet, stands-so, still-held}
+use Rattle.sheet.proofs.Holding.{on-sheet, stands-so, waits-so}
+use Rattle.sheet.proofs.Marked.{marked-after}
 use Rattle.sheet.proofs.marking.mark.Statement.{statement}
 use Rattle.sheet.proofs.marking.mark.Tie as tie
 
@@ -26,15 +22,11 @@ start a = a .before .before
 none : (a : tie.Else1) → before (start a .args .head .stands) (start a .args .head .width) ≡ 0
 none a = sym (a .before .standing .ensures) ∙ a .if1 .left
 
-mark-free : (a : tie.Else1) → start a .args .head .marked < MARKS → length (marksOn (on-sheet (start a .pre) (none a) .on .entries)) < MARKS
-unfolding packed
-mark-free a h = omega (arith, known (on-sheet (start a .pre) (none a)) .marked)
-
 standing-requires : tie.Need-standing-requires
 standing-requires c κs = search needs
 
 returns : tie.Need-returns
-unfolding Outcome packed written changed
+unfolding Outcome packed
 returns c =
     let s = c .before .before in
     record {
@@ -43,11 +35,14 @@ returns c =
     }
 
 returns-2 : tie.Need-returns-2
-unfolding Outcome packed written changed
+unfolding Outcome packed
 returns-2 c =
     let a = c .before in
     let p = on-sheet (start a .pre) (none a) in
     record { outcome = refused-reads _ (p .reached) (p .gives) mark (mark-full _ (omega (arith, known p .marked))) (λ e. omega arith); held = start a .pre }
+
+clear-waiting-requires : tie.Need-clear-waiting-requires
+clear-waiting-requires c κs = let a = c .before .before .before in waits-so (start a .pre) (none a)
 
 mul-marks : tie.Need-mul-marks
 mul-marks c = search needs
@@ -59,26 +54,21 @@ add-next : tie.Need-add-next
 add-next c = search needs
 
 returns-3 : tie.Need-returns-3
-unfolding Outcome packed written changed
 returns-3 c =
-    let a = c .before .before in
-    let h = start a .pre in
-    let p = on-sheet h (none a) in
-    let free = mark-free a (c .before .if2 .left) in
-    record {
-      outcome = accepted-reads _ (p .reached) (p .gives) mark (mark-fits _ free) (after-mark _ (p .gives) free);
-      held = still-held
-          (record { on = withEntries (p .on) (a-mark ∷ p .on .entries); reached = step (p .reached) mark (mark-fits _ free); gives = sym (after-mark _ (p .gives) free) })
-          refl
-          (record {
-            rules-places = h .room .rules-places;
-            marks-places = length-set (start a .args .marks .now) _ _ ∙ h .room .marks-places;
-            band-places = h .room .band-places;
-          })
-          (drawn-so h (none a));
-    }
+    let l = c .before in
+    let b = l .before .before .before in
+    let a = b .before in
+    marked-after (start a .pre) (none a) (b .if2 .left) _ _ (l .clear-waiting .ensures .0) (l .clear-waiting .ensures .1)
 
 pub mark-spec : {M : Type 1} → statement M
 mark-spec =
     tie.close
-    (tie.spec standing-requires returns returns-2 mul-marks element-write-marks add-next returns-3)
+    (tie.spec
+    standing-requires
+    returns
+    returns-2
+    clear-waiting-requires
+    mul-marks
+    element-write-marks
+    add-next
+    returns-3)

@@ -1,11 +1,16 @@
 -- `shaped` meets its contract: each answer is what the shape comes to under the tests that led there. Assumes nothing.
+use mathlib.Core.Path.{_≡_, sym, _∙_}
+use mathlib.Core.Bool.{true, and-false, and-true}
 use Prim.Native.Nat.{_-_}
+use native.Mathlib.Omega.{arith}
 use borrow.Author.Needs.{needs}
-use mathlib.Core.Bool.{and-false, and-true}
-use borrow.Author.Tests.{le-leb, lt-leb}
+use borrow.Author.Tests.{eq-eqb, le-leb, lt-leb, ne-eqb}
+use lib.Dec.{eqb, leb}
+use Rattle.rule.specs.Meaning.{RULES}
 use Rattle.accept.proofs.Choices.{failed, passed}
+use Rattle.page.specs.Page.{MARKS}
 use Rattle.page.specs.Shape.{rulesShaped}
-use Rattle.sheet.specs.Shape.{wellShaped}
+use Rattle.sheet.specs.Shape.{inForce, wellShaped}
 use Rattle.sheet.specs.Held.{packed}
 use Rattle.sheet.proofs.shape.shaped.Statement.{statement}
 use Rattle.sheet.proofs.shape.shaped.Tie as tie
@@ -20,42 +25,84 @@ returns-2 c = simp (le-leb _ _ (c .before .if1 .left), lt-leb _ _ (c .if2 .taken
 
 returns-3 : tie.Need-returns-3
 unfolding wellShaped packed rulesShaped
-returns-3 c = simp (lt-leb _ _ (c .if3 .taken), and-false)
+returns-3 c = simp (le-leb _ _ (c .before .before .if1 .left), le-leb _ _ (c .before .if2 .left), lt-leb _ _ (c .if3 .taken))
 
-all-acceptable-requires : tie.Need-all-acceptable-requires
-all-acceptable-requires c κs = search needs
+in-force-requires : tie.Need-in-force-requires
+in-force-requires c κs = omega arith
 
 returns-4 : tie.Need-returns-4
 unfolding wellShaped packed rulesShaped
 returns-4 c =
-    let b = c .before .before in
-    simp (le-leb _ _ (b .before .before .if1 .left), le-leb _ _ (b .before .if2 .left), failed (c .before .all-acceptable .ensures) (c .if4 .taken))
-
-none-from-requires : tie.Need-none-from-requires
-none-from-requires c κs = search needs
+    let n = c .before in
+    let w = n .before in
+    simp (
+      le-leb _ _ (w .before .before .if1 .left),
+      le-leb _ _ (w .before .if2 .left),
+      le-leb _ _ (w .if3 .left),
+      ne-eqb _ _ (λ e. c .if4 .taken (e ∙ sym (n .in-force .ensures))),
+    )
 
 returns-5 : tie.Need-returns-5
 unfolding wellShaped packed rulesShaped
-returns-5 c =
-    let d = c .before .before in
-    let b = d .before .before in
-    simp (le-leb _ _ (b .before .before .if1 .left), le-leb _ _ (b .before .if2 .left), passed (d .before .all-acceptable .ensures) (d .if4 .left), failed (c .before .none-from .ensures) (c .if5 .taken))
+returns-5 c = simp (lt-leb _ _ (c .if5 .taken), and-false)
 
-marked-so-requires : tie.Need-marked-so-requires
-marked-so-requires c κs = search needs
+-- where the counters are right
+abbrev start : tie.Else4 → tie.Start
+start c = c .before .before .before .before .before
+
+given-few : (c : tie.Else4) → leb (start c .args .head .given) RULES ≡ true
+given-few c = le-leb _ _ (c .before .before .before .before .if1 .left)
+
+marked-few : (c : tie.Else4) → leb (start c .args .head .marked) MARKS ≡ true
+marked-few c = le-leb _ _ (c .before .before .before .if2 .left)
+
+waiting-few : (c : tie.Else4) → leb (start c .args .head .waiting) (MARKS - start c .args .head .marked) ≡ true
+waiting-few c = le-leb _ _ (c .before .before .if3 .left)
+
+counted : (c : tie.Else4)
+    → eqb (start c .args .head .count) (inForce (start c .args .head .given) (start c .args .marks .now) (start c .args .head .marked) (start c .args .head .waiting)) ≡ true
+counted c = eq-eqb _ _ (c .if4 .left ∙ c .before .in-force .ensures)
+
+all-acceptable-requires : tie.Need-all-acceptable-requires
+all-acceptable-requires c κs = search needs
 
 returns-6 : tie.Need-returns-6
 unfolding wellShaped packed rulesShaped
 returns-6 c =
+    let n = c .before .before .before in
+    simp (given-few n, marked-few n, waiting-few n, counted n, failed (c .before .all-acceptable .ensures) (c .if6 .taken))
+
+none-from-requires : tie.Need-none-from-requires
+none-from-requires c κs = search needs
+
+returns-7 : tie.Need-returns-7
+unfolding wellShaped packed rulesShaped
+returns-7 c =
+    let d = c .before .before in
+    let n = d .before .before .before in
+    simp (given-few n, marked-few n, waiting-few n, counted n, passed (d .before .all-acceptable .ensures) (d .if6 .left), failed (c .before .none-from .ensures) (c .if7 .taken))
+
+add-marked-so : tie.Need-add-marked-so
+add-marked-so c = search needs
+
+marked-so-requires : tie.Need-marked-so-requires
+marked-so-requires c κs = search needs
+
+returns-8 : tie.Need-returns-8
+unfolding wellShaped packed rulesShaped
+returns-8 c =
     let f = c .before in
     let d = f .before .before in
     let b = d .before .before in
+    let n = b .before in
     simp (
-      le-leb _ _ (b .before .before .if1 .left),
-      le-leb _ _ (b .before .if2 .left),
-      le-leb _ _ (b .if3 .left),
-      passed (d .before .all-acceptable .ensures) (d .if4 .left),
-      passed (f .before .none-from .ensures) (f .if5 .left),
+      given-few n,
+      marked-few n,
+      waiting-few n,
+      counted n,
+      le-leb _ _ (b .if5 .left),
+      passed (d .before .all-acceptable .ensures) (d .if6 .left),
+      passed (f .before .none-from .ensures) (f .if7 .left),
       c .marked-so .ensures,
       and-true,
     )
@@ -67,9 +114,13 @@ shaped-spec =
     returns
     returns-2
     returns-3
-    all-acceptable-requires
+    in-force-requires
     returns-4
-    none-from-requires
     returns-5
+    all-acceptable-requires
+    returns-6
+    none-from-requires
+    returns-7
+    add-marked-so
     marked-so-requires
-    returns-6)
+    returns-8)
