@@ -10,7 +10,7 @@ use Rattle.verdict.specs.Kept.{kept, verdictOf}
 use Rattle.chain.specs.Findings.{findings, chainFor}
 use Rattle.chain.specs.Links.{before, blocks, further, furthest, furthestOf, gap, goOn, linkAt, linkBy, links, linksFrom}
 use Rattle.page.specs.Calls.{after, changed, firstThatApplies, grounds, isBlank, marksOf, refusal, rulesOf, written as writes}
-use Rattle.page.specs.Page.{entriesOf, marksOn, rulesOn, struck, widthOf}
+use Rattle.page.specs.Page.{entriesOf, laidAside, marksOn, pileOf, rulesOn, stretch, struck, takenUp, widthOf}
 use Rattle.hex.specs.Hex.{allDigits, glyph, hex, isDigit, number, numberFrom, value}
 use Rattle.frame.specs.Answers.{answerBytes, chainLines, lineBytes, numberLine}
 use Rattle.frame.specs.Calls.{callOf, lineCall}
@@ -23,7 +23,7 @@ use Rattle.exchange.specs.Text.{bytesOf}
 
 pub paper : exchange (bytesOf paper-input) ≡ bytesOf paper-output
 unfolding
-    exchange answersTo answerTo pageAfter lineCall callOf lines inFront bytesOf frameOf byDigits bare ruleOf allDigits isDigit number numberFrom value answerBytes lineBytes digitsIn numberLine chainLines hex glyph after refusal firstThatApplies grounds ruleGrounds isBlank badForm badSense badConstant strayBit rulesOf marksOf writes changed entriesOf widthOf rulesOn marksOn struck findings chainFor kept verdictOf links linksFrom goOn linkAt linkBy gap before furthest furthestOf further blocks reach start meets7 fits meets written rows first last climb sink top half plus minus signed
+    exchange answersTo answerTo pageAfter lineCall callOf lines inFront bytesOf frameOf byDigits bare ruleOf allDigits isDigit number numberFrom value answerBytes lineBytes digitsIn numberLine chainLines hex glyph after refusal firstThatApplies grounds ruleGrounds isBlank badForm badSense badConstant strayBit rulesOf marksOf writes changed laidAside entriesOf widthOf rulesOn marksOn struck findings chainFor kept verdictOf links linksFrom goOn linkAt linkBy gap before furthest furthestOf further blocks reach start meets7 fits meets written rows first last climb sink top half plus minus signed
 paper = refl
 
 -- "each line ended by byte 10; the last may lack it, and a final byte 10 opens no further line"
@@ -37,3 +37,9 @@ pub empties : map (λ (t : String). exchange (bytesOf t)) ("" ∷ "\n" ∷ "\n\n
 unfolding
     exchange answersTo answerTo pageAfter lineCall callOf lines inFront bytesOf frameOf byDigits bare allDigits number numberFrom answerBytes lineBytes digitsIn numberLine hex glyph
 empties = refl
+
+-- "With nothing waiting: refusal 12, after 17 and 1"; a stretch comes back, and an accepted mark empties what waits
+pub forwards : exchange (bytesOf "06\n0104\n06\n03\n04\n06\n06\n04\n03\n06\n") ≡ bytesOf "ff01\n00\nff0c\n00\n00\n00\nff0c\n00\n00\nff0c\n"
+unfolding
+    exchange answersTo answerTo pageAfter lineCall callOf lines inFront bytesOf frameOf byDigits bare allDigits isDigit number numberFrom value answerBytes lineBytes digitsIn numberLine hex glyph after refusal firstThatApplies grounds isBlank marksOf writes changed laidAside takenUp entriesOf pileOf rulesOn marksOn struck stretch
+forwards = refl

@@ -11,7 +11,7 @@ use lib.Seq.{take-all}
 use Rattle.rule.specs.Meaning.{rule}
 use Rattle.hex.specs.Hex.{allDigits, number}
 use Rattle.frame.specs.declared.Frame.{Frame}
-use Rattle.frame.specs.declared.Frame.the-variants.{Add, Ask, Back, Mark, NoFrame, Open}
+use Rattle.frame.specs.declared.Frame.the-variants.{Add, Ask, Back, Forward, Mark, NoFrame, Open}
 use Rattle.frame.specs.Fields.{BYTE, InDigits, Line, WORD, byte, digitsIn}
 use Rattle.frame.specs.Frames.{IsFrame, LONGEST, OPENING, bare, fieldsOf, frameOf, ruleOf}
 use Rattle.frame.proofs.Fields.{digits-digits, fields-fit, fields-read, fields-written, fieldsAt, length-digits, total}
@@ -39,16 +39,17 @@ module _ (l : List ℕ) (some : frameOf l ≡ NoFrame → ⊥) (t : allDigits l 
 
   bare-is : length l ≡ BYTE → IsFrame l (frameOf l)
   unfolding bare fieldsOf fieldsAt total
-  bare-is e = go (ℕ-discrete code 3) (ℕ-discrete code 4) (ℕ-discrete code 5)
+  bare-is e = go (ℕ-discrete code 3) (ℕ-discrete code 4) (ℕ-discrete code 5) (ℕ-discrete code 6)
     where
       told : (k : ℕ) → code ≡ k → bare k ≡ frameOf l
       told k q = ap bare (sym q) ∙ bare-row l t e
 
-      go : Dec (code ≡ 3) → Dec (code ≡ 4) → Dec (code ≡ 5) → IsFrame l (frameOf l)
-      go (yes q) b c = as-read (BYTE ∷ []) (told 3 q) (code-is 3 [] q) (sym e)
-      go (no a) (yes q) c = as-read (BYTE ∷ []) (told 4 q) (code-is 4 [] q) (sym e)
-      go (no a) (no b) (yes q) = as-read (BYTE ∷ []) (told 5 q) (code-is 5 [] q) (sym e)
-      go (no a) (no b) (no c) = absurd (some (sym (bare-row l t e) ∙ rw (ne-eqb code 3 a, ne-eqb code 4 b, ne-eqb code 5 c)))
+      go : Dec (code ≡ 3) → Dec (code ≡ 4) → Dec (code ≡ 5) → Dec (code ≡ 6) → IsFrame l (frameOf l)
+      go (yes q) b c d = as-read (BYTE ∷ []) (told 3 q) (code-is 3 [] q) (sym e)
+      go (no a) (yes q) c d = as-read (BYTE ∷ []) (told 4 q) (code-is 4 [] q) (sym e)
+      go (no a) (no b) (yes q) d = as-read (BYTE ∷ []) (told 5 q) (code-is 5 [] q) (sym e)
+      go (no a) (no b) (no c) (yes q) = as-read (BYTE ∷ []) (told 6 q) (code-is 6 [] q) (sym e)
+      go (no a) (no b) (no c) (no d) = absurd (some (sym (bare-row l t e) ∙ rw (ne-eqb code 3 a, ne-eqb code 4 b, ne-eqb code 5 c, ne-eqb code 6 d)))
 
   open-is : length l ≡ OPENING → Dec (code ≡ 1) → IsFrame l (frameOf l)
   unfolding fieldsOf fieldsAt total
@@ -101,6 +102,7 @@ written-back (Add r) n h =
 written-back Mark n h = bare-back 3 (omega arith)
 written-back Back n h = bare-back 4 (omega arith)
 written-back Ask n h = bare-back 5 (omega arith)
+written-back Forward n h = bare-back 6 (omega arith)
 written-back NoFrame n h = absurd (n refl)
 
 -- a line is read as a frame just where it is that frame: its digits, which its numbers fit
@@ -117,6 +119,7 @@ none-dec (Add r) = no (λ e. let z : _≡_ {A = ℕ} 0 1 = cc in omega arith)
 none-dec Mark = no (λ e. let z : _≡_ {A = ℕ} 0 1 = cc in omega arith)
 none-dec Back = no (λ e. let z : _≡_ {A = ℕ} 0 1 = cc in omega arith)
 none-dec Ask = no (λ e. let z : _≡_ {A = ℕ} 0 1 = cc in omega arith)
+none-dec Forward = no (λ e. let z : _≡_ {A = ℕ} 0 1 = cc in omega arith)
 none-dec NoFrame = yes refl
 
 pub none-read : (l : List ℕ) → (frameOf l ≡ NoFrame → (f : Frame) → IsFrame l f → ⊥) × (((f : Frame) → IsFrame l f → ⊥) → frameOf l ≡ NoFrame)

@@ -10,16 +10,18 @@ use Rattle.rule.specs.declared.Rule.{Rule}
 use Rattle.rule.specs.Meaning.{rule}
 use Rattle.hex.specs.Hex.{allDigits, number}
 use Rattle.frame.specs.declared.Frame.{Frame}
-use Rattle.frame.specs.declared.Frame.the-variants.{Add, Ask, Back, Mark, NoFrame, Open}
+use Rattle.frame.specs.declared.Frame.the-variants.{Add, Ask, Back, Forward, Mark, NoFrame, Open}
 use Rattle.frame.specs.Fields.{BYTE, InDigits, Line, WORD, byte, digitsIn, word}
 
--- "`01` width(2): open. `02` form(2) sense(2) c1(8) c2(8): add. `03` mark. `04` back. `05` ask."
+-- "`01` width(2): open. `02` form(2) sense(2) c1(8) c2(8): add. `03` mark. `04` back. `05` ask."; and "frame `06`: it brings back the
+-- stretch most recently taken back"
 unfoldable pub fieldsOf : Frame → Line
 fieldsOf (Open w) = byte 1 ∷ byte w ∷ []
 fieldsOf (Add r) = byte 2 ∷ byte (r .form) ∷ byte (r .sense) ∷ word (r .c1) ∷ word (r .c2) ∷ []
 fieldsOf Mark = byte 3 ∷ []
 fieldsOf Back = byte 4 ∷ []
 fieldsOf Ask = byte 5 ∷ []
+fieldsOf Forward = byte 6 ∷ []
 fieldsOf NoFrame = []
 
 -- a line is a frame: just its digits, which its numbers fit
@@ -55,7 +57,7 @@ ruleOf l = rule (number (slice FORM SENSE l)) (number (slice SENSE C1 l)) (numbe
 
 -- a code and nothing more
 unfoldable pub bare : ℕ → Frame
-bare code = cond (eqb code 3) Mark (cond (eqb code 4) Back (cond (eqb code 5) Ask NoFrame))
+bare code = cond (eqb code 3) Mark (cond (eqb code 4) Back (cond (eqb code 5) Ask (cond (eqb code 6) Forward NoFrame)))
 
 -- a line of so many digits, of which the first write a code
 unfoldable pub byDigits : (n code : ℕ) → List ℕ → Frame

@@ -18,6 +18,7 @@ pub enum Frame {
     Mark,
     Back,
     Ask,
+    Forward,
     NoFrame,
 }
 

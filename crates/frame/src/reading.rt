@@ -58,6 +58,9 @@ fn bare(code: u64) -> Frame
     if code == 5 {
         return Frame::Ask;
     }
+    if code == 6 {
+        return Frame::Forward;
+    }
     Frame::NoFrame
 }
 

@@ -57,7 +57,7 @@ pub fn answer(
             let said = laid::add(
                 head,
                 &mut *rules,
-                &*marks,
+                &mut *marks,
                 &mut *from,
                 &mut *to,
                 &mut *side,
@@ -66,11 +66,11 @@ pub fn answer(
             told(said, &mut *out, at)
         }
         Frame::Mark => {
-            let said = laid::mark(head, &*rules, &mut *marks, &*from, &*to, &*side);
+            let said = laid::mark(head, &mut *rules, &mut *marks, &*from, &*to, &*side);
             told(said, &mut *out, at)
         }
         Frame::Back => {
-            let said = laid::back(head, &mut *rules, &mut *marks, &*from, &*to, &*side);
+            let said = laid::back(head, &*rules, &*marks, &*from, &*to, &*side);
             told(said, &mut *out, at)
         }
         Frame::Ask => AfterLaid {
@@ -87,6 +87,10 @@ pub fn answer(
                 at,
             ),
         },
+        Frame::Forward => {
+            let said = laid::forward(head, &*rules, &*marks, &*from, &*to, &*side);
+            told(said, &mut *out, at)
+        }
         Frame::NoFrame => AfterLaid {
             head,
             end: put_number(&mut *out, at, NO_FRAME),

@@ -2,7 +2,7 @@
 use mathlib.Core.Path.{refl, sym, _∙_}
 use Prim.Native.Nat.{_-_}
 use borrow.Author.Needs.{needs}
-use Rattle.page.specs.Calls.{add, back, mark, open-at}
+use Rattle.page.specs.Calls.{add, back, forward, mark, open-at}
 use Rattle.page.specs.Page.{at-width}
 use Rattle.frame.specs.Calls.{callOf}
 use Rattle.frame.specs.Statements.{no-call}
@@ -58,6 +58,15 @@ asked-requires c κs = search needs
 
 enum-told-4 : tie.Need-enum-told-4
 enum-told-4 c = search needs
+
+forward-requires : tie.Need-forward-requires
+forward-requires c κs = search needs
+
+told-requires-5 : tie.Need-told-requires-5
+told-requires-5 c κs = search needs
+
+enum-told-5 : tie.Need-enum-told-5
+enum-told-5 c = search needs
 
 put-number-requires : tie.Need-put-number-requires
 put-number-requires c κs = search needs
@@ -119,8 +128,18 @@ same-length-6 c = search needs
 returns-6 : tie.Need-returns-6
 unfolding callOf
 returns-6 c =
+    let s = c .before .before .before .before .before .before .before .before .before .before .before .before .before .before .before in
+    let e = sym (c .before .before .before .before .before .before .before .before .before .before .enum-told4 .given .1) ∙ c .before .before .before .before .before .before .before .before .before .before .before .before .decode .ensures in
+    (laid-number _ forward e refl (c .before .before .before .before .forward .ensures) (c .before .before .told5 .ensures .0) (c .before .before .told5 .ensures .1), s .pre .1 .0)
+
+same-length-7 : tie.Need-same-length-7
+same-length-7 c = search needs
+
+returns-7 : tie.Need-returns-7
+unfolding callOf
+returns-7 c =
     let s = c .before .before .before .before .before .before .before .before .before in
-    let e = sym (c .before .before .before .before .enum-told4 .given .1) ∙ c .before .before .before .before .before .before .decode .ensures in
+    let e = sym (c .before .before .before .before .enum-told5 .given .1) ∙ c .before .before .before .before .before .before .decode .ensures in
     (record { answered = number-answered _ _ _ e no-call refl (c .before .before .put-number .ensures); held = s .pre .0 }, s .pre .1 .0)
 
 pub answer-spec : {M : Type 1} → statement M
@@ -143,6 +162,9 @@ answer-spec =
     enum-told-3
     asked-requires
     enum-told-4
+    forward-requires
+    told-requires-5
+    enum-told-5
     put-number-requires
     same-length
     returns
@@ -155,4 +177,6 @@ answer-spec =
     same-length-5
     returns-5
     same-length-6
-    returns-6)
+    returns-6
+    same-length-7
+    returns-7)

@@ -18,9 +18,13 @@ returns-3 c = rw (c .if3 .taken)
 
 returns-4 : tie.Need-returns-4
 unfolding bare
-returns-4 c =
-    let k = c .before .before .before .args .code in
-    rw (ne-eqb k 3 (c .before .before .if1 .left), ne-eqb k 4 (c .before .if2 .left), ne-eqb k 5 (c .if3 .left))
+returns-4 c = rw (c .if4 .taken)
+
+returns-5 : tie.Need-returns-5
+unfolding bare
+returns-5 c =
+    let k = c .before .before .before .before .args .code in
+    rw (ne-eqb k 3 (c .before .before .before .if1 .left), ne-eqb k 4 (c .before .before .if2 .left), ne-eqb k 5 (c .before .if3 .left), ne-eqb k 6 (c .if4 .left))
 
 pub bare-spec : {M : Type 1} → statement M
-bare-spec = tie.close (tie.spec returns returns-2 returns-3 returns-4)
+bare-spec = tie.close (tie.spec returns returns-2 returns-3 returns-4 returns-5)
