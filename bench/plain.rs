@@ -60,6 +60,9 @@ struct Sheet {
     marks: [usize; MARKS],
     marked: usize,
     kept: Kept,
+    // Rules in force with those that wait, and stretches that wait: they lie above what is in force.
+    given: usize,
+    waiting: usize,
 }
 
 fn top(width: u64) -> u64 {
@@ -267,25 +270,41 @@ impl Sheet {
             marks: [0; MARKS],
             marked: 0,
             kept: Kept::default(),
+            given: 0,
+            waiting: 0,
         }
     }
 
     fn is_sheet(&self) -> bool {
-        if self.count > RULES || self.marked > MARKS || self.width > WIDEST {
+        if self.given > RULES || self.marked > MARKS || self.waiting > MARKS - self.marked || self.width > WIDEST {
             return false;
         }
-        let (rules, free) = self.rules.split_at(self.count);
-        let (marks, unset) = self.marks.split_at(self.marked);
+        let (rules, free) = self.rules.split_at(self.given);
+        let (marks, unset) = self.marks.split_at(self.marked + self.waiting);
         if free.iter().any(|rule| *rule != Rule::default()) || unset.iter().any(|mark| *mark != 0) {
             return false;
         }
         if self.width == 0 {
-            return self.count == 0 && self.marked == 0 && self.kept == Kept::default();
+            return self.given == 0 && marks.is_empty() && self.count == 0 && self.kept == Kept::default();
         }
         marks.is_sorted()
-            && marks.last().is_none_or(|mark| *mark <= self.count)
+            && marks.last().is_none_or(|mark| *mark <= self.given)
+            && self.count == self.in_force()
             && rules.iter().all(|rule| rule.refused(self.width) == 0)
-            && self.kept == solve(rules, self.width)
+            && self.kept == solve(&rules[..self.count], self.width)
+    }
+
+    // The rules in force: all where nothing waits, else as many as the next mark to come back notes.
+    fn in_force(&self) -> usize {
+        if self.waiting == 0 { self.given } else { self.marks[self.marked] }
+    }
+
+    // Throws away what waits.
+    fn cleared(&mut self) {
+        self.rules[self.count..self.given].fill(Rule::default());
+        self.marks[self.marked..self.marked + self.waiting].fill(0);
+        self.given = self.count;
+        self.waiting = 0;
     }
 
     // 17 or 1, what every call but an opening tests first; else 0.
@@ -322,8 +341,10 @@ impl Sheet {
         if self.count == RULES {
             return 6;
         }
+        self.cleared();
         self.rules[self.count] = rule;
         self.count += 1;
+        self.given = self.count;
         self.solved();
         0
     }
@@ -336,6 +357,7 @@ impl Sheet {
         if self.marked == MARKS {
             return 7;
         }
+        self.cleared();
         self.marks[self.marked] = self.count;
         self.marked += 1;
         0
@@ -350,10 +372,23 @@ impl Sheet {
             return 8;
         }
         self.marked -= 1;
-        let count = self.marks[self.marked];
-        self.marks[self.marked] = 0;
-        self.rules[count..self.count].fill(Rule::default());
-        self.count = count;
+        self.waiting += 1;
+        self.count = self.in_force();
+        self.solved();
+        0
+    }
+
+    fn forward(&mut self) -> u64 {
+        let number = self.standing();
+        if number != 0 {
+            return number;
+        }
+        if self.waiting == 0 {
+            return 12;
+        }
+        self.marked += 1;
+        self.waiting -= 1;
+        self.count = self.in_force();
         self.solved();
         0
     }
@@ -416,6 +451,7 @@ enum Frame {
     Mark,
     Back,
     Ask,
+    Forward,
 }
 
 fn frame(line: &[u8]) -> Option<Frame> {
@@ -430,6 +466,7 @@ fn frame(line: &[u8]) -> Option<Frame> {
         (b"03", 2) => Some(Frame::Mark),
         (b"04", 2) => Some(Frame::Back),
         (b"05", 2) => Some(Frame::Ask),
+        (b"06", 2) => Some(Frame::Forward),
         _ => None,
     }
 }
@@ -441,6 +478,7 @@ fn answer(sheet: &mut Sheet, line: &[u8], links: &mut Vec<Link>, out: &mut Vec<u
         Some(Frame::Mark) => sheet.mark(),
         Some(Frame::Back) => sheet.back(),
         Some(Frame::Ask) => return ask(sheet, links, out),
+        Some(Frame::Forward) => sheet.forward(),
         None => 10,
     };
     put_number(out, number);

@@ -19,6 +19,7 @@ use Rattle.sheet.specs.declared.Sheet.{Sheet}
 use Rattle.sheet.specs.Shape.{isSheet}
 use Rattle.sheet.specs.Stands.{Standing}
 use Rattle.page.proofs.Lawful.{reached-lawful}
+use Rattle.sheet.proofs.Holding.{first-drawn}
 use Rattle.sheet.proofs.Stands.{has-page, has-width, known, rules-lawful, width-of}
 use Rattle.sheet.proofs.Tested.{passes-sheet}
 use Rattle.lent.specs.Lent.{Lie, zipped}
@@ -78,7 +79,10 @@ module _ {h : Head} {rules marks from to : List ℕ} {side : List Bool} (held : 
 
     pub own-rules : OfRules (h .width) (take (h .count) (zipped from to side)) (h .fixed) own
     unfolding packed
-    own-rules = let d = held .drawn e z in record { lawful = rules-lawful standing; own = d .own; bits = d .bits }
+    own-rules =
+        let d = held .drawn e z in
+        let first = first-drawn (d .own) (h .count) (known standing .given-low) (d .bits) in
+        record { lawful = rules-lawful standing; own = first .own; bits = first .bits }
 
     pub lie-so : Lie (top (h .width)) (h .count) (zipped from to side)
     unfolding packed
