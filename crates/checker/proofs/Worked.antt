@@ -8,13 +8,13 @@ use Rattle.accept.specs.Accept.{acceptable, badConstant, badForm, badSense, eve
 use Rattle.accept.specs.Grounds.{firstThatApplies}
 use Rattle.verdict.specs.Kept.{kept, verdictOf}
 use Rattle.sheet.specs.Record.{fresh}
-use Rattle.page.specs.Page.{marksOn, rulesOn}
-use Rattle.sheet.specs.Shape.{isSheet, sameKept, wellShaped}
+use Rattle.page.specs.Page.{marksOn, restored, rulesOn}
+use Rattle.sheet.specs.Shape.{inForce, isSheet, sameKept, wellShaped}
 use Rattle.page.specs.Shape.{marksShaped, rising, rulesShaped}
 use Rattle.checker.specs.Check.{accepts, allOf, everyWord, inOrder, largestEnd, linksIn, namesBits, namesRule, noGap, rightReason, shown, shownBy}
 use Rattle.checker.specs.Examples.{Example, examples}
 
 pub worked : map (λ (e : Example). accepts (e .sheet) (e .numbers)) examples ≡ map (λ (e : Example). e .answer) examples
 unfolding
-    accepts shownBy shown noGap largestEnd rightReason namesBits namesRule inOrder linksIn everyWord allOf isSheet wellShaped rulesShaped marksShaped rising sameKept every isNoRule acceptable refusalOf ruleGrounds firstThatApplies badForm badSense badConstant strayBit kept verdictOf first last fits meets7 meets written rows fresh marksOn rulesOn top half plus minus signed
+    accepts shownBy shown noGap largestEnd rightReason namesBits namesRule inOrder linksIn everyWord allOf isSheet wellShaped inForce rulesShaped marksShaped rising sameKept every isNoRule acceptable refusalOf ruleGrounds firstThatApplies badForm badSense badConstant strayBit kept verdictOf first last fits meets7 meets written rows fresh restored marksOn rulesOn top half plus minus signed
 worked = refl

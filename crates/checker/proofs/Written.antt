@@ -26,7 +26,7 @@ use Rattle.sheet.specs.Record.{fresh}
 use Rattle.sheet.specs.Statements.{Asked, IsSheet, chainOn, overlaid, reply}
 use Rattle.page.specs.Reached.{Reached}
 use Rattle.sheet.proofs.Fresh.{given}
-use Rattle.page.proofs.Lawful.{reached-lawful}
+use Rattle.page.proofs.Lawful.{reached-lawful, reached-page}
 use Rattle.page.proofs.Refusals.{blank-ask}
 use Rattle.sheet.proofs.Tested.{sheet-dec, sheet-passes}
 use Rattle.sheet.proofs.WaysOfAsking.{accepted-reply, the-chain}
@@ -45,7 +45,7 @@ shown-accepted : {s : Sheet} (o : OpenPage) → Reached (page o) → s ≡ fresh
     → shownBy (o .opening .width) (rulesOn (o .entries)) ns ≡ true → accepts s ns ≡ true
 unfolding accepts
 shown-accepted {s} o h e ns d =
-    let g = given o e (reached-lawful h) in
+    let g = given o e (reached-page h) in
     let w = reached-lawful h .low in
     let open-sheet : s .width ≡ 0 → ⊥ = λ z. omega (arith, g .width) in
     ap₂ _&&_ (sheet-passes s (record { on = page o; reached = h; gives = e }))
