@@ -70,19 +70,17 @@ pub fn add(
     lent::lay(&mut *from, &mut *to, &mut *side, count, band);
     let fixed = old.with(rule);
     let kept = verdict::laid::narrowed(&*from, &*to, &*side, next, fixed, bits, found);
-    Said {
-        number: 0,
-        head: Head {
-            stands: true,
-            width,
-            count: next,
-            marked: head.marked,
-            kept,
-            fixed,
-            given: next,
-            waiting: 0,
-        },
-    }
+    let head = Head {
+        stands: true,
+        width,
+        count: next,
+        marked: head.marked,
+        kept,
+        fixed,
+        given: next,
+        waiting: 0,
+    };
+    Said { number: 0, head }
 }
 
 // The number with which a rule is refused, or 0.

@@ -57,17 +57,15 @@ pub fn back(
     let fixed = places::bits_of(rules, left);
     let bits = Width { bits: width };
     let kept = verdict::laid::solve(from, to, side, left, fixed, bits, 0, bits.top());
-    Said {
-        number: 0,
-        head: Head {
-            stands: true,
-            width,
-            count: left,
-            marked: at,
-            kept,
-            fixed,
-            given: head.given,
-            waiting: more,
-        },
-    }
+    let head = Head {
+        stands: true,
+        width,
+        count: left,
+        marked: at,
+        kept,
+        fixed,
+        given: head.given,
+        waiting: more,
+    };
+    Said { number: 0, head }
 }

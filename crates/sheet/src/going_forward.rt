@@ -60,17 +60,15 @@ pub fn forward(
     let bits = Width { bits: head.width };
     let found = head.kept;
     let kept = verdict::laid::narrowed(from, to, side, count, fixed, bits, found);
-    Said {
-        number: 0,
-        head: Head {
-            stands: true,
-            width: head.width,
-            count,
-            marked: next,
-            kept,
-            fixed,
-            given,
-            waiting: left,
-        },
-    }
+    let head = Head {
+        stands: true,
+        width: head.width,
+        count,
+        marked: next,
+        kept,
+        fixed,
+        given,
+        waiting: left,
+    };
+    Said { number: 0, head }
 }

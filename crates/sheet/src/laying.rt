@@ -78,16 +78,9 @@ fn tested(
     if !shape::shaped(head, rules, marks) {
         return head.standing(false);
     }
-    places::draw(
-        rules,
-        &mut *from,
-        &mut *to,
-        &mut *side,
-        given,
-        Width { bits: width },
-    );
-    let fixed = places::bits_of(rules, count);
     let bits = Width { bits: width };
+    places::draw(rules, &mut *from, &mut *to, &mut *side, given, bits);
+    let fixed = places::bits_of(rules, count);
     let found = verdict::laid::solve(&*from, &*to, &*side, count, fixed, bits, 0, bits.top());
     Head {
         stands: shape::same_kept(kept, found),

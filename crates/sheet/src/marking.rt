@@ -55,17 +55,15 @@ pub fn mark(
     let kept = head.kept;
     let fixed = head.fixed;
     let next = marked + 1;
-    Said {
-        number: 0,
-        head: Head {
-            stands: true,
-            width: head.width,
-            count,
-            marked: next,
-            kept,
-            fixed,
-            given: count,
-            waiting: 0,
-        },
-    }
+    let head = Head {
+        stands: true,
+        width: head.width,
+        count,
+        marked: next,
+        kept,
+        fixed,
+        given: count,
+        waiting: 0,
+    };
+    Said { number: 0, head }
 }

@@ -64,19 +64,17 @@ pub fn open(
     let fixed = Fixed::Bits { mask: 0, value: 0 };
     let bits = Width { bits: width };
     let kept = verdict::laid::solve(from, to, side, 0, fixed, bits, 0, bits.top());
-    Said {
-        number: 0,
-        head: Head {
-            stands: true,
-            width,
-            count: 0,
-            marked: 0,
-            kept,
-            fixed,
-            given: 0,
-            waiting: 0,
-        },
-    }
+    let head = Head {
+        stands: true,
+        width,
+        count: 0,
+        marked: 0,
+        kept,
+        fixed,
+        given: 0,
+        waiting: 0,
+    };
+    Said { number: 0, head }
 }
 
 // No mark.
