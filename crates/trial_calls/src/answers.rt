@@ -73,6 +73,12 @@ pub fn same_sheet(a: Sheet, b: Sheet) -> bool {
     if a.marked != b.marked {
         return false;
     }
+    if a.given != b.given {
+        return false;
+    }
+    if a.waiting != b.waiting {
+        return false;
+    }
     same_kept_and_places(a, b)
 }
 

@@ -36,6 +36,12 @@ pub fn gone_back(sheet: Sheet) -> Sheet {
     answer.sheet
 }
 
+// The sheet that is left by going forward.
+pub fn gone_forward(sheet: Sheet) -> Sheet {
+    let answer = sheet.forward();
+    answer.sheet
+}
+
 // A sheet with one place free.
 pub fn all_but_one() -> Sheet {
     let mut sheet = opened(4);

@@ -1,8 +1,9 @@
-// The clerk's page: the width, and what stands on it, in order.
+// The clerk's page: the width, what stands on it, in order, and beside it the pile of what was struck out and waits.
+use crate::lines::Line;
+use crate::lines::Lines;
+use crate::lines::MARK;
 use rule::Rule;
 use sheet::Sheet;
-use trial_calls::sheets::added;
-use trial_calls::sheets::marked;
 use trial_calls::sheets::opened;
 
 // A call on a sheet. Asking changes no sheet, and no page.
@@ -11,42 +12,24 @@ pub enum Call {
     Add(Rule),
     Mark,
     Back,
+    Forward,
 }
 
-// The most rules and marks that stand on a page.
-const LINES: usize = Rule::LIMIT + Sheet::MARKS;
-
-// A mark or a rule.
-pub struct Line {
-    mark: bool,
-    rule: Rule,
-}
-
-// The width, 0 before any opening, and the first lines, which stand.
+// The width, 0 before any opening; the lines that stand, the newest last; and those of the pile, the one next to come back last. A
+// stretch lies on the pile with its mark on top.
 pub struct Page {
     pub width: u64,
-    lines: [Line; LINES],
-    length: usize,
+    stands: Lines,
+    pile: Lines,
 }
 
-// A line with no rule on it.
-const MARK: Line = Line {
-    mark: true,
-    rule: Rule {
-        form: 0,
-        sense: 0,
-        c1: 0,
-        c2: 0,
-    },
-};
-
 impl Page {
-    // A page with nothing on it.
+    // A page with nothing on it, and nothing beside it.
     pub fn new(width: u64) -> Page {
         Page {
             width,
-            lines: [MARK; LINES],
-            length: 0,
+            stands: Lines::none(),
+            pile: Lines::none(),
         }
     }
 
@@ -57,61 +40,78 @@ impl Page {
             Call::Add(rule) => self.with(Line { mark: false, rule }),
             Call::Mark => self.with(MARK),
             Call::Back => self.struck(),
+            Call::Forward => self.written_back(),
         }
     }
 
-    // One line more. A full page stays as it is: a desk that accepts a line more is seen to differ.
+    // Whether something lies on the pile.
+    pub fn waits(self) -> bool {
+        let pile = self.pile;
+        0 < pile.length
+    }
+
+    // One line more, and the pile cleared.
     fn with(self, line: Line) -> Page {
-        let length = self.length;
-        let mut page = self;
-        if length < LINES {
-            page.lines[length] = line;
-            page.length = length + 1;
+        let stands = self.stands;
+        Page {
+            width: self.width,
+            stands: stands.with(line),
+            pile: Lines::none(),
         }
-        page
     }
 
-    // The newest mark struck, and what was written after it.
+    // The newest mark struck, and what was written after it: line by line, until the mark lies on the pile.
     fn struck(self) -> Page {
         let mut page = self;
-        page.length = self.newest();
+        for i in 0..Lines::LIMIT {
+            page = page.line_struck();
+            let pile = page.pile;
+            if pile.mark_last() {
+                return page;
+            }
+        }
         page
     }
 
-    // Where the newest mark stands, or the end where none does.
-    fn newest(self) -> usize {
-        let length = self.length;
-        let lines = self.lines;
-        let mut newest = length;
-        for i in 0..LINES {
-            if i < length {
-                let line = lines[i];
-                if line.mark {
-                    newest = i;
-                }
+    // The stretch on top of the pile written back: line by line, until the mark of another lies on top, or nothing does.
+    fn written_back(self) -> Page {
+        let mut page = self;
+        for i in 0..Lines::LIMIT {
+            page = page.line_written_back();
+            let pile = page.pile;
+            if pile.mark_last() {
+                return page;
             }
         }
-        newest
+        page
     }
 
-    // A sheet opened afresh, and given what stands on the page.
+    fn line_struck(self) -> Page {
+        let stands = self.stands;
+        let pile = self.pile;
+        Page {
+            width: self.width,
+            stands: stands.without_last(),
+            pile: pile.with(stands.last()),
+        }
+    }
+
+    fn line_written_back(self) -> Page {
+        let stands = self.stands;
+        let pile = self.pile;
+        Page {
+            width: self.width,
+            stands: stands.with(pile.last()),
+            pile: pile.without_last(),
+        }
+    }
+
+    // A sheet opened afresh, given what stands on the page, then every stretch that waits, the one next to come back first, and then
+    // taken back once for each.
     pub fn fresh(self) -> Sheet {
-        let length = self.length;
-        let lines = self.lines;
-        let mut sheet = opened(self.width);
-        for i in 0..LINES {
-            if i < length {
-                sheet = given(sheet, lines[i]);
-            }
-        }
-        sheet
+        let stands = self.stands;
+        let pile = self.pile;
+        let sheet = stands.given(opened(self.width));
+        pile.taken_back(pile.given_last_first(sheet))
     }
-}
-
-fn given(sheet: Sheet, line: Line) -> Sheet {
-    if line.mark {
-        return marked(sheet);
-    }
-    let rule = line.rule;
-    added(sheet, rule)
 }

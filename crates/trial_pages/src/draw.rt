@@ -8,20 +8,31 @@ pub fn further(seed: u64) -> u64 {
     next(next(next(next(seed))))
 }
 
-// A call for a sheet of the width. Openings are rare, as each starts a page afresh, but on the blank sheet are not.
-pub fn drawn(seed: u64, width: u64) -> Call {
-    let kind = seed / 64 % 64;
+// A call for a sheet of the width, on which something waits or nothing does. Openings are rare, as each starts a page afresh, but on the
+// blank sheet are not. Once something waits most calls are steps, as an add or a mark clears the pile.
+pub fn drawn(seed: u64, width: u64, waits: bool) -> Call {
     let more = next(seed);
     if opens(seed, width) {
         return Call::Open(new_width(more));
     }
-    if kind < 12 {
-        return Call::Mark;
+    if waits {
+        if seed / 0x1000 % 4 != 0 {
+            return step(seed / 0x1_0000);
+        }
     }
-    if kind < 20 {
+    match seed / 64 % 64 {
+        0..=11 => Call::Mark,
+        12..=19 => Call::Back,
+        20..=25 => Call::Forward,
+        _ => Call::Add(rule(more, next(more), width)),
+    }
+}
+
+fn step(seed: u64) -> Call {
+    if seed % 2 == 0 {
         return Call::Back;
     }
-    Call::Add(rule(more, next(more), width))
+    Call::Forward
 }
 
 fn opens(seed: u64, width: u64) -> bool {

@@ -1,7 +1,8 @@
 // Records that no page of accepted calls gives: a sheet, with one number of it raised.
 //
-// The sheet is such that no raised number gives another sheet. Its two rules are fitted by 11 to 14, and each of them by
-// other words once one of its numbers is raised by 1, or is then refused; and its mark is as high as a mark may be.
+// The sheets are such that no raised number gives another sheet. The two rules in force are fitted by 11 to 14, and each of them by
+// other words once one of its numbers is raised by 1, or is then refused; and the mark is as high as a mark may be. What waits is
+// a mark and a rule, and then a mark alone: each number of the rule is as high as it may be, and so are the marks.
 use rule::Rule;
 use sheet::Sheet;
 use trial_calls::answers::ask_refused;
@@ -9,17 +10,18 @@ use trial_calls::answers::refused;
 use trial_calls::answers::same_sheet;
 use trial_calls::sheets::added;
 use trial_calls::sheets::case2;
+use trial_calls::sheets::gone_back;
 use trial_calls::sheets::marked;
 use trial_calls::sheets::opened;
 use trial_direct::rules::rule;
 use trial_direct::tally::Tally;
 
-// Where the numbers of the rules end, those of the marks, and the six others.
+// Where the numbers of the rules end, those of the marks, and the eight others.
 const RULES: usize = 4 * Rule::LIMIT;
 
 const MARKS: usize = RULES + Sheet::MARKS;
 
-const NUMBERS: usize = MARKS + 6;
+const NUMBERS: usize = MARKS + 8;
 
 // What is raised by it is far off: a count of rules or of marks passes its limit.
 const FAR: u64 = Rule::LIMIT as u64;
@@ -27,7 +29,15 @@ const FAR: u64 = Rule::LIMIT as u64;
 pub fn all() -> Tally {
     let first = added(opened(4), case2());
     let sheet = marked(added(first, rule(4, 0, 7, 0)));
-    over_numbers(sheet).plus(over_numbers(Sheet::blank()))
+    over_numbers(sheet)
+        .plus(over_numbers(waited(sheet)))
+        .plus(over_numbers(Sheet::blank()))
+}
+
+// The sheet with two stretches that wait.
+fn waited(sheet: Sheet) -> Sheet {
+    let one = added(marked(sheet), rule(8, 1, 15, 15));
+    gone_back(gone_back(marked(one)))
 }
 
 // The sheet compared with itself, each number raised.
@@ -61,6 +71,7 @@ fn looks(sheet: Sheet) -> Tally {
         .plus(Tally::one(refused(sheet.add(rule(3, 0, 0, 1)), 17, sheet)))
         .plus(Tally::one(refused(sheet.mark(), 17, sheet)))
         .plus(Tally::one(refused(sheet.back(), 17, sheet)))
+        .plus(Tally::one(refused(sheet.forward(), 17, sheet)))
         .plus(Tally::one(ask_refused(sheet, 17)))
 }
 
@@ -75,13 +86,15 @@ fn raised(sheet: Sheet, at: usize, by: u64) -> Sheet {
     raised_other(sheet, at - MARKS, by)
 }
 
-// One of the six numbers that are neither a rule's nor a mark.
+// One of the eight numbers that are neither a rule's nor a mark.
 fn raised_other(sheet: Sheet, at: usize, by: u64) -> Sheet {
     let mut no_sheet = sheet;
     match at {
         0 => no_sheet.width = std::num::wrapping_add_u64(sheet.width, by),
         1 => no_sheet.count = raised_size(sheet.count, by),
         2 => no_sheet.marked = raised_size(sheet.marked, by),
+        3 => no_sheet.given = raised_size(sheet.given, by),
+        4 => no_sheet.waiting = raised_size(sheet.waiting, by),
         _ => return raised_kept(sheet, at, by),
     }
     no_sheet
@@ -118,8 +131,8 @@ fn raised_kept(sheet: Sheet, at: usize, by: u64) -> Sheet {
     let kept = sheet.kept;
     let mut raised = kept;
     match at {
-        3 => raised.verdict = std::num::wrapping_add_u64(kept.verdict, by),
-        4 => raised.smallest = std::num::wrapping_add_u64(kept.smallest, by),
+        5 => raised.verdict = std::num::wrapping_add_u64(kept.verdict, by),
+        6 => raised.smallest = std::num::wrapping_add_u64(kept.smallest, by),
         _ => raised.largest = std::num::wrapping_add_u64(kept.largest, by),
     }
     let mut no_sheet = sheet;

@@ -1,5 +1,5 @@
-// Calls on sheets that are all but full, so that places run out and steps back free them. After each call the desk's sheet is
-// compared with the clerk's page, as in long sequences.
+// Calls on sheets that are all but full, so that places run out, steps back free them and steps forward take them again. After each
+// call the desk's sheet is compared with the clerk's page, as in long sequences.
 use crate::long;
 use crate::long::Work;
 use rule::Rule;
@@ -14,10 +14,12 @@ const SHEETS: u64 = 10;
 
 const CALLS: u64 = 30;
 
-// A sheet is given so many rules, and then so many marks.
+// A sheet is given so many rules, and so many marks, each of them before one of the last rules.
 const GIVEN: usize = Rule::LIMIT - 4;
 
 const MARKED: usize = Sheet::MARKS - 2;
+
+const UNMARKED: usize = GIVEN - MARKED;
 
 // Calls enough for it: of the rules that are drawn more than half are accepted.
 const DRAWN: usize = 2 * Rule::LIMIT + Sheet::MARKS;
@@ -53,18 +55,27 @@ fn given(width: u64) -> Work {
     work
 }
 
-// One call more, a drawn rule or then a mark, until the sheet has what it is given. Nothing is compared.
+// One call more, a drawn rule or a mark, until the sheet has what it is given. Nothing is compared.
 fn filled(work: Work) -> Work {
     let sheet = work.sheet;
     let page = work.page;
-    if sheet.count < GIVEN {
+    let count = sheet.count;
+    if count < GIVEN {
+        if marks_next(count, sheet.marked) {
+            return called(work, Call::Mark);
+        }
         let rule = draw::rule(work.seed, draw::further(work.seed), page.width);
         return called(work, Call::Add(rule));
     }
-    if sheet.marked < MARKED {
-        return called(work, Call::Mark);
-    }
     work
+}
+
+// Whether the rules so far are those before the next mark.
+fn marks_next(count: usize, marked: usize) -> bool {
+    if marked < MARKED {
+        return UNMARKED + marked == count;
+    }
+    false
 }
 
 fn called(work: Work, call: Call) -> Work {

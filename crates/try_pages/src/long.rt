@@ -1,10 +1,12 @@
 // Long sequences of calls. After each call, accepted or refused, the desk's sheet is the one that a fresh sheet comes to
-// that is given what stands on the clerk's page.
+// that is given what stands on the clerk's page and what waits beside it, and is taken back once for each stretch that waits.
 use sheet::Answer;
 use sheet::Sheet;
 use trial_calls::answers::same_sheet;
 use trial_calls::sheets::added;
 use trial_calls::sheets::case2;
+use trial_calls::sheets::gone_back;
+use trial_calls::sheets::marked;
 use trial_calls::sheets::opened;
 use trial_direct::draw::next;
 use trial_direct::tally::Split;
@@ -52,7 +54,7 @@ pub fn step(work: Work) -> Work {
     let sheet = work.sheet;
     let page = work.page;
     let calls = work.calls;
-    let call = draw::drawn(work.seed, page.width);
+    let call = draw::drawn(work.seed, page.width, page.waits());
     let answer = made(sheet, call);
     let left = answer.sheet;
     let stands = standing(page, call, answer.number);
@@ -78,9 +80,12 @@ fn compared(number: u64, left: Sheet, stands: Page) -> Split {
     Split::one(kind, same_sheet(left, stands.fresh()))
 }
 
-// A wrong page: the clerk missed an add.
+// Wrong pages: the clerk missed an add; and the clerk missed a mark and a step back, so that the pile alone is wrong.
 pub fn known() -> Tally {
-    compared(0, added(opened(4), case2()), Page::new(4)).joined()
+    let page = Page::new(4);
+    compared(0, added(opened(4), case2()), page)
+        .joined()
+        .plus(compared(0, gone_back(marked(opened(4))), page).joined())
 }
 
 pub fn made(sheet: Sheet, call: Call) -> Answer {
@@ -89,5 +94,6 @@ pub fn made(sheet: Sheet, call: Call) -> Answer {
         Call::Add(rule) => sheet.add(rule),
         Call::Mark => sheet.mark(),
         Call::Back => sheet.back(),
+        Call::Forward => sheet.forward(),
     }
 }

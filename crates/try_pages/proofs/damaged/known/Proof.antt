@@ -11,6 +11,6 @@ known-spec =
     tie.close
     (tie.spec
     (λ tally₀ at₀ tally at. Unit)
-    (λ tally₀ at₀ tally at. 4 * RULES + MARKS + 6 - at)
+    (λ tally₀ at₀ tally at. 4 * RULES + MARKS + 8 - at)
     (search needs) (search needs) (search needs) (search needs) (search needs) (search needs) (search needs) (search needs)
     (search needs) (search needs) (search needs))

@@ -11,5 +11,5 @@ over-numbers-spec =
     tie.close
     (tie.spec
     (λ sheet tally₀ at₀ tally at. Unit)
-    (λ sheet tally₀ at₀ tally at. 4 * RULES + MARKS + 6 - at)
+    (λ sheet tally₀ at₀ tally at. 4 * RULES + MARKS + 8 - at)
     (search needs) (search needs) (search needs) (search needs) (search needs) (search needs) (search needs) (search needs))

@@ -1,7 +1,7 @@
 -- `given` is safe and ends: the measure is the draws left. Assumes nothing.
 use Prim.Native.Nat.{_+_, _*_, _-_}
 use Rattle.rule.specs.Meaning.{RULES}
-use Rattle.sheet.specs.Page.{MARKS}
+use Rattle.page.specs.Page.{MARKS}
 use borrow.Author.Needs.{needs}
 use Rattle.try_pages.proofs.full.given.Statement.{statement}
 use Rattle.try_pages.proofs.full.given.Tie as tie
