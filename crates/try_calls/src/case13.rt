@@ -1,4 +1,4 @@
-// Case 13 of the paper's sheets worked by hand, with the refusals of marks, of steps back and of the blank sheet.
+// Case 13 of the paper's sheets worked by hand, with the refusals of marks, of steps and of the blank sheet.
 use sheet::Sheet;
 use trial_calls::answers::accepted;
 use trial_calls::answers::ask_refused;
@@ -10,6 +10,7 @@ use trial_calls::sheets::all_but_one;
 use trial_calls::sheets::all_marks;
 use trial_calls::sheets::case2;
 use trial_calls::sheets::gone_back;
+use trial_calls::sheets::gone_forward;
 use trial_calls::sheets::marked;
 use trial_calls::sheets::opened;
 use trial_direct::direct::UNTOUCHED;
@@ -49,7 +50,7 @@ fn bit_rules(sheet: Sheet) -> Tally {
         .plus(Tally::one(accepted(sheet.add(rule(7, 0, 6, 6)))))
 }
 
-// The last rule that a sheet takes stands after a mark, so that a step back strikes it alone.
+// The last rule that a sheet takes stands after a mark, so that a step back strikes it alone, and a step forward brings it back.
 fn one_too_many() -> Tally {
     let more = case2();
     let sheet = marked(all_but_one());
@@ -58,6 +59,7 @@ fn one_too_many() -> Tally {
         .plus(Tally::one(refused(full.add(more), 6, full)))
         .plus(Tally::one(accepted(full.back())))
         .plus(Tally::one(accepted(gone_back(full).add(more))))
+        .plus(Tally::one(refused(gone_forward(gone_back(full)).add(more), 6, full)))
 }
 
 // One rule, with 14 numbers lent and with 15.
@@ -86,7 +88,7 @@ fn marking() -> Tally {
     tally
 }
 
-// A step back for each mark is accepted, and none after them.
+// A step back for each mark is accepted, and none after them; and then a step forward for each.
 fn striking(full: Sheet) -> Tally {
     let mut tally = Tally::none();
     let mut sheet = full;
@@ -94,13 +96,27 @@ fn striking(full: Sheet) -> Tally {
         tally = tally.plus(Tally::one(accepted(sheet.back())));
         sheet = gone_back(sheet);
     }
-    tally.plus(Tally::one(refused(sheet.back(), 8, sheet)))
+    tally
+        .plus(Tally::one(refused(sheet.back(), 8, sheet)))
+        .plus(returning(sheet, full))
+}
+
+// A step forward for each mark is accepted, and none after them, when the sheet is the one from before.
+fn returning(struck: Sheet, full: Sheet) -> Tally {
+    let mut tally = Tally::none();
+    let mut sheet = struck;
+    for i in 0..Sheet::MARKS {
+        tally = tally.plus(Tally::one(accepted(sheet.forward())));
+        sheet = gone_forward(sheet);
+    }
+    tally.plus(Tally::one(refused(sheet.forward(), 12, full)))
 }
 
 fn on_blank(blank: Sheet) -> Tally {
     Tally::one(refused(blank.add(case2()), 1, blank))
         .plus(Tally::one(refused(blank.mark(), 1, blank)))
         .plus(Tally::one(refused(blank.back(), 1, blank)))
+        .plus(Tally::one(refused(blank.forward(), 1, blank)))
         .plus(Tally::one(ask_refused(blank, 1)))
 }
 

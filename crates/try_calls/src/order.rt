@@ -39,12 +39,13 @@ fn adds(sheet: Sheet, rule: Rule, number: u64) -> Tally {
     Tally::one(refused(sheet.add(rule), number, sheet))
 }
 
-// 17 before 3, 4, 5, 8 and 9.
+// 17 before 3, 4, 5, 8, 9 and 12.
 fn no_sheet(sheet: Sheet) -> Tally {
     let one_rule = hurt(added(opened(4), case2()));
     adds(sheet, rule(9, 0, 0, 0), 17).plus(adds(sheet, rule(1, 2, 0, 0), 17))
         .plus(adds(sheet, rule(1, 0, 16, 0), 17))
         .plus(Tally::one(refused(sheet.back(), 17, sheet)))
+        .plus(Tally::one(refused(sheet.forward(), 17, sheet)))
         .plus(Tally::one(ask_refused(one_rule, 17)))
 }
 
@@ -52,6 +53,7 @@ fn no_sheet(sheet: Sheet) -> Tally {
 fn no_blank(sheet: Sheet) -> Tally {
     adds(sheet, case2(), 17).plus(Tally::one(refused(sheet.mark(), 17, sheet)))
         .plus(Tally::one(refused(sheet.back(), 17, sheet)))
+        .plus(Tally::one(refused(sheet.forward(), 17, sheet)))
         .plus(Tally::one(ask_refused(sheet, 17)))
 }
 
@@ -60,11 +62,12 @@ fn no_room(full: Sheet, all_marks: Sheet) -> Tally {
     adds(full, case2(), 17).plus(Tally::one(refused(all_marks.mark(), 17, all_marks)))
 }
 
-// 1 before 3, 4, 5, 8 and 9. No width has a second constant in form 4.
+// 1 before 3, 4, 5, 8, 9 and 12. No width has a second constant in form 4.
 fn blank(blank: Sheet) -> Tally {
     adds(blank, rule(9, 0, 0, 0), 1).plus(adds(blank, rule(7, 1, 0, 0), 1))
         .plus(adds(blank, rule(4, 0, 0, 1), 1))
         .plus(Tally::one(refused(blank.back(), 1, blank)))
+        .plus(Tally::one(refused(blank.forward(), 1, blank)))
         .plus(Tally::one(short(blank)))
 }
 

@@ -9,7 +9,8 @@ pub striking-spec : {M : Type 1} → statement M
 striking-spec =
     tie.close
     (tie.spec
-    (λ tally₀ sheet₀ i₀ tally sheet i. Unit)
-    (λ tally₀ sheet₀ i₀ tally sheet i. MARKS - i)
+    (λ full tally₀ sheet₀ i₀ tally sheet i. Unit)
+    (λ full tally₀ sheet₀ i₀ tally sheet i. MARKS - i)
     (search needs) (search needs) (search needs) (search needs) (search needs) (search needs) (search needs) (search needs)
-    (search needs) (search needs) (search needs) (search needs) (search needs) (search needs) (search needs))
+    (search needs) (search needs) (search needs) (search needs) (search needs) (search needs) (search needs) (search needs)
+    (search needs))
