@@ -1,4 +1,6 @@
-// The paper's whole exchange, as calls: cases 2 and 8.
+// Tries the paper's whole exchange, as calls: cases 2 and 8.
+//
+// The counts. exchange: 9 lines, the 6 numbers of two links, and the numbers after them as one. known has wrong expectations, 1 + 6 + 1.
 ghost use Prim.Native.Nat.{_≤_, _<_};
 ghost use Rattle.trial_direct.specs.Trial.{ROWS};
 use rule::Rule;
@@ -20,7 +22,12 @@ use trial_direct::tally::Tally;
 // What asking wants of two rules.
 const LENT: usize = 3 * (4 * 2 + 1);
 
-pub fn all() -> Tally {
+fn main() {
+    all().print(b"exchange");
+    known().print(b"known");
+}
+
+fn all() -> Tally {
     let sheet = added(opened(4), case2());
     let two = added(marked(sheet), case8());
     let after = gone_back(two);
@@ -69,7 +76,7 @@ fn same_links(out: &[u64; LENT], digits: u64, numbers: usize) -> Tally
 }
 
 // Wrong expectations: case 2 answered as case 3, no links where case 8 has two, and a number that is written after the last.
-pub fn known() -> Tally {
+fn known() -> Tally {
     let case = cases::at(cases::CASE8);
     asked(added(opened(4), case2()), cases::CASE2 + 1)
         .plus(same_links(&[UNTOUCHED; LENT], case.links, 6))
