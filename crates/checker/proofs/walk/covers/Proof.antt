@@ -4,6 +4,7 @@ use mathlib.Core.Path.{_≡_, refl, ap, _∙_, subst}
 use mathlib.Core.Logic.{⊎-elim}
 use mathlib.Core.List.{List}
 use Prim.Native.Nat.{ℕ, max, _+_, _-_, _%_, _≤_}
+use native.Mathlib.Nat.{le-antisymm}
 use native.Mathlib.Omega.{arith}
 use borrow.Author.Needs.{needs}
 use borrow.Author.Tests.{leb-false, leb-true}
@@ -170,7 +171,7 @@ returns-6 c rs h =
     let w = width l in
     let low = start l .pre .0 .low in
     ap (eqb (l .loop .end)) (l .before .top .ensures)
-    ∙ at-last _ rs _ _ _ (mid l rs h) (omega (arith, l .loop .inv .0, c .if6 .left)) (l .loop .inv .1) (l .loop .inv .2) (omega (arith, halves w low, half-pos w))
+    ∙ at-last _ rs _ _ _ (mid l rs h) (le-antisymm (l .loop .inv .0) (c .if6 .left)) (l .loop .inv .1) (l .loop .inv .2) (omega (arith, halves w low, half-pos w))
 
 pub covers-spec : {M : Type 1} → statement M
 covers-spec =
