@@ -7,7 +7,6 @@ use Prim.Native.Nat.{ℕ, _+_, _-_, _<_}
 use native.Mathlib.Omega.{arith}
 use lib.ListN.{length, replicate, set, take}
 use lib.Seq.{length-take-le, take-at}
-use Rattle.rule.specs.declared.Rule.{Rule}
 use Rattle.rule.specs.Meaning.{RULES}
 use Rattle.band.specs.Band.{bandOf}
 use Rattle.bits.specs.Fixed.{fixedBits}

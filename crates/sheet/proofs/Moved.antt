@@ -1,6 +1,6 @@
 -- A sheet that is laid out with its counters moved, by a step back or a step forward: no rule, no mark and no band moves, so that the first
 -- bands are those of the rules then in force. Assumes nothing.
-use mathlib.Core.Path.{_≡_, refl, sym, ap, _∙_, subst}
+use mathlib.Core.Path.{_≡_, refl, sym, subst}
 use mathlib.Core.Bool.{Bool, true}
 use mathlib.Core.List.{List}
 use Prim.Native.Nat.{ℕ, _≤_}
@@ -39,7 +39,7 @@ module _ {h : Head} {rules marks from to : List ℕ} {side : List Bool} (held : 
   abbrev w : ℕ
   w = h .width
 
-  pub moved-low : n ≤ h .given
+  moved-low : n ≤ h .given
   unfolding packed
   moved-low = known q .given-low
 

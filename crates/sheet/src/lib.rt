@@ -49,8 +49,8 @@ pub struct Reply {
     pub links: usize,
 }
 
-// What a sheet that is laid out has beside its arrays: whether the record is a sheet at all, its numbers, and the bits that its
-// rules fix.
+// What a sheet that is laid out has beside its arrays: whether the record is a sheet at all, its numbers, and the bits that the
+// rules in force fix.
 pub struct Head {
     pub stands: bool,
     pub width: u64,
