@@ -90,6 +90,7 @@ fn record(rules: [Rule; Rule::LIMIT], n: usize, width: Width) -> Sheet
     sheet.width = width.bits;
     sheet.rules = laid;
     sheet.count = n;
+    sheet.given = n;
     sheet.kept = kept;
     sheet
 }

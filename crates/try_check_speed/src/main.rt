@@ -2,7 +2,6 @@
 // sheet's chain again and again, which K3 allows: a link may start anywhere in what is covered.
 use rule::Rule;
 use sheet::Sheet;
-use trial_calls::lists;
 use trial_calls::sheets;
 
 const NUMBERS: usize = 300000;
@@ -21,7 +20,7 @@ fn main() {
 
 // A sheet with no place free, which no word fits: each rule fails a part of the words.
 fn full() -> Sheet {
-    let rules = lists::parts();
+    let rules = trial_lists::parts();
     let mut sheet = sheets::opened(32);
     for i in 0..Rule::LIMIT {
         sheet = sheets::added(sheet, rules[i]);
