@@ -1,6 +1,7 @@
 pub mod Climb
 pub mod Count
 pub mod Cut
+pub mod Editions
 pub mod Search
 pub mod Searched
 pub mod Shared

@@ -1,11 +1,27 @@
-// Words of a width, with the arithmetic that wraps there.
+// Words of a width, with the arithmetic that wraps there, and the editions of the exchange, which differ in their words.
 ghost use mathlib.Core.Path.{_≡_};
 ghost use Prim.Native.Nat.{_≤_};
+ghost use Rattle.word.specs.Edition.{same, terms};
 ghost use Rattle.word.specs.Word.{IsWidth, top, half, plus, minus, signed};
 
-// A number of bits. A function of a width takes 1 to 64 of them; a sheet takes 1 to LIMIT.
+// A number of bits, 1 to LIMIT of them.
 pub struct Width {
     pub bits: u64,
+}
+
+// An edition of the exchange. A sheet keeps the one that it was opened in.
+pub enum Edition {
+    Old,
+    New,
+}
+
+// What belongs to an edition: the widest word that a sheet may have, the digits of a word, and the codes of the frames that open a sheet
+// and add to it.
+pub struct Terms {
+    pub widest: u64,
+    pub digits: usize,
+    pub opens: u64,
+    pub adds: u64,
 }
 
 // What a search over words gives: the word found, or that there is none.
@@ -15,8 +31,8 @@ pub enum Found {
 }
 
 impl Width {
-    // The widest word that a sheet may have.
-    pub const LIMIT: u64 = 32;
+    // The widest word that there is: 2^64 itself is none.
+    pub const LIMIT: u64 = 64;
 
     // The largest word.
     pub fn top(self) -> u64
@@ -60,5 +76,48 @@ impl Width {
             return a as i64;
         }
         -1 - (self.top() - a) as i64
+    }
+}
+
+impl Edition {
+    // The most digits that a word has in any edition.
+    pub const DIGITS: usize = 16;
+
+    // The table of the editions.
+    pub fn terms(self) -> Terms
+        ensures { λ r. ⌜ r ≡ terms self ⌝ }
+    {
+        let edition = self;
+        match edition {
+            Edition::Old => Terms {
+                widest: 32,
+                digits: 8,
+                opens: 0x01,
+                adds: 0x02,
+            },
+            Edition::New => Terms {
+                widest: Width::LIMIT,
+                digits: Edition::DIGITS,
+                opens: 0x11,
+                adds: 0x12,
+            },
+        }
+    }
+
+    // Whether the two are one edition.
+    pub fn same(self, other: Edition) -> bool
+        ensures { λ r. ⌜ r ≡ same self other ⌝ }
+    {
+        let edition = self;
+        match edition {
+            Edition::Old => match other {
+                Edition::Old => true,
+                Edition::New => false,
+            },
+            Edition::New => match other {
+                Edition::Old => false,
+                Edition::New => true,
+            },
+        }
     }
 }
