@@ -2,23 +2,27 @@
 use mathlib.Core.Path.{_≡_, refl}
 use mathlib.Core.Bool.{true}
 use mathlib.Core.List.{List, _∷_, map}
+use Rattle.word.specs.declared.Edition.{Edition}
+use Rattle.word.specs.declared.Edition.the-variants.{New, Old}
+use Rattle.word.specs.Edition.{same, terms}
 use Rattle.word.specs.Word.{top}
 use Rattle.rule.specs.Meaning.{rule}
 use Rattle.accept.specs.Accept.{badConstant, badForm, badSense, every, ruleGrounds, strayBit}
 use Rattle.chain.specs.Cases.{Case, cases}
 use Rattle.page.specs.Calls.{Call, accepts, add, after, changed, firstThatApplies, grounds, isBlank, open-at, refusal, rulesOf, written}
-use Rattle.page.specs.Page.{at-width, entriesOf, newPage, no-page, page, rulesOn, widthOf}
+use Rattle.page.specs.Page.{at-width, editionOf, entriesOf, newPage, no-page, page, rulesOn, widthOf}
 
--- opening at the case's width, and each of its adds
-abbrev pub caseCalls : Case → List Call
-caseCalls c = open-at (at-width (c .width)) ∷ map add (c .rules)
+-- opening at the case's width in an edition, and each of its adds
+abbrev pub caseCalls : Edition → Case → List Call
+caseCalls e c = open-at (at-width (c .width) e) ∷ map (add e) (c .rules)
 
-pub cases-accepted : every (λ (c : Case). accepts no-page (caseCalls c)) cases ≡ true
+pub cases-accepted : (e : Edition) → every (λ (c : Case). accepts no-page (caseCalls e c)) cases ≡ true
 unfolding
-    every accepts refusal grounds ruleGrounds firstThatApplies isBlank badForm badSense badConstant strayBit top after written changed rulesOf widthOf entriesOf rulesOn
-cases-accepted = refl
+    every accepts refusal grounds ruleGrounds firstThatApplies isBlank badForm badSense badConstant strayBit top after written changed same terms editionOf rulesOf widthOf entriesOf rulesOn
+cases-accepted Old = refl
+cases-accepted New = refl
 
 -- "Case 9 becomes that refusal": form 7, 1, 2 at width 4
-pub case-9-refused : refusal (page (newPage (at-width 4))) (add (rule 7 0 1 2)) ≡ 5
-unfolding refusal grounds ruleGrounds firstThatApplies isBlank badForm badSense badConstant strayBit top widthOf
+pub case-9-refused : refusal (page (newPage (at-width 4 Old))) (add Old (rule 7 0 1 2)) ≡ 5
+unfolding refusal grounds ruleGrounds firstThatApplies isBlank badForm badSense badConstant strayBit top same editionOf widthOf
 case-9-refused = refl

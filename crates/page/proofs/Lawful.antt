@@ -1,4 +1,4 @@
--- Which pages accepted calls give: those with a width from 1 to 32 on which, with every waiting stretch written back, there are at
+-- Which pages accepted calls give: those with a width from 1 to the widest of their edition on which, with every waiting stretch written back, there are at
 -- most so many rules and marks, and no rule that would be refused. Each accepted call keeps that: a step back and a step forward
 -- because what is so restored stays the same, the others because they clear the pile. Assumes nothing.
 use mathlib.Core.Path.{_≡_, refl, sym, ap₂, subst}
@@ -9,6 +9,8 @@ use native.Mathlib.Omega.{arith}
 use borrow.Author.Tests.{eq-eqb, eqb-true}
 use lib.ListN.{length, length-append}
 use Rattle.word.specs.Word.{IsWidth}
+use Rattle.word.specs.Edition.{terms}
+use Rattle.word.proofs.Editions.{widest-held}
 use Rattle.word.proofs.Tests.{both-pass}
 use Rattle.rule.specs.declared.Rule.{Rule}
 use Rattle.rule.specs.Meaning.{AllLawful, RULES}
@@ -16,7 +18,7 @@ use Rattle.accept.specs.Accept.{acceptable, every, refusalOf}
 use Rattle.accept.proofs.Accepted.{all-lawful}
 use Rattle.accept.proofs.Every.{every-append}
 use Rattle.page.specs.Calls.{Call, add, ask, back, changed, forward, mark, open-at, refusal, written}
-use Rattle.page.specs.Page.{Entry, MARKS, OpenPage, Page, WIDEST, a-mark, a-rule, laidAside, marksOn, newPage, no-page, page, restored, rulesOn, takenUp, withEntries, withPile}
+use Rattle.page.specs.Page.{Entry, MARKS, OpenPage, Page, a-mark, a-rule, laidAside, marksOn, newPage, no-page, page, restored, rulesOn, takenUp, withEntries, withPile}
 use Rattle.page.specs.Reached.{Reached, start, step}
 use Rattle.page.proofs.Refusals.{added-rule, back-marked, blank-add, blank-back, blank-forward, blank-mark, marked-room, opened-width}
 use Rattle.page.proofs.Stretches.{Stretches, is-stretch, stretch-struck}
@@ -26,7 +28,7 @@ use Rattle.page.proofs.Stretches.{Stretches, is-stretch, stretch-struck
 -- what is asked of what stands on an open page
 pub record LawfulOpen (o : OpenPage) : Type 0 where
   pub low : 1 ≤ o .opening .width
-  pub high : o .opening .width ≤ WIDEST
+  pub high : o .opening .width ≤ terms (o .opening .edition) .widest
   pub rules-fit : length (rulesOn (o .entries)) ≤ RULES
   pub marks-fit : length (marksOn (o .entries)) ≤ MARKS
   pub allowed : every (acceptable (o .opening .width)) (rulesOn (o .entries)) ≡ true
@@ -100,9 +102,9 @@ unfolding written changed rulesOn marksOn every acceptable restored
 writes-lawful pg (open-at g) l e =
     let h = opened-width pg g e in
     cleared-lawful (newPage g) [] (record { low = h .0; high = h .1; rules-fit = omega arith; marks-fit = omega arith; allowed = refl })
-writes-lawful no-page (add r) l e = absurd (omega (arith, blank-add r))
-writes-lawful (page o) (add r) l e =
-    let h = added-rule o r e in
+writes-lawful no-page (add d r) l e = absurd (omega (arith, blank-add d r))
+writes-lawful (page o) (add d r) l e =
+    let h = added-rule o d r e in
     let k = standing-lawful l in
     cleared-lawful o _
     (record {
@@ -110,7 +112,7 @@ writes-lawful (page o) (add r) l e =
       high = k .high;
       rules-fit = omega (arith, length-append (rulesOn (o .entries)) (r ∷ []));
       marks-fit = k .marks-fit;
-      allowed = rw every-append (ap₂ _&&_ (k .allowed) (rw (eq-eqb _ 0 (h .0))));
+      allowed = rw every-append (ap₂ _&&_ (k .allowed) (rw (eq-eqb _ 0 (h .1))));
     })
 writes-lawful no-page mark l e = absurd (omega (arith, blank-mark))
 writes-lawful (page o) mark l e =
@@ -144,4 +146,4 @@ module _ {o : OpenPage} (l : LawfulOpen o) where
   lawful-rules = all-lawful (o .opening .width) (rulesOn (o .entries)) (l .allowed)
 
   pub lawful-width : IsWidth (o .opening .width)
-  lawful-width = record { low = l .low; high = omega (arith, l .high) }
+  lawful-width = record { low = l .low; high = omega (arith, l .high, widest-held (o .opening .edition)) }

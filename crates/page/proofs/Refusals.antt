@@ -2,7 +2,7 @@
 -- said where no number is given; and the page after a call, which is the clerk's or, where it is refused, the one before.
 -- Assumes nothing.
 use mathlib.Core.Path.{_≡_, refl, sym, _∙_}
-use mathlib.Core.Bool.{Bool, _&&_, and-false, cond}
+use mathlib.Core.Bool.{Bool, true, false, _&&_, and-false, cond}
 use mathlib.Core.List.{[], _∷_}
 use Prim.Native.Nat.{ℕ, _≤_, _<_}
 use native.Mathlib.Decide.{ℕ-discrete}
@@ -10,6 +10,8 @@ use native.Mathlib.Omega.{arith}
 use borrow.Author.Tests.{eq-eqb, eqb-false, le-leb, le-ltb, leb-false, leb-true, lt-leb, lt-ltb, ne-eqb, not-false}
 use lib.Dec.{eqb, leb}
 use lib.ListN.{length}
+use Rattle.word.specs.declared.Edition.{Edition}
+use Rattle.word.specs.Edition.{same, terms}
 use Rattle.word.proofs.Tests.{both-pass}
 use Rattle.rule.specs.declared.Rule.{Rule}
 use Rattle.rule.specs.Meaning.{RULES}
@@ -17,35 +19,39 @@ use Rattle.accept.specs.Accept.{refusalOf}
 use Rattle.accept.proofs.Grounds.{none-given, rule-first}
 use Rattle.chain.specs.Links.{chainRoom}
 use Rattle.page.specs.Calls.{Call, add, after, ask, back, firstThatApplies, forward, ground, grounds, isBlank, mark, marksOf, open-at, refusal, rulesOf, written}
-use Rattle.page.specs.Page.{MARKS, OpenPage, Opening, Page, WIDEST, entriesOf, marksOn, no-page, page, pileOf, rulesOn, widthOf}
+use Rattle.page.specs.declared.Opening.{Opening}
+use Rattle.page.specs.Page.{MARKS, OpenPage, Page, editionOf, entriesOf, marksOn, no-page, page, pileOf, rulesOn, widthOf}
 
 -- ---- opening
 
 module _ (pg : Page) (g : Opening) where
+  abbrev widest : ℕ
+  widest = terms (g .edition) .widest
+
   pub open-narrow : g .width < 1 → refusal pg (open-at g) ≡ 2
   unfolding refusal grounds firstThatApplies
   open-narrow h = rw (lt-leb 1 (g .width) h)
 
-  pub open-wide : WIDEST < g .width → refusal pg (open-at g) ≡ 2
+  pub open-wide : widest < g .width → refusal pg (open-at g) ≡ 2
   unfolding refusal grounds firstThatApplies
-  open-wide h = rw (lt-leb (g .width) WIDEST h, and-false)
+  open-wide h = rw (lt-leb (g .width) widest h, and-false)
 
-  pub open-fits : 1 ≤ g .width → g .width ≤ WIDEST → refusal pg (open-at g) ≡ 0
+  pub open-fits : 1 ≤ g .width → g .width ≤ widest → refusal pg (open-at g) ≡ 0
   unfolding refusal grounds firstThatApplies
-  open-fits l h = rw (le-leb 1 (g .width) l, le-leb (g .width) WIDEST h)
+  open-fits l h = rw (le-leb 1 (g .width) l, le-leb (g .width) widest h)
 
-  pub opened-width : refusal pg (open-at g) ≡ 0 → (1 ≤ g .width) × (g .width ≤ WIDEST)
+  pub opened-width : refusal pg (open-at g) ≡ 0 → (1 ≤ g .width) × (g .width ≤ widest)
   unfolding refusal grounds
   opened-width e =
       let w : ℕ = g .width in
-      let t = both-pass (leb 1 w) (leb w WIDEST) (not-false (leb 1 w && leb w WIDEST) (none-given 1 _ _ e .0)) in
-      (leb-true 1 w (t .0), leb-true w WIDEST (t .1))
+      let t = both-pass (leb 1 w) (leb w widest) (not-false (leb 1 w && leb w widest) (none-given 1 _ _ e .0)) in
+      (leb-true 1 w (t .0), leb-true w widest (t .1))
 
 -- ---- the blank sheet
 
-pub blank-add : (r : Rule) → refusal no-page (add r) ≡ 1
+pub blank-add : (e : Edition) (r : Rule) → refusal no-page (add e r) ≡ 1
 unfolding refusal grounds firstThatApplies isBlank
-blank-add r = refl
+blank-add e r = refl
 
 pub blank-mark : refusal no-page mark ≡ 1
 unfolding refusal grounds firstThatApplies isBlank
@@ -66,7 +72,12 @@ blank-ask m = refl
 -- ---- a page
 
 module _ (o : OpenPage) where
-  module _ (r : Rule) where
+  -- an add of another edition's frame
+  pub add-other : (e : Edition) (r : Rule) → same e (o .opening .edition) ≡ false → refusal (page o) (add e r) ≡ 11
+  unfolding refusal grounds firstThatApplies isBlank editionOf
+  add-other e r h = rw h
+
+  module _ (e : Edition) (r : Rule) where
     -- the number that the rule has by itself, and whether there is no place for it
     abbrev own : ℕ
     own = refusalOf (o .opening .width) r
@@ -74,29 +85,36 @@ module _ (o : OpenPage) where
     abbrev full : Bool
     full = leb RULES (length (rulesOn (o .entries)))
 
-    add-first : refusal (page o) (add r) ≡ cond (eqb own 0) (firstThatApplies (ground 6 full ∷ [])) own
-    unfolding refusal grounds firstThatApplies isBlank widthOf rulesOf entriesOf
-    add-first = rule-first (o .opening .width) r (ground 6 full ∷ [])
+    abbrev told : Type 0
+    told = same e (o .opening .edition) ≡ true
 
-    pub add-bad : (own ≡ 0 → ⊥) → refusal (page o) (add r) ≡ own
-    add-bad z = rw (add-first, ne-eqb own 0 z)
+    add-first : told → refusal (page o) (add e r) ≡ cond (eqb own 0) (firstThatApplies (ground 6 full ∷ [])) own
+    unfolding refusal grounds firstThatApplies isBlank editionOf widthOf rulesOf entriesOf
+    add-first t = rw t (rule-first (o .opening .width) r (ground 6 full ∷ []))
 
-    pub add-full : own ≡ 0 → RULES ≤ length (rulesOn (o .entries)) → refusal (page o) (add r) ≡ 6
+    pub add-bad : told → (own ≡ 0 → ⊥) → refusal (page o) (add e r) ≡ own
+    add-bad t z = rw (add-first t, ne-eqb own 0 z)
+
+    pub add-full : told → own ≡ 0 → RULES ≤ length (rulesOn (o .entries)) → refusal (page o) (add e r) ≡ 6
     unfolding firstThatApplies
-    add-full z h = rw (add-first, eq-eqb own 0 z, le-leb RULES (length (rulesOn (o .entries))) h)
+    add-full t z h = rw (add-first t, eq-eqb own 0 z, le-leb RULES (length (rulesOn (o .entries))) h)
 
-    pub add-fits : own ≡ 0 → length (rulesOn (o .entries)) < RULES → refusal (page o) (add r) ≡ 0
+    pub add-fits : told → own ≡ 0 → length (rulesOn (o .entries)) < RULES → refusal (page o) (add e r) ≡ 0
     unfolding firstThatApplies
-    add-fits z h = rw (add-first, eq-eqb own 0 z, lt-leb RULES (length (rulesOn (o .entries))) h)
+    add-fits t z h = rw (add-first t, eq-eqb own 0 z, lt-leb RULES (length (rulesOn (o .entries))) h)
 
-    pub added-rule : refusal (page o) (add r) ≡ 0 → (own ≡ 0) × (length (rulesOn (o .entries)) < RULES)
-    added-rule e = go (ℕ-discrete own 0)
+    pub added-rule : refusal (page o) (add e r) ≡ 0 → told × (own ≡ 0) × (length (rulesOn (o .entries)) < RULES)
+    unfolding refusal grounds isBlank editionOf
+    added-rule none = go (ℕ-discrete own 0)
       where
-        go : Dec (own ≡ 0) → (own ≡ 0) × (length (rulesOn (o .entries)) < RULES)
+        t : told
+        t = not-false _ (none-given 10 _ _ (none-given 0 _ _ none .1) .0)
+
+        go : Dec (own ≡ 0) → told × (own ≡ 0) × (length (rulesOn (o .entries)) < RULES)
         go (yes z) =
-            let q : firstThatApplies (ground 6 full ∷ []) ≡ 0 = rw (add-first, eq-eqb own 0 z) at e in
-            (z, leb-false RULES (length (rulesOn (o .entries))) (none-given 5 full [] q .0))
-        go (no z) = absurd (z (sym (add-bad z) ∙ e))
+            let q : firstThatApplies (ground 6 full ∷ []) ≡ 0 = rw (add-first t, eq-eqb own 0 z) at none in
+            (t, z, leb-false RULES (length (rulesOn (o .entries))) (none-given 5 full [] q .0))
+        go (no z) = absurd (z (sym (add-bad t z) ∙ none))
 
   pub mark-full : MARKS ≤ length (marksOn (o .entries)) → refusal (page o) mark ≡ 7
   unfolding refusal grounds firstThatApplies isBlank marksOf entriesOf

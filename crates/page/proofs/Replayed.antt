@@ -10,6 +10,8 @@ use native.Mathlib.Omega.{arith}
 use borrow.Author.Tests.{eq-eqb}
 use lib.Dec.{eqb}
 use lib.ListN.{length, replicate}
+use Rattle.word.specs.declared.Edition.{Edition}
+use Rattle.word.proofs.Editions.{same-self}
 use Rattle.word.proofs.Tests.{both-pass}
 use Rattle.page.specs.Calls.{Call, accepts, add, after, back, changed, clerk, enters, forward, gives, givesEach, mark, marksOf, open-at, refusal, replay, written}
 use Rattle.page.specs.Page.{Entry, OpenPage, Page, a-mark, a-rule, entriesOf, laidAside, marksOn, no-page, page, restored, takenUp, withEntries, withPile}
@@ -49,26 +51,30 @@ module _ (c : Call) where
 
 -- ---- what a page and its pile replay
 
-gives-more : (s es : List Entry) → gives (s ++ es) ≡ gives es ++ gives s
-unfolding gives
-gives-more [] es = sym (append-nil (gives es))
-gives-more (e ∷ s) es = ap (λ (cs : List Call). cs ++ enters e ∷ []) (gives-more s es) ∙ append-assoc (gives es) (gives s) (enters e ∷ [])
+module _ (d : Edition) where
+  gives-more : (s es : List Entry) → gives d (s ++ es) ≡ gives d es ++ gives d s
+  unfolding gives
+  gives-more [] es = sym (append-nil (gives d es))
+  gives-more (e ∷ s) es =
+      ap (λ (cs : List Call). cs ++ enters d e ∷ []) (gives-more s es) ∙ append-assoc (gives d es) (gives d s) (enters d e ∷ [])
 
-gives-all : (ss : List (List Entry)) (es : List Entry) (cs : List Call) → gives es ++ (givesEach ss ++ cs) ≡ gives (restored ss es) ++ cs
-unfolding givesEach restored
-gives-all [] es cs = refl
-gives-all (s ∷ ss) es cs =
-    ap (λ (ds : List Call). gives es ++ ds) (append-assoc (gives s) (givesEach ss) cs)
-    ∙ sym (append-assoc (gives es) (gives s) (givesEach ss ++ cs))
-    ∙ ap (λ (ds : List Call). ds ++ (givesEach ss ++ cs)) (sym (gives-more s es))
-    ∙ gives-all ss (s ++ es) cs
+  gives-all : (ss : List (List Entry)) (es : List Entry) (cs : List Call) → gives d es ++ (givesEach d ss ++ cs) ≡ gives d (restored ss es) ++ cs
+  unfolding givesEach restored
+  gives-all [] es cs = refl
+  gives-all (s ∷ ss) es cs =
+      ap (λ (ds : List Call). gives d es ++ ds) (append-assoc (gives d s) (givesEach d ss) cs)
+      ∙ sym (append-assoc (gives d es) (gives d s) (givesEach d ss ++ cs))
+      ∙ ap (λ (ds : List Call). ds ++ (givesEach d ss ++ cs)) (sym (gives-more s es))
+      ∙ gives-all ss (s ++ es) cs
 
 module _ (o : OpenPage) where
-  entered : (es : List Entry) → Lawfully o es → Leads (page (withEntries o [])) (gives es) (page (withEntries o es))
+  entered : (es : List Entry) → Lawfully o es → Leads (page (withEntries o [])) (gives (o .opening .edition) es) (page (withEntries o es))
   unfolding gives enters written changed
   entered [] l = leads-none (page (withEntries o []))
   entered (a-rule r ∷ es) l =
-      let u = under-rule o es r l in leads-on (entered es (u .0)) (leads-one _ (add r) (add-fits (withEntries o es) r (u .1) (u .2)) refl)
+      let u = under-rule o es r l in
+      let d : Edition = o .opening .edition in
+      leads-on (entered es (u .0)) (leads-one _ (add d r) (add-fits (withEntries o es) d r (same-self d) (u .1) (u .2)) refl)
   entered (a-mark ∷ es) l =
       let u = under-mark o es l in leads-on (entered es (u .0)) (leads-one _ mark (mark-fits (withEntries o es) (u .1)) refl)
 
@@ -96,7 +102,7 @@ lawful-replays (page o) l =
     let backs : List Call = replicate (length (o .pile)) back in
     let all : List Entry = restored (o .pile) (o .entries) in
     let opens = open-fits no-page (o .opening) (l .restores .low) (l .restores .high) in
-    rw (gives-all (o .pile) (o .entries) backs)
+    rw (gives-all (o .opening .edition) (o .pile) (o .entries) backs)
     (leads-on (leads-one no-page (open-at (o .opening)) opens refl)
     (leads-on (entered o all (l .restores)) (taken-back o (o .pile) (o .entries) (l .stretches))))
 

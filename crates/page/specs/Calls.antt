@@ -4,18 +4,21 @@ use mathlib.Core.List.{List, [], _∷_, _++_}
 use Prim.Native.Nat.{ℕ}
 use lib.Dec.{eqb, leb, ltb}
 use lib.ListN.{length, replicate}
+use Rattle.word.specs.declared.Edition.{Edition}
+use Rattle.word.specs.Edition.{same, terms}
 use Rattle.rule.specs.declared.Rule.{Rule}
 use Rattle.rule.specs.Meaning.{RULES}
 use Rattle.accept.specs.Accept.{ruleGrounds}
 pub use Rattle.accept.specs.Grounds.{Ground, ground}
 unfoldable pub use Rattle.accept.specs.Grounds.{firstThatApplies}
 use Rattle.chain.specs.Links.{chainRoom}
-use Rattle.page.specs.Page.{Entry, MARKS, OpenPage, Opening, Page, WIDEST, a-mark, a-rule, entriesOf, laidAside, marksOn, newPage, no-page, page, pileOf, rulesOn, takenUp, widthOf, withEntries}
+use Rattle.page.specs.declared.Opening.{Opening}
+use Rattle.page.specs.Page.{Entry, MARKS, OpenPage, Page, a-mark, a-rule, editionOf, entriesOf, laidAside, marksOn, newPage, no-page, page, pileOf, rulesOn, takenUp, widthOf, withEntries}
 
--- a call with what it is handed: of the buffer, only its length counts
+-- a call with what it is handed: an add has the edition of its frame, and of the buffer only its length counts
 pub data Call : Type 0 where
   open-at : Opening → Call
-  add : Rule → Call
+  add : Edition → Rule → Call
   mark : Call
   back : Call
   forward : Call
@@ -34,9 +37,13 @@ marksOf pg = marksOn (entriesOf pg)
 
 -- the table, a row for each number, of a call on the sheet that a page gives (3, 4 and 5: `ruleGrounds`)
 unfoldable pub grounds : Page → Call → List Ground
-grounds pg (open-at g) = ground 2 (not (leb 1 (g .width) && leb (g .width) WIDEST)) ∷ []
-grounds pg (add r) =
-    ground 1 (isBlank pg) ∷ (ruleGrounds (widthOf pg) r ++ ground 6 (leb RULES (length (rulesOf pg))) ∷ [])
+grounds pg (open-at g) = ground 2 (not (leb 1 (g .width) && leb (g .width) (terms (g .edition) .widest))) ∷ []
+grounds pg (add e r) =
+    ground 1 (isBlank pg)
+    ∷ (ground 11 (not (same e (editionOf pg)))
+    ∷ (ruleGrounds (widthOf pg) r
+    ++ ground 6 (leb RULES (length (rulesOf pg)))
+    ∷ []))
 grounds pg mark = ground 1 (isBlank pg) ∷ ground 7 (leb MARKS (length (marksOf pg))) ∷ []
 grounds pg back = ground 1 (isBlank pg) ∷ ground 8 (eqb (length (marksOf pg)) 0) ∷ []
 grounds pg forward = ground 1 (isBlank pg) ∷ ground 12 (eqb (length (pileOf pg)) 0) ∷ []
@@ -54,7 +61,7 @@ changed (page o) f = page (f o)
 -- what the clerk does at an accepted call: a new page, one entry more, a stretch struck out or written back, or nothing
 unfoldable pub written : Page → Call → Page
 written pg (open-at g) = page (newPage g)
-written pg (add r) = changed pg (λ o. withEntries o (a-rule r ∷ o .entries))
+written pg (add e r) = changed pg (λ o. withEntries o (a-rule r ∷ o .entries))
 written pg mark = changed pg (λ o. withEntries o (a-mark ∷ o .entries))
 written pg back = changed pg laidAside
 written pg forward = changed pg (λ o. takenUp (o .pile) o)
@@ -74,23 +81,25 @@ unfoldable pub accepts : Page → List Call → Bool
 accepts pg [] = true
 accepts pg (c ∷ cs) = eqb (refusal pg c) 0 && accepts (after pg c) cs
 
--- the call that writes an entry
-unfoldable pub enters : Entry → Call
-enters (a-rule r) = add r
-enters a-mark = mark
+-- the call that writes an entry, on a page of an edition
+unfoldable pub enters : Edition → Entry → Call
+enters e (a-rule r) = add e r
+enters e a-mark = mark
 
 -- the calls that give what stands, the oldest entry first
-unfoldable pub gives : List Entry → List Call
-gives [] = []
-gives (e ∷ es) = gives es ++ enters e ∷ []
+unfoldable pub gives : Edition → List Entry → List Call
+gives e [] = []
+gives e (x ∷ xs) = gives e xs ++ enters e x ∷ []
 
 -- "then every waiting stretch, the one next to come back first"
-unfoldable pub givesEach : List (List Entry) → List Call
-givesEach [] = []
-givesEach (s ∷ ss) = gives s ++ givesEach ss
+unfoldable pub givesEach : Edition → List (List Entry) → List Call
+givesEach e [] = []
+givesEach e (s ∷ ss) = gives e s ++ givesEach e ss
 
 -- "a fresh one given what stands on the page, then every waiting stretch, ..., and then taken back once for each of them": the calls
--- that a page and its pile replay
+-- that a page and its pile replay, "opened at that width and edition"
 unfoldable pub replay : Page → List Call
 replay no-page = []
-replay (page o) = open-at (o .opening) ∷ (gives (o .entries) ++ (givesEach (o .pile) ++ replicate (length (o .pile)) back))
+replay (page o) =
+    let e : Edition = o .opening .edition in
+    open-at (o .opening) ∷ (gives e (o .entries) ++ (givesEach e (o .pile) ++ replicate (length (o .pile)) back))

@@ -2,12 +2,11 @@
 use mathlib.Core.List.{List, [], _∷_, _++_}
 use Prim.Native.Nat.{ℕ, _-_}
 use lib.ListN.{length, replicate}
+use Rattle.word.specs.declared.Edition.{Edition}
+use Rattle.word.specs.declared.Edition.the-variants.{Old}
 use Rattle.rule.specs.declared.Rule.{Rule}
 use Rattle.rule.specs.Meaning.{rule}
-
--- "a width w from 1 to 32"
-abbrev pub WIDEST : ℕ
-WIDEST = 32
+use Rattle.page.specs.declared.Opening.{Opening}
 
 -- the most marks in force (01, raised by K6)
 abbrev pub MARKS : ℕ
@@ -19,11 +18,8 @@ pub data Entry : Type 0 where
   a-mark : Entry
 
 -- what an opening is given
-pub record Opening : Type 0 where
-  pub width : ℕ
-
-abbrev pub at-width : ℕ → Opening
-at-width w = record { width = w }
+abbrev pub at-width : ℕ → Edition → Opening
+at-width w e = record { width = w; edition = e }
 
 -- what an open page has: how it was opened, the entries that stand, the newest first, and the pile of stretches that wait, the one
 -- next to come back on top; a stretch has its entries newest first too
@@ -51,6 +47,11 @@ pub data Page : Type 0 where
 unfoldable pub widthOf : Page → ℕ
 widthOf no-page = 0
 widthOf (page o) = o .opening .width
+
+-- "The sheet keeps its edition"; before the first accepted opening it is the old one
+unfoldable pub editionOf : Page → Edition
+editionOf no-page = Old
+editionOf (page o) = o .opening .edition
 
 unfoldable pub entriesOf : Page → List Entry
 entriesOf no-page = []
