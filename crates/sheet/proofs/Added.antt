@@ -8,6 +8,7 @@ use native.Mathlib.Numerals.{add-one}
 use native.Mathlib.Omega.{arith}
 use lib.ListN.{length, length-set, replicate, set, take}
 use lib.Seq.{length-take-le, take-at, take-suc-set}
+use Rattle.word.specs.declared.Edition.{Edition}
 use Rattle.rule.specs.declared.Rule.{Rule}
 use Rattle.rule.specs.Meaning.{AllLawful, RULES}
 use Rattle.band.specs.declared.Band.{Band}
@@ -60,10 +61,11 @@ withOne h k f =
       fixed = f;
       given = h .count + 1;
       waiting = 0;
+      edition = h .edition;
     }
 
-module _ {h : Head} {rules marks from to : List ℕ} {side : List Bool} (held : Held h rules marks from to side) (e : before (h .stands) (h .width) ≡ 0) (u : Rule)
-    (p : Standing (packed h rules marks)) (q : refusal (page (p .on)) (add u) ≡ 0) where
+module _ {h : Head} {rules marks from to : List ℕ} {side : List Bool} (held : Held h rules marks from to side) (e : before (h .stands) (h .width) ≡ 0) (d : Edition) (u : Rule)
+    (p : Standing (packed h rules marks)) (q : refusal (page (p .on)) (add d u) ≡ 0) where
   abbrev w : ℕ
   w = h .width
 
@@ -82,11 +84,11 @@ module _ {h : Head} {rules marks from to : List ℕ} {side : List Bool} (held : 
 
   pub next-free : h .count < RULES
   unfolding packed
-  next-free = omega (arith, known p .count, added-rule _ _ q .1)
+  next-free = omega (arith, known p .count, added-rule _ _ _ q .2)
 
   bare-places : length bare ≡ RULES
   unfolding packed
-  bare-places = sym (length-set bare (h .count) u) ∙ known (with-rule u p q) .rules-length
+  bare-places = sym (length-set bare (h .count) u) ∙ known (with-rule d u p q) .rules-length
 
   rules-first : take (h .count) bare ≡ rs
   rules-first = take-at rs _ (h .count) (length-take-le (h .count) (rulesIn rules) (omega (arith, next-free, held .room .rules-places)))
@@ -107,17 +109,17 @@ module _ {h : Head} {rules marks from to : List ℕ} {side : List Bool} (held : 
 
     drawn-more : Drawn w n n (rulesIn rules′) (zipped from′ to′ side′) fixed
     drawn-more =
-        let d = drawn-so held e in
+        let a = drawn-so held e in
         record {
           own = taken-next (zipped from to side) (zipped from′ to′ side′) (h .count) (bandOf w u) (omega (arith, next-free, held .room .band-places)) laid
-              ∙ ap (λ (bs : List Band). bs ++ bandOf w u ∷ []) (d .own)
+              ∙ ap (λ (bs : List Band). bs ++ bandOf w u ∷ []) (a .own)
               ∙ sym (ap (map (bandOf w)) rules-more ∙ map-append (bandOf w) rs (u ∷ []));
-          bits = bits ∙ ap (λ (f : Fixed). joined f u) (d .bits) ∙ bits-last rs u ∙ ap fixedBits (sym rules-more);
+          bits = bits ∙ ap (λ (f : Fixed). joined f u) (a .bits) ∙ bits-last rs u ∙ ap fixedBits (sym rules-more);
         }
 
     lawful-more : AllLawful w (take n (rulesIn rules′))
     unfolding packed
-    lawful-more = subst (AllLawful w) (ap (take n) (sym rules-put)) (rules-lawful (with-rule u p q))
+    lawful-more = subst (AllLawful w) (ap (take n) (sym rules-put)) (rules-lawful (with-rule d u p q))
 
     band-places : length (zipped from′ to′ side′) ≡ RULES
     band-places = as-long _ (zipped from to side) (h .count) RULES (bandOf w u) laid (held .room .band-places)
@@ -142,15 +144,16 @@ module _ {h : Head} {rules marks from to : List ℕ} {side : List Bool} (held : 
             kept = (ap (λ (l : List Rule). kept w (take n l)) (sym rules-put) ∙ sym known-kept) i;
             given = n;
             waiting = 0;
+            edition = h .edition;
           }
 
-      pub added : After (packed h rules marks) (add u) 0 (withOne h k fixed) rules′ marks′ from′ to′ side′
+      pub added : After (packed h rules marks) (add d u) 0 (withOne h k fixed) rules′ marks′ from′ to′ side′
       unfolding Outcome written changed packed
       added =
-          let g = known (with-rule u p q) in
+          let g = known (with-rule d u p q) in
           record {
-            outcome = accepted-reads _ (p .reached) (p .gives) (add u) q (after-add _ (p .gives) (reached-page (p .reached)) u (added-rule _ _ q .1) ∙ record-more);
-            held = still-held (subst Standing record-more (with-rule u p q)) refl
+            outcome = accepted-reads _ (p .reached) (p .gives) (add d u) q (after-add _ (p .gives) (reached-page (p .reached)) u (added-rule _ _ _ q .2) ∙ record-more);
+            held = still-held (subst Standing record-more (with-rule d u p q)) refl
                 (record {
                   rules-places = ap length rules-put ∙ g .rules-length;
                   marks-places = ap length unmarked ∙ g .marks-length;

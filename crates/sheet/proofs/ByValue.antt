@@ -15,7 +15,8 @@ use Rattle.sheet.specs.declared.Sheet.{Sheet}
 use Rattle.page.specs.Calls.{Call, open-at, refusal}
 use Rattle.sheet.specs.Held.{Room, packed}
 use Rattle.sheet.specs.Laid.{After}
-use Rattle.page.specs.Page.{MARKS, Opening, no-page}
+use Rattle.page.specs.declared.Opening.{Opening}
+use Rattle.page.specs.Page.{MARKS, no-page}
 use Rattle.sheet.specs.Statements.{Asked, Outcome, answers, opened}
 use Rattle.sheet.proofs.Ways.{accepted-open, refused-open}
 

@@ -87,6 +87,7 @@ pub record Given (o : OpenPage) (s : Sheet) : Type 0 where
   pub all-rules : take (s .given) (s .rules) ≡ rulesOn (restored (o .pile) (o .entries))
   pub all-marks : take (s .marked + s .waiting) (s .marks) ≡ marksOn (restored (o .pile) (o .entries))
   pub waiting : s .waiting ≡ length (o .pile)
+  pub edition : s .edition ≡ o .opening .edition
   pub given-low : s .count ≤ s .given
   pub given-high : s .given ≤ RULES
   pub marks-high : s .marked + s .waiting ≤ MARKS
@@ -108,6 +109,7 @@ cleared s =
       kept = s .kept;
       given = s .count;
       waiting = 0;
+      edition = s .edition;
     }
 
 -- one rule or one mark more, where nothing waits
@@ -122,6 +124,7 @@ withRule s r =
       kept = kept (s .width) (take (s .count + 1) (set (s .rules) (s .count) r));
       given = s .count + 1;
       waiting = 0;
+      edition = s .edition;
     }
 
 abbrev pub withMark : Sheet → Sheet
@@ -135,6 +138,7 @@ withMark s =
       kept = s .kept;
       given = s .count;
       waiting = 0;
+      edition = s .edition;
     }
 
 -- the same rules and marks, of which so many rules and marks are in force, and so many stretches wait
@@ -149,6 +153,7 @@ moved s n m v =
       kept = kept (s .width) (take n (s .rules));
       given = s .given;
       waiting = v;
+      edition = s .edition;
     }
 
 -- how many rules a step back leaves, and how many are in force after a step forward
@@ -198,6 +203,7 @@ module _ (o : OpenPage) where
           all-rules = take-append-seam (rulesOn all) no-rules;
           all-marks = take-at (marksOn all) no-marks _ all-marked;
           waiting = refl;
+          edition = refl;
           given-low = omega (arith, ap length (restored-rules (o .pile) es), length-append (rulesOn es) (waitingRules (o .pile)));
           given-high = l .restores .rules-fit;
           marks-high = omega (arith, all-marked, l .restores .marks-fit);
@@ -217,6 +223,7 @@ module _ (o : OpenPage) where
           kept = kept w (rulesOn es);
           given = length (rulesOn es);
           waiting = 0;
+          edition = o .opening .edition;
         }
 
   add-fresh : (r : Rule) → length (rulesOn es) < RULES → fresh (page (withEntries o (a-rule r ∷ es))) ≡ withRule (fresh (page (withEntries o es))) r
@@ -236,6 +243,7 @@ module _ (o : OpenPage) where
         kept = kept w (held i);
         given = n i;
         waiting = 0;
+        edition = o .opening .edition;
       }
 
   mark-fresh : length (marksOn es) < MARKS → fresh (page (withEntries o (a-mark ∷ es))) ≡ withMark (fresh (page (withEntries o es)))
@@ -252,6 +260,7 @@ module _ (o : OpenPage) where
         kept = kept w (rulesOn es);
         given = n;
         waiting = 0;
+        edition = o .opening .edition;
       }
 
   -- another way to part what is restored
@@ -272,6 +281,7 @@ module _ (o : OpenPage) where
         kept = kept w (stand i);
         given = length (rulesOn (same i));
         waiting = length ss;
+        edition = o .opening .edition;
       }
 
   module _ (l : LawfulPile o) (some : 0 < length (marksOn es)) where

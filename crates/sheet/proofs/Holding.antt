@@ -9,6 +9,8 @@ use native.Mathlib.Omega.{arith}
 use borrow.Author.Tests.{eq-eqb, ne-eqb}
 use lib.ListN.{length, take}
 use lib.Seq.{take-take}
+use Rattle.word.specs.declared.Edition.{Edition}
+use Rattle.word.specs.Edition.{same}
 use Rattle.word.specs.Word.{IsWidth, top}
 use Rattle.rule.specs.declared.Rule.{Rule}
 use Rattle.rule.specs.Meaning.{AllLawful, RULES}
@@ -28,7 +30,7 @@ use Rattle.page.specs.Calls.{add, refusal}
 use Rattle.page.specs.Page.{OpenPage, page, rulesOn}
 use Rattle.sheet.specs.Stands.{RuleSeen, Standing, Stands, before-table, by-table, no-sheet}
 use Rattle.sheet.specs.Statements.{IsSheet}
-use Rattle.page.proofs.Refusals.{add-bad, add-fits, add-full}
+use Rattle.page.proofs.Refusals.{add-bad, add-fits, add-full, add-other}
 use Rattle.sheet.proofs.Stands.{has-page, has-width, is-blank, known, rules-lawful, width-of}
 use Rattle.sheet.proofs.Tested.{passes-sheet, sheet-passes}
 use Rattle.sheet.proofs.WaysOfAsking.{kept-on}
@@ -37,7 +39,7 @@ use Rattle.places.specs.Places.{rulesIn}
 use Rattle.sheet.specs.declared.Head.{Head}
 use Rattle.sheet.specs.Held.{Drawn, Held, Room, Waits, before, packed}
 use Rattle.sheet.specs.Laid.{ruleNumber}
-use Rattle.sheet.proofs.Numbers.{number-before, number-full, number-none, number-own}
+use Rattle.sheet.proofs.Numbers.{number-before, number-full, number-none, number-other, number-own}
 
 before-zero : (b : Bool) (w : ℕ) → before b w ≡ 0 → (b ≡ true) × (w ≡ 0 → ⊥)
 unfolding before
@@ -143,7 +145,7 @@ module _ {h : Head} {rules marks from to : List ℕ} {side : List Bool} (held : 
         (subst (Bounds w (map (bandOf w) (old ++ us)) (fixedBits (old ++ us))) (sym (kept-on on-sheet)) rises))
 
   -- the rule's number is the table's
-  module _ (u : Rule) (e : before (h .stands) (h .width) ≡ 0) where
+  module _ (d : Edition) (u : Rule) (e : before (h .stands) (h .width) ≡ 0) where
     abbrev on : OpenPage
     on = on-sheet e .on
 
@@ -155,20 +157,28 @@ module _ {h : Head} {rules marks from to : List ℕ} {side : List Bool} (held : 
     unfolding packed
     same-count = known (on-sheet e) .count
 
-    table-number : ruleNumber h u ≡ refusal (page on) (add u)
-    table-number = go (ℕ-discrete (refusalOf (h .width) u) 0) (decLt (h .count) RULES)
-      where
-        go : Dec (refusalOf (h .width) u ≡ 0) → Dec (h .count < RULES) → ruleNumber h u ≡ refusal (page on) (add u)
-        go (no z) d = sym (number-own h u e z) ∙ same-own ∙ sym (add-bad on u (λ t. z (same-own ∙ t)))
-        go (yes z) (no d) = sym (number-full h u e z (omega arith)) ∙ sym (add-full on u (sym same-own ∙ z) (omega (arith, same-count)))
-        go (yes z) (yes d) = sym (number-none h u e z d) ∙ sym (add-fits on u (sym same-own ∙ z) (omega (arith, same-count)))
+    same-edition : same d (h .edition) ≡ same d (on .opening .edition)
+    unfolding packed
+    same-edition = ap (same d) (known (on-sheet e) .edition)
 
-  pub rule-so : (u : Rule) → RuleSeen s u (ruleNumber h u)
-  rule-so u = go (ℕ-discrete (before (h .stands) (h .width)) 0)
+    table-number : ruleNumber h d u ≡ refusal (page on) (add d u)
+    table-number = go (same d (h .edition)) refl (ℕ-discrete (refusalOf (h .width) u) 0) (decLt (h .count) RULES)
+      where
+        go : (b : Bool) → same d (h .edition) ≡ b → Dec (refusalOf (h .width) u ≡ 0) → Dec (h .count < RULES)
+            → ruleNumber h d u ≡ refusal (page on) (add d u)
+        go false f y m = sym (number-other h d u e f) ∙ sym (add-other on d u (sym same-edition ∙ f))
+        go true t (no z) m = sym (number-own h d u e t z) ∙ same-own ∙ sym (add-bad on d u (sym same-edition ∙ t) (λ y. z (same-own ∙ y)))
+        go true t (yes z) (no m) =
+            sym (number-full h d u e t z (omega arith)) ∙ sym (add-full on d u (sym same-edition ∙ t) (sym same-own ∙ z) (omega (arith, same-count)))
+        go true t (yes z) (yes m) =
+            sym (number-none h d u e t z m) ∙ sym (add-fits on d u (sym same-edition ∙ t) (sym same-own ∙ z) (omega (arith, same-count)))
+
+  pub rule-so : (d : Edition) (u : Rule) → RuleSeen s d u (ruleNumber h d u)
+  rule-so d u = go (ℕ-discrete (before (h .stands) (h .width)) 0)
     where
-      go : Dec (before (h .stands) (h .width) ≡ 0) → RuleSeen s u (ruleNumber h u)
-      go (no z) = subst (RuleSeen s u) (number-before h u z) (before-table stands-so z)
-      go (yes e) = subst (RuleSeen s u) (sym (table-number u e)) (by-table (on-sheet e))
+      go : Dec (before (h .stands) (h .width) ≡ 0) → RuleSeen s d u (ruleNumber h d u)
+      go (no z) = subst (RuleSeen s d u) (number-before h d u z) (before-table stands-so z)
+      go (yes e) = subst (RuleSeen s d u) (sym (table-number d u e)) (by-table (on-sheet e))
 
 -- held again
 module _ {h : Head} {rules marks from to : List ℕ} {side : List Bool} where

@@ -39,6 +39,7 @@ markedHead h =
       fixed = h .fixed;
       given = h .count;
       waiting = 0;
+      edition = h .edition;
     }
 
 module _ {h : Head} {rules marks from to : List ℕ} {side : List Bool} (held : Held h rules marks from to side) (e : before (h .stands) (h .width) ≡ 0)
@@ -86,6 +87,7 @@ module _ {h : Head} {rules marks from to : List ℕ} {side : List Bool} (held : 
         kept = h .kept;
         given = h .count;
         waiting = 0;
+        edition = h .edition;
       }
 
   pub marked-after : After (packed h rules marks) mark 0 (markedHead h) rules′ marks′ from to side

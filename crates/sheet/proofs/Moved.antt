@@ -32,6 +32,7 @@ movedHead h n m v k f =
       fixed = f;
       given = h .given;
       waiting = v;
+      edition = h .edition;
     }
 
 module _ {h : Head} {rules marks from to : List ℕ} {side : List Bool} (held : Held h rules marks from to side) (e : before (h .stands) (h .width) ≡ 0) (n m v : ℕ)
@@ -71,6 +72,7 @@ module _ {h : Head} {rules marks from to : List ℕ} {side : List Bool} (held : 
             kept = sym (kept-found w n (rulesIn rules) (zipped from to side) fixed (width-so held e .low) moved-lawful moved-drawn found) i;
             given = h .given;
             waiting = v;
+            edition = h .edition;
           }
 
       pub moved-held : Held (movedHead h n m v k fixed) rules marks from to side

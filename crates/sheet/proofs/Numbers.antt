@@ -3,6 +3,9 @@ use mathlib.Core.Path.{_≡_, sym, _∙_}
 use Prim.Native.Nat.{ℕ, _≤_, _<_}
 use native.Mathlib.Decide.{ℕ-discrete}
 use borrow.Author.Tests.{eq-eqb, le-leb, lt-leb, ne-eqb}
+use mathlib.Core.Bool.{true, false}
+use Rattle.word.specs.declared.Edition.{Edition}
+use Rattle.word.specs.Edition.{same}
 use Rattle.rule.specs.declared.Rule.{Rule}
 use Rattle.rule.specs.Meaning.{RULES}
 use Rattle.accept.specs.Accept.{refusalOf}
@@ -10,27 +13,32 @@ use Rattle.sheet.specs.declared.Head.{Head}
 use Rattle.sheet.specs.Held.{before}
 use Rattle.sheet.specs.Laid.{ruleNumber}
 
-module _ (h : Head) (u : Rule) where
+module _ (h : Head) (d : Edition) (u : Rule) where
   abbrev first : ℕ
   first = before (h .stands) (h .width)
 
-  pub number-before : (first ≡ 0 → ⊥) → first ≡ ruleNumber h u
+  pub number-before : (first ≡ 0 → ⊥) → first ≡ ruleNumber h d u
   unfolding ruleNumber
   number-before z = sym (rw (ne-eqb first 0 z))
 
-  pub number-zero : ruleNumber h u ≡ 0 → first ≡ 0
+  pub number-zero : ruleNumber h d u ≡ 0 → first ≡ 0
   number-zero e = elim (ℕ-discrete first 0) [ yes z ↦ z | no z ↦ number-before z ∙ e ]
 
   module _ (none : first ≡ 0) where
-    pub number-own : (refusalOf (h .width) u ≡ 0 → ⊥) → refusalOf (h .width) u ≡ ruleNumber h u
+    pub number-other : same d (h .edition) ≡ false → 11 ≡ ruleNumber h d u
     unfolding ruleNumber
-    number-own z = sym (rw (eq-eqb first 0 none, ne-eqb (refusalOf (h .width) u) 0 z))
+    number-other t = sym (rw (eq-eqb first 0 none, t))
+
+  module _ (none : first ≡ 0) (told : same d (h .edition) ≡ true) where
+    pub number-own : (refusalOf (h .width) u ≡ 0 → ⊥) → refusalOf (h .width) u ≡ ruleNumber h d u
+    unfolding ruleNumber
+    number-own z = sym (rw (eq-eqb first 0 none, told, ne-eqb (refusalOf (h .width) u) 0 z))
 
     module _ (good : refusalOf (h .width) u ≡ 0) where
-      pub number-full : RULES ≤ h .count → 6 ≡ ruleNumber h u
+      pub number-full : RULES ≤ h .count → 6 ≡ ruleNumber h d u
       unfolding ruleNumber
-      number-full l = sym (rw (eq-eqb first 0 none, eq-eqb (refusalOf (h .width) u) 0 good, le-leb RULES (h .count) l))
+      number-full l = sym (rw (eq-eqb first 0 none, told, eq-eqb (refusalOf (h .width) u) 0 good, le-leb RULES (h .count) l))
 
-      pub number-none : h .count < RULES → 0 ≡ ruleNumber h u
+      pub number-none : h .count < RULES → 0 ≡ ruleNumber h d u
       unfolding ruleNumber
-      number-none l = sym (rw (eq-eqb first 0 none, eq-eqb (refusalOf (h .width) u) 0 good, lt-leb RULES (h .count) l))
+      number-none l = sym (rw (eq-eqb first 0 none, told, eq-eqb (refusalOf (h .width) u) 0 good, lt-leb RULES (h .count) l))

@@ -67,7 +67,7 @@ same-page (page o) (page q) l k e =
     let h = given q e k in
     let all = same-entries _ _ (sym (g .all-rules) ∙ h .all-rules) (sym (g .all-marks) ∙ h .all-marks) in
     let same = one-pile (o .pile) (q .pile) (o .entries) (q .entries) (l .stretches) (k .stretches) (sym (g .waiting) ∙ h .waiting) all in
-    λ i. page (record { opening = record { width = (sym (g .width) ∙ h .width) i }; entries = same .0 i; pile = same .1 i })
+    λ i. page (record { opening = record { width = (sym (g .width) ∙ h .width) i; edition = (sym (g .edition) ∙ h .edition) i }; entries = same .0 i; pile = same .1 i })
 
 pub one-page : {pg qg : Page} → Reached pg → Reached qg → fresh pg ≡ fresh qg → pg ≡ qg
 one-page {pg} {qg} r s e = same-page pg qg (reached-page r) (reached-page s) e

@@ -5,6 +5,8 @@ use mathlib.Core.List.{List, [], _++_}
 use Prim.Native.Nat.{ℕ, _-_, _≤_}
 use native.Mathlib.Omega.{arith}
 use lib.ListN.{drop, drop-of-length-le, length, length-replicate, replicate, take}
+use Rattle.word.specs.declared.Edition.{Edition}
+use Rattle.word.specs.Edition.{terms}
 use Rattle.rule.specs.declared.Rule.{Rule}
 use Rattle.rule.specs.Meaning.{AllLawful, RULES}
 use Rattle.band.specs.declared.Band.{Band}
@@ -12,7 +14,7 @@ use Rattle.bits.specs.declared.Fixed.the-variants.{Bits}
 use Rattle.bits.specs.Fixed.{fixedBits, fixedFrom}
 use Rattle.verdict.specs.declared.Kept.{Kept}
 use Rattle.page.specs.Calls.{changed, open-at, written}
-use Rattle.page.specs.Page.{MARKS, WIDEST, at-width, marksOn, newPage, no-page, page, restored, rulesOn}
+use Rattle.page.specs.Page.{MARKS, at-width, marksOn, newPage, no-page, page, restored, rulesOn}
 use Rattle.sheet.specs.Record.{fresh}
 use Rattle.sheet.specs.Statements.{Outcome, answers}
 use Rattle.page.specs.Reached.{start, step}
@@ -28,8 +30,8 @@ use Rattle.sheet.specs.Laid.{After}
 use Rattle.sheet.proofs.Holding.{Swept, still-held, swept}
 
 -- the head of a sheet with no rule
-abbrev pub newHead : ℕ → Kept → Head
-newHead w k =
+abbrev pub newHead : ℕ → Edition → Kept → Head
+newHead w e k =
     record {
       stands = true;
       width = w;
@@ -39,9 +41,10 @@ newHead w k =
       fixed = Bits 0 0;
       given = 0;
       waiting = 0;
+      edition = e;
     }
 
-module _ (w : ℕ) (low : 1 ≤ w) (high : w ≤ WIDEST) where
+module _ (w : ℕ) (e : Edition) (low : 1 ≤ w) (high : w ≤ terms e .widest) where
   no-rules : (rs : List Rule) (bands : List Band) → Drawn w 0 0 rs bands (Bits 0 0)
   unfolding fixedBits fixedFrom
   no-rules rs bands = record { own = refl; bits = refl }
@@ -58,7 +61,7 @@ module _ (w : ℕ) (low : 1 ≤ w) (high : w ≤ WIDEST) where
         let few : length (rulesIn rules) ≤ RULES = omega (arith, held .room .rules-places) in
         cleared ∙ ap (λ (l : List Rule). replicate RULES noRule ++ l) (drop-of-length-le (rulesIn rules) {i = RULES} few)
 
-    record-open : packed (newHead w k) rules′ marks′ ≡ fresh (page (newPage (at-width w)))
+    record-open : packed (newHead w e k) rules′ marks′ ≡ fresh (page (newPage (at-width w e)))
     unfolding packed fresh rulesOn marksOn restored fixedBits fixedFrom AllLawful
     record-open =
         λ i. record {
@@ -70,15 +73,16 @@ module _ (w : ℕ) (low : 1 ≤ w) (high : w ≤ WIDEST) where
           kept = (found ∙ kept-is w low [] tt) i;
           given = 0;
           waiting = 0;
+          edition = e;
         }
 
-    pub opened-so : After (packed h rules marks) (open-at (at-width w)) 0 (newHead w k) rules′ marks′ from to side
+    pub opened-so : After (packed h rules marks) (open-at (at-width w e)) 0 (newHead w e k) rules′ marks′ from to side
     unfolding Outcome written changed
     opened-so =
-        let fits = open-fits no-page (at-width w) low high in
+        let fits = open-fits no-page (at-width w e) low high in
         record {
-          outcome = ap (answers 0) record-open ∙ accepted-open (packed h rules marks) (at-width w) fits;
-          held = still-held (record { on = newPage (at-width w); reached = step start (open-at (at-width w)) fits; gives = record-open }) refl
+          outcome = ap (answers 0) record-open ∙ accepted-open (packed h rules marks) (at-width w e) fits;
+          held = still-held (record { on = newPage (at-width w e); reached = step start (open-at (at-width w e)) fits; gives = record-open }) refl
               (record {
                 rules-places = ap length empty ∙ length-replicate RULES noRule;
                 marks-places = ap length unmarked ∙ length-replicate {A = ℕ} MARKS 0;

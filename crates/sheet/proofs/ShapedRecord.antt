@@ -12,6 +12,7 @@ use lib.ListN.{drop, length, length-drop, replicate, take, take-append-drop}
 use lib.Seq.{drop-append-seam, drop-at, length-take-le, take-append-seam, take-at}
 use Rattle.word.proofs.Tests.{both-pass}
 use Rattle.rule.specs.declared.Rule.{Rule}
+use Rattle.word.specs.declared.Edition.{Edition}
 use Rattle.rule.specs.Meaning.{RULES}
 use Rattle.accept.specs.Accept.{acceptable, every, isNoRule}
 use Rattle.accept.proofs.Every.{even-every, every-even}
@@ -22,8 +23,8 @@ use Rattle.page.specs.Shape.{isZero, marksShaped, rising, rulesShaped}
 use Rattle.sheet.specs.Shape.{inForce, wellShaped}
 
 -- the record with these rules and marks, and zeros in the other places; so many of both are in force, and so many marks wait
-abbrev pub filled : (w : ℕ) → List Rule → List ℕ → (count marked waiting : ℕ) → Kept → Sheet
-filled w rs ms n m v k =
+abbrev pub filled : (w : ℕ) → List Rule → List ℕ → (count marked waiting : ℕ) → Kept → Edition → Sheet
+filled w rs ms n m v k e =
     record {
       width = w;
       rules = padded RULES noRule rs;
@@ -33,6 +34,7 @@ filled w rs ms n m v k =
       kept = k;
       given = length rs;
       waiting = v;
+      edition = e;
     }
 
 no-rule : (r : Rule) → isNoRule r ≡ true → r ≡ noRule
@@ -55,9 +57,9 @@ all-padded {A} n z l k e h d =
     let j : length (drop k l) ≡ n - length (take k l) = omega (arith, length-drop k l, length-take-le k l (omega arith)) in
     sym (take-append-drop k l) ∙ ap (λ (t : List A). take k l ++ t) (rw j at d)
 
-module _ (w : ℕ) (rs : List Rule) (ms : List ℕ) (n m v : ℕ) (k : Kept) where
+module _ (w : ℕ) (rs : List Rule) (ms : List ℕ) (n m v : ℕ) (k : Kept) (e : Edition) where
   pub shaped-filled : length rs ≤ RULES → length ms ≤ MARKS → length ms ≡ m + v → every (acceptable w) rs ≡ true → rising 0 ms (length rs) ≡ true
-      → inForce (length rs) (padded MARKS 0 ms) m v ≡ n → wellShaped (filled w rs ms n m v k) ≡ true
+      → inForce (length rs) (padded MARKS 0 ms) m v ≡ n → wellShaped (filled w rs ms n m v k e) ≡ true
   unfolding wellShaped rulesShaped marksShaped isNoRule
   shaped-filled few low many good rise counted =
       let none : List ℕ = replicate (MARKS - length ms) 0 in
@@ -82,7 +84,7 @@ pub record ShapedSheet (s : Sheet) : Type 0 where
   pub rise : rising 0 (marksIn s) (length (rulesIn s)) ≡ true
   pub many : length (marksIn s) ≡ s .marked + s .waiting
   pub counted : s .count ≡ inForce (s .given) (s .marks) (s .marked) (s .waiting)
-  pub places : s ≡ filled (s .width) (rulesIn s) (marksIn s) (s .count) (s .marked) (s .waiting) (s .kept)
+  pub places : s ≡ filled (s .width) (rulesIn s) (marksIn s) (s .count) (s .marked) (s .waiting) (s .kept) (s .edition)
 
 pub shaped-sheet : (s : Sheet) → length (s .rules) ≡ RULES → length (s .marks) ≡ MARKS → wellShaped s ≡ true → ShapedSheet s
 unfolding wellShaped rulesShaped marksShaped
@@ -115,5 +117,6 @@ shaped-sheet s a b e =
         kept = s .kept;
         given = sym c i;
         waiting = s .waiting;
+        edition = s .edition;
       };
     }

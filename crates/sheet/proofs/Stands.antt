@@ -6,6 +6,7 @@ use Prim.Native.Nat.{ℕ, _<_}
 use native.Mathlib.Omega.{arith}
 use lib.ListN.{length, take}
 use Rattle.word.specs.Word.{IsWidth}
+use Rattle.word.specs.declared.Edition.{Edition}
 use Rattle.rule.specs.declared.Rule.{Rule}
 use Rattle.rule.specs.Meaning.{AllLawful}
 use Rattle.sheet.specs.declared.Sheet.{Sheet}
@@ -52,12 +53,12 @@ has-page (blank-sheet e) z = absurd (omega arith)
 has-page (on-page p) z = p
 
 -- a rule that is refused, and one that is not
-pub refused-rule : {s : Sheet} {r : Rule} {n : ℕ} → RuleSeen s r n → (n ≡ 0 → ⊥) → Reads s (add r) (answers n s)
-refused-rule {r = r} (before-table t z) d = refused-standing t d (add r) (blank-add r)
-refused-rule {r = r} (by-table p) d = refused-reads (page (p .on)) (p .reached) (p .gives) (add r) refl d
+pub refused-rule : {s : Sheet} {e : Edition} {r : Rule} {n : ℕ} → RuleSeen s e r n → (n ≡ 0 → ⊥) → Reads s (add e r) (answers n s)
+refused-rule {e = e} {r = r} (before-table t z) d = refused-standing t d (add e r) (blank-add e r)
+refused-rule {e = e} {r = r} (by-table p) d = refused-reads (page (p .on)) (p .reached) (p .gives) (add e r) refl d
 
-pub accepted-rule : {s : Sheet} {r : Rule} {n : ℕ} → RuleSeen s r n → n ≡ 0
-    → (p : Standing s) × (refusal (page (p .on)) (add r) ≡ 0)
+pub accepted-rule : {s : Sheet} {e : Edition} {r : Rule} {n : ℕ} → RuleSeen s e r n → n ≡ 0
+    → (p : Standing s) × (refusal (page (p .on)) (add e r) ≡ 0)
 accepted-rule (before-table t z) e = absurd (z e)
 accepted-rule (by-table p) e = (p, e)
 
@@ -74,13 +75,13 @@ rules-lawful p =
     subst₂ AllLawful (sym (g .width)) (sym (g .rules)) (lawful-rules (reached-lawful (p .reached)))
 
 -- the record with one rule more, and those after a step back and a step forward, stand too
-pub with-rule : {s : Sheet} (r : Rule) (p : Standing s) → refusal (page (p .on)) (add r) ≡ 0 → Standing (withRule (cleared s) r)
+pub with-rule : {s : Sheet} (e : Edition) (r : Rule) (p : Standing s) → refusal (page (p .on)) (add e r) ≡ 0 → Standing (withRule (cleared s) r)
 unfolding written changed
-with-rule r p q =
+with-rule e r p q =
     record {
       on = withEntries (p .on) (a-rule r ∷ p .on .entries);
-      reached = step (p .reached) (add r) q;
-      gives = sym (after-add _ (p .gives) (reached-page (p .reached)) r (added-rule _ _ q .1));
+      reached = step (p .reached) (add e r) q;
+      gives = sym (after-add _ (p .gives) (reached-page (p .reached)) r (added-rule _ _ _ q .2));
     }
 
 pub stepped-back : {s : Sheet} (p : Standing s) → 0 < length (marksOn (p .on .entries)) → Standing (steppedBack s)

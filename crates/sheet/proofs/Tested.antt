@@ -10,13 +10,16 @@ use native.Mathlib.Omega.{arith}
 use borrow.Author.Tests.{eq-eqb, eqb-true, le-leb, leb-true, ne-eqb}
 use lib.Dec.{eqb, leb}
 use lib.ListN.{length, take}
+use Rattle.word.specs.declared.Edition.the-variants.{Old}
+use Rattle.word.specs.Edition.{same, terms}
+use Rattle.word.proofs.Editions.{same-told}
 use Rattle.word.proofs.Tests.{both-pass}
 use Rattle.rule.specs.Meaning.{RULES}
 use Rattle.accept.specs.Accept.{every, isNoRule}
 use Rattle.verdict.specs.declared.Kept.{Kept}
 use Rattle.verdict.specs.Kept.{keeps, kept}
 use Rattle.sheet.specs.declared.Sheet.{Sheet}
-use Rattle.page.specs.Page.{Entry, MARKS, OpenPage, Page, WIDEST, at-width, marksOn, newPage, no-page, padded, page, restored, rulesOn, withPile}
+use Rattle.page.specs.Page.{Entry, MARKS, OpenPage, Page, at-width, marksOn, newPage, no-page, padded, page, restored, rulesOn, withPile}
 use Rattle.sheet.specs.Record.{fresh}
 use Rattle.sheet.specs.Shape.{inForce, isSheet, sameKept, wellShaped}
 use Rattle.page.specs.Shape.{marksShaped, rising, rulesShaped}
@@ -47,16 +50,16 @@ passes-same k l e =
 -- ---- what a page gives passes
 
 fresh-passes : (pg : Page) → LawfulPage pg → isSheet (fresh pg) ≡ true
-unfolding isSheet fresh wellShaped inForce rulesShaped marksShaped every isNoRule rising sameKept
+unfolding isSheet fresh wellShaped inForce rulesShaped marksShaped every isNoRule rising sameKept same
 fresh-passes no-page l = refl
 fresh-passes (page o) l =
     let w : ℕ = o .opening .width in
     let all : List Entry = restored (o .pile) (o .entries) in
     let k = l .restores in
     ap₂ _&&_
-    (shaped-filled w (rulesOn all) (marksOn all) _ _ _ (kept w (rulesOn (o .entries))) (k .rules-fit) (k .marks-fit) (restored-marked (o .pile) (o .entries) (l .stretches)) (k .allowed)
+    (shaped-filled w (rulesOn all) (marksOn all) _ _ _ (kept w (rulesOn (o .entries))) (o .opening .edition) (k .rules-fit) (k .marks-fit) (restored-marked (o .pile) (o .entries) (l .stretches)) (k .allowed)
     (shaped-marks-rise all) (in-force (o .pile) (o .entries) (l .stretches) _))
-    (rw (ne-eqb w 0 (omega arith), given o refl l .rules) (ap₂ _&&_ (le-leb w WIDEST (k .high)) (same-passes (kept w (rulesOn (o .entries))))))
+    (rw (ne-eqb w 0 (omega arith), given o refl l .rules) (ap₂ _&&_ (le-leb w _ (k .high)) (same-passes (kept w (rulesOn (o .entries))))))
 
 pub sheet-passes : (s : Sheet) → IsSheet s → isSheet s ≡ true
 sheet-passes s h = rw (h .gives) (fresh-passes (h .on) (reached-page (h .reached)))
@@ -66,7 +69,8 @@ sheet-passes s h = rw (h .gives) (fresh-passes (h .on) (reached-page (h .reached
 passes-blank : (s : Sheet) → ShapedSheet s → s .width ≡ 0 → isSheet s ≡ true → IsSheet s
 unfolding isSheet fresh
 passes-blank s h z e =
-    let given = both-pass (eqb (s .given) 0) _ (rw (eq-eqb (s .width) 0 z) at (both-pass (wellShaped s) _ e .1)) in
+    let edition = both-pass (same (s .edition) Old) _ (rw (eq-eqb (s .width) 0 z) at (both-pass (wellShaped s) _ e .1)) in
+    let given = both-pass (eqb (s .given) 0) _ (edition .1) in
     let marked = both-pass (eqb (s .marked) 0) _ (given .1) in
     let waiting = both-pass (eqb (s .waiting) 0) _ (marked .1) in
     let g : s .given ≡ 0 = eqb-true (s .given) 0 (given .0) in
@@ -77,7 +81,7 @@ passes-blank s h z e =
     record {
       on = no-page;
       reached = start;
-      gives = h .places ∙ (λ i. filled (z i) (take (g i) (s .rules)) (take (m i + v i) (s .marks)) (c i) (m i) (v i) (k i));
+      gives = h .places ∙ (λ i. filled (z i) (take (g i) (s .rules)) (take (m i + v i) (s .marks)) (c i) (m i) (v i) (k i) (same-told (s .edition) Old (edition .0) i));
     }
 
 -- a record's rules and marks are those of a page: what is noted is entered, and what waits is laid aside again
@@ -108,22 +112,22 @@ module _ (s : Sheet) (h : ShapedSheet s) where
       ∙ (λ i. inForce (given i) (marks i) (noted-marked i) (sym (parts .many) i))
       ∙ in-force (parts .pile) (parts .left) (parts .stretches) _
 
-  noted-places : s ≡ filled (s .width) (rulesOn all) (marksOn all) (length (rulesOn (parts .left))) (length (marksOn (parts .left))) (length (parts .pile)) (s .kept)
+  noted-places : s ≡ filled (s .width) (rulesOn all) (marksOn all) (length (rulesOn (parts .left))) (length (marksOn (parts .left))) (length (parts .pile)) (s .kept) (s .edition)
   noted-places =
-      h .places ∙ (λ i. filled (s .width) (noted-rules i) (noted-marks i) (noted-count i) (noted-marked i) (sym (parts .many) i) (s .kept))
+      h .places ∙ (λ i. filled (s .width) (noted-rules i) (noted-marks i) (noted-count i) (noted-marked i) (sym (parts .many) i) (s .kept) (s .edition))
 
 passes-opened : (s : Sheet) → ShapedSheet s → (s .width ≡ 0 → ⊥) → isSheet s ≡ true → IsSheet s
 unfolding isSheet fresh
 passes-opened s h z e =
     let w : ℕ = s .width in
-    let t = both-pass (leb w WIDEST) _ (rw (ne-eqb w 0 z) at (both-pass (wellShaped s) _ e .1)) in
+    let t = both-pass (leb w (terms (s .edition) .widest)) _ (rw (ne-eqb w 0 z) at (both-pass (wellShaped s) _ e .1)) in
     let p = parts s h in
-    let o : OpenPage = withPile (newPage (at-width w)) (p .left) (p .pile) in
+    let o : OpenPage = withPile (newPage (at-width w (s .edition))) (p .left) (p .pile) in
     let l : LawfulPile o =
     record {
       restores = record {
         low = omega arith;
-        high = leb-true w WIDEST (t .0);
+        high = leb-true w _ (t .0);
         rules-fit = rw (← noted-rules s h) (h .few-rules);
         marks-fit = rw (← noted-marks s h) (h .few-marks);
         allowed = rw (← noted-rules s h) (h .good-rules);
@@ -137,7 +141,7 @@ passes-opened s h z e =
     record {
       on = page o;
       reached = lawful-reached (page o) l;
-      gives = noted-places s h ∙ (λ i. filled w (rulesOn (all s h)) (marksOn (all s h)) (length (rulesOn (p .left))) (length (marksOn (p .left))) (length (p .pile)) (k i));
+      gives = noted-places s h ∙ (λ i. filled w (rulesOn (all s h)) (marksOn (all s h)) (length (rulesOn (p .left))) (length (marksOn (p .left))) (length (p .pile)) (k i) (s .edition));
     }
 
 pub passes-sheet : (s : Sheet) → length (s .rules) ≡ RULES → length (s .marks) ≡ MARKS → isSheet s ≡ true → IsSheet s

@@ -6,13 +6,14 @@ use Prim.Native.Nat.{_≤_}
 use borrow.Author.Tests.{eq-eqb, ne-eqb}
 use lib.Dec.{eqb, leb}
 use lib.ListN.{take}
+use Rattle.word.specs.declared.Edition.the-variants.{Old}
+use Rattle.word.specs.Edition.{same, terms}
 use Rattle.word.specs.Word.{IsWidth}
 use Rattle.word.proofs.Tests.{both-pass}
 use Rattle.rule.specs.Meaning.{AllLawful, RULES}
 use Rattle.accept.specs.Accept.{every, isNoRule}
 use Rattle.verdict.specs.Kept.{keeps, kept}
 use Rattle.sheet.specs.declared.Sheet.{Sheet}
-use Rattle.page.specs.Page.{WIDEST}
 use Rattle.page.specs.Shape.{isZero, marksShaped, rising, rulesShaped}
 use Rattle.sheet.specs.Shape.{Whole, inForce, isSheet, sameKept, wellShaped}
 use Rattle.sheet.specs.Stands.{Standing}
@@ -21,12 +22,12 @@ use Rattle.sheet.proofs.Tested.{passes-sheet, same-passes}
 
 -- the shape that a record whose width is not 0 must have
 abbrev pub shape : Sheet → Bool
-shape s = wellShaped s && leb (s .width) WIDEST
+shape s = wellShaped s && leb (s .width) (terms (s .edition) .widest)
 
 module _ (s : Sheet) (open-sheet : s .width ≡ 0 → ⊥) where
   told : isSheet s ≡ (shape s && sameKept (s .kept) (kept (s .width) (take (s .count) (s .rules))))
   unfolding isSheet
-  told = rw (ne-eqb (s .width) 0 open-sheet) (sym (and-assoc (wellShaped s) (leb (s .width) WIDEST) _))
+  told = rw (ne-eqb (s .width) 0 open-sheet) (sym (and-assoc (wellShaped s) (leb (s .width) (terms (s .edition) .widest)) _))
 
   abbrev keeps-so : Bool
   keeps-so = sameKept (s .kept) (kept (s .width) (take (s .count) (s .rules)))
@@ -50,6 +51,7 @@ module _ (s : Sheet) (open-sheet : s .width ≡ 0 → ⊥) where
           kept = kept (s .width) (take (s .count) (s .rules));
           given = s .given;
           waiting = s .waiting;
+          edition = s .edition;
         }
 
     right-passes : isSheet put-right ≡ true
@@ -73,11 +75,11 @@ module _ (s : Sheet) (open-sheet : s .width ≡ 0 → ⊥) where
     pub told-lawful : AllLawful (s .width) (take (s .count) (s .rules))
     told-lawful = rules-lawful told-right
 
--- where the width is 0, and no rule is given and no mark set or waiting
-module _ (s : Sheet) (width : s .width ≡ 0) (given : s .given ≡ 0) (marked : s .marked ≡ 0) (waiting : s .waiting ≡ 0) where
+-- where the width is 0 in the old edition, and no rule is given and no mark set or waiting
+module _ (s : Sheet) (width : s .width ≡ 0) (edition : same (s .edition) Old ≡ true) (given : s .given ≡ 0) (marked : s .marked ≡ 0) (waiting : s .waiting ≡ 0) where
   blank-told : isSheet s ≡ ((eqb (s .count) 0 && (every isNoRule (s .rules) && every isZero (s .marks))) && sameKept (s .kept) (keeps 0 0 0))
   unfolding isSheet wellShaped inForce rulesShaped marksShaped every rising
-  blank-told = rw (width, given, marked, waiting)
+  blank-told = rw (width, edition, given, marked, waiting)
 
   pub blank-count : (s .count ≡ 0 → ⊥) → false ≡ isSheet s
   blank-count z = sym (blank-told ∙ rw (ne-eqb (s .count) 0 z))

@@ -7,7 +7,8 @@ use borrow.Author.Tests.{eq-eqb, ne-eqb}
 use Rattle.sheet.specs.declared.Answer.{Answer}
 use Rattle.sheet.specs.declared.Sheet.{Sheet}
 use Rattle.page.specs.Calls.{Call, after, open-at, refusal, written}
-use Rattle.page.specs.Page.{Opening, Page, newPage, no-page, page}
+use Rattle.page.specs.declared.Opening.{Opening}
+use Rattle.page.specs.Page.{Page, newPage, no-page, page}
 use Rattle.sheet.specs.Record.{fresh}
 use Rattle.page.specs.Reached.{Reached}
 use Rattle.sheet.specs.Statements.{Reads, answers, opened}

@@ -31,6 +31,7 @@ packed h rules marks =
       kept = h .kept;
       given = h .given;
       waiting = h .waiting;
+      edition = h .edition;
     }
 
 -- as many places as a record has
@@ -78,4 +79,5 @@ stood h b =
       fixed = h .fixed;
       given = h .given;
       waiting = h .waiting;
+      edition = h .edition;
     }

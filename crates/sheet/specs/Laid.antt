@@ -3,6 +3,8 @@ use mathlib.Core.Bool.{Bool, cond}
 use mathlib.Core.List.{List}
 use Prim.Native.Nat.{ℕ}
 use lib.Dec.{eqb, leb}
+use Rattle.word.specs.declared.Edition.{Edition}
+use Rattle.word.specs.Edition.{same}
 use Rattle.rule.specs.declared.Rule.{Rule}
 use Rattle.rule.specs.Meaning.{RULES}
 use Rattle.accept.specs.Accept.{refusalOf}
@@ -17,9 +19,9 @@ pub record After (s : Sheet) (c : Call) (n : ℕ) (h : Head) (rules marks from t
   pub outcome : Outcome s c (answers n (packed h rules marks))
   pub held : Held h rules marks from to side
 
--- the number with which a rule is refused, or 0: what comes before the table, then the rule's own number, then 6
-unfoldable pub ruleNumber : Head → Rule → ℕ
-ruleNumber h u =
+-- the number with which a rule is refused, or 0: what comes before the table, then 11, then the rule's own number, then 6
+unfoldable pub ruleNumber : Head → Edition → Rule → ℕ
+ruleNumber h e u =
     let n : ℕ = before (h .stands) (h .width) in
     let own : ℕ = refusalOf (h .width) u in
-    cond (eqb n 0) (cond (eqb own 0) (cond (leb RULES (h .count)) 6 0) own) n
+    cond (eqb n 0) (cond (same e (h .edition)) (cond (eqb own 0) (cond (leb RULES (h .count)) 6 0) own) 11) n

@@ -1,13 +1,14 @@
 -- The record that a page gives (01, "What a sheet is").
 use mathlib.Core.List.{List}
 use lib.ListN.{length, replicate}
+use Rattle.word.specs.declared.Edition.the-variants.{Old}
 use Rattle.rule.specs.declared.Rule.{Rule}
 use Rattle.rule.specs.Meaning.{RULES}
 use Rattle.verdict.specs.Kept.{keeps, kept}
 use Rattle.page.specs.Page.{Entry, MARKS, Page, marksOn, no-page, noRule, padded, page, restored, rulesOn}
 use Rattle.sheet.specs.declared.Sheet.{Sheet}
 
--- "The blank sheet has width 0 and zeros everywhere."
+-- "The blank sheet has width 0 and zeros everywhere." It is of the old edition.
 abbrev pub blank : Sheet
 blank =
     record {
@@ -19,6 +20,7 @@ blank =
       kept = keeps 0 0 0;
       given = 0;
       waiting = 0;
+      edition = Old;
     }
 
 -- The record that a page and its pile give: what stands, after that what waits, zeros in the other places, and what is kept of the rules
@@ -37,4 +39,5 @@ fresh (page o) =
       kept = kept (o .opening .width) rs;
       given = length (rulesOn all);
       waiting = length (o .pile);
+      edition = o .opening .edition;
     }

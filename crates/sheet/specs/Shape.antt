@@ -1,5 +1,5 @@
 -- How a record is told to be a sheet. A route and no meaning: that the test passes exactly for sheets is proved
--- (proofs/Tested.antt). What it looks at: the width, that each rule in force or waiting would be accepted, that the marks rise up to
+-- (proofs/Tested.antt). What it looks at: the width and the edition, that each rule in force or waiting would be accepted, that the marks rise up to
 -- these rules, that the other places hold zeros, where what waits begins, and what is kept.
 use mathlib.Core.Path.{_≡_}
 use mathlib.Core.Bool.{Bool, _&&_, cond}
@@ -7,12 +7,14 @@ use mathlib.Core.List.{List}
 use Prim.Native.Nat.{ℕ, _+_, _-_}
 use lib.Dec.{eqb, leb}
 use lib.ListN.{getD, length, take}
+use Rattle.word.specs.declared.Edition.the-variants.{Old}
+use Rattle.word.specs.Edition.{same, terms}
 use Rattle.rule.specs.declared.Rule.{Rule}
 use Rattle.rule.specs.Meaning.{RULES}
 use Rattle.verdict.specs.declared.Kept.{Kept}
 use Rattle.verdict.specs.Kept.{keeps, kept}
 use Rattle.sheet.specs.declared.Sheet.{Sheet}
-use Rattle.page.specs.Page.{MARKS, WIDEST}
+use Rattle.page.specs.Page.{MARKS}
 use Rattle.page.specs.Shape.{marksShaped, rulesShaped}
 
 -- as many places as a record has
@@ -37,10 +39,10 @@ wellShaped s =
     && (eqb (s .count) (inForce (s .given) (s .marks) (s .marked) (s .waiting))
     && (rulesShaped (s .width) (s .given) (s .rules) && marksShaped (s .given) (s .marked + s .waiting) (s .marks)))))
 
--- the blank sheet, or a width with well shaped rules and marks and what is kept of the rules in force
+-- the blank sheet, or a width of the edition with well shaped rules and marks and what is kept of the rules in force
 unfoldable pub isSheet : Sheet → Bool
 isSheet s =
     wellShaped s
     && cond (eqb (s .width) 0)
-    (eqb (s .given) 0 && (eqb (s .marked) 0 && (eqb (s .waiting) 0 && sameKept (s .kept) (keeps 0 0 0))))
-    (leb (s .width) WIDEST && sameKept (s .kept) (kept (s .width) (take (s .count) (s .rules))))
+    (same (s .edition) Old && (eqb (s .given) 0 && (eqb (s .marked) 0 && (eqb (s .waiting) 0 && sameKept (s .kept) (keeps 0 0 0)))))
+    (leb (s .width) (terms (s .edition) .widest) && sameKept (s .kept) (kept (s .width) (take (s .count) (s .rules))))

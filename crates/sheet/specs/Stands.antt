@@ -1,6 +1,7 @@
 -- What a record is found to be before a call looks at anything else.
 use mathlib.Core.Path.{_≡_}
 use Prim.Native.Nat.{ℕ}
+use Rattle.word.specs.declared.Edition.{Edition}
 use Rattle.rule.specs.declared.Rule.{Rule}
 use Rattle.sheet.specs.declared.Sheet.{Sheet}
 use Rattle.page.specs.Calls.{add, refusal}
@@ -22,6 +23,6 @@ pub data Stands (s : Sheet) : ℕ → Type 0 where
   on-page : Standing s → Stands s 0
 
 -- the number with which a rule is refused, or 0: one of those, else what the table says
-pub data RuleSeen (s : Sheet) (r : Rule) : ℕ → Type 0 where
-  before-table : {n : ℕ} → Stands s n → (n ≡ 0 → ⊥) → RuleSeen s r n
-  by-table : (p : Standing s) → RuleSeen s r (refusal (page (p .on)) (add r))
+pub data RuleSeen (s : Sheet) (e : Edition) (r : Rule) : ℕ → Type 0 where
+  before-table : {n : ℕ} → Stands s n → (n ≡ 0 → ⊥) → RuleSeen s e r n
+  by-table : (p : Standing s) → RuleSeen s e r (refusal (page (p .on)) (add e r))

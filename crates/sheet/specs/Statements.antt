@@ -14,7 +14,8 @@ use Rattle.sheet.specs.declared.Answer.{Answer}
 use Rattle.sheet.specs.declared.Reply.{Reply}
 use Rattle.sheet.specs.declared.Sheet.{Sheet}
 use Rattle.page.specs.Calls.{Call, add, after, ask, back, forward, mark, open-at, refusal, rulesOf}
-use Rattle.page.specs.Page.{Opening, Page, newPage, no-page, page, widthOf}
+use Rattle.page.specs.declared.Opening.{Opening}
+use Rattle.page.specs.Page.{Page, newPage, no-page, page, widthOf}
 use Rattle.page.specs.Reached.{Reached}
 use Rattle.sheet.specs.Record.{fresh}
 
@@ -42,7 +43,7 @@ pub record Reads (s : Sheet) (c : Call) (r : Answer) : Type 0 where
 -- What each call answers: an opening reads no record, the others do. Asking gives a reply (`Asked`).
 unfoldable pub Outcome : Sheet → Call → Answer → Type 0
 Outcome s (open-at g) r = r ≡ opened s g
-Outcome s (add u) r = Reads s (add u) r
+Outcome s (add e u) r = Reads s (add e u) r
 Outcome s mark r = Reads s mark r
 Outcome s back r = Reads s back r
 Outcome s forward r = Reads s forward r

@@ -15,12 +15,13 @@ use crate::standing;
 use band::Band;
 use places::NUMBERS;
 use rule::Rule;
+use word::Edition;
 use word::Width;
 
 impl Sheet {
-    // Adds a rule.
-    pub fn add(self, rule: Rule) -> Answer
-        ensures { λ r. ⌜ Outcome self (add rule) r ⌝ }
+    // Adds a rule, from a frame of an edition.
+    pub fn add(self, edition: Edition, rule: Rule) -> Answer
+        ensures { λ r. ⌜ Outcome self (add edition rule) r ⌝ }
     {
         let mut rules = [0; NUMBERS];
         let mut marks: [usize; Sheet::MARKS] = [0; Sheet::MARKS];
@@ -35,13 +36,14 @@ impl Sheet {
             &mut from,
             &mut to,
             &mut side,
+            edition,
             rule,
         );
         laying::answered(said, &rules, &marks)
     }
 }
 
-// Adds a rule: what waited is taken away, the rule's band is laid beside those in force, and what is kept is found from the old ends.
+// Adds a rule, from a frame of an edition: what waited is taken away, the rule's band is laid beside those in force, and what is kept is found from the old ends.
 pub fn add(
     head: Head,
     rules: &mut [u64; NUMBERS],
@@ -49,16 +51,18 @@ pub fn add(
     from: &mut [u64; Rule::LIMIT],
     to: &mut [u64; Rule::LIMIT],
     side: &mut [bool; Rule::LIMIT],
+    edition: Edition,
     rule: Rule,
 ) -> Said
     requires { ⌜ Held head (now rules) (now marks) (now from) (now to) (now side) ⌝ }
-    ensures { λ r. ⌜ After (packed head (now (rules .entry)) (now (marks .entry))) (add rule) (r .number) (r .head) (now (rules .exit)) (now (marks .exit)) (now (from .exit)) (now (to .exit)) (now (side .exit)) ⌝ }
+    ensures { λ r. ⌜ After (packed head (now (rules .entry)) (now (marks .entry))) (add edition rule) (r .number) (r .head) (now (rules .exit)) (now (marks .exit)) (now (from .exit)) (now (to .exit)) (now (side .exit)) ⌝ }
 {
     let count = head.count;
     let width = head.width;
     let old = head.fixed;
     let found = head.kept;
-    let number = refuses_rule(head, rule);
+    let kind = head.edition;
+    let number = refuses_rule(head, edition, rule);
     if number != 0 {
         return Said { number, head };
     }
@@ -79,19 +83,24 @@ pub fn add(
         fixed,
         given: next,
         waiting: 0,
+        edition: kind,
     };
     Said { number: 0, head }
 }
 
-// The number with which a rule is refused, or 0.
-fn refuses_rule(head: Head, rule: Rule) -> u64
+// The number with which a rule is refused, or 0. Another edition's frame is refused before the rule is looked at.
+fn refuses_rule(head: Head, edition: Edition, rule: Rule) -> u64
     requires { ⌜ (before (head .stands) (head .width) ≡ 0 → IsWidth (head .width)) ⌝ }
-    ensures { λ r. ⌜ r ≡ ruleNumber head rule ⌝ }
+    ensures { λ r. ⌜ r ≡ ruleNumber head edition rule ⌝ }
 {
     let count = head.count;
+    let kind = head.edition;
     let number = standing::standing(head);
     if number != 0 {
         return number;
+    }
+    if !edition.same(kind) {
+        return 11;
     }
     let bad = accept::refusal_of(rule, Width { bits: head.width });
     if bad != 0 {

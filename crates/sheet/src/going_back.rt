@@ -57,6 +57,7 @@ pub fn back(
     let fixed = places::bits_of(rules, left);
     let bits = Width { bits: width };
     let kept = verdict::laid::solve(from, to, side, left, fixed, bits, 0, bits.top());
+    let edition = head.edition;
     let head = Head {
         stands: true,
         width,
@@ -66,6 +67,7 @@ pub fn back(
         fixed,
         given: head.given,
         waiting: more,
+        edition,
     };
     Said { number: 0, head }
 }

@@ -60,6 +60,7 @@ pub fn forward(
     let bits = Width { bits: head.width };
     let found = head.kept;
     let kept = verdict::laid::narrowed(from, to, side, count, fixed, bits, found);
+    let edition = head.edition;
     let head = Head {
         stands: true,
         width: head.width,
@@ -69,6 +70,7 @@ pub fn forward(
         fixed,
         given,
         waiting: left,
+        edition,
     };
     Said { number: 0, head }
 }

@@ -32,6 +32,7 @@ pub fn lay_out(
     let laid = sheet.rules;
     let set = sheet.marks;
     let kept = sheet.kept;
+    let edition = sheet.edition;
     places::lay_out(&mut *rules, laid);
     set_marks(&mut *marks, set);
     let head = Head {
@@ -43,6 +44,7 @@ pub fn lay_out(
         fixed: Fixed::Bits { mask: 0, value: 0 },
         given: sheet.given,
         waiting: sheet.waiting,
+        edition,
     };
     tested(head, &*rules, &*marks, &mut *from, &mut *to, &mut *side)
 }
@@ -72,6 +74,7 @@ fn tested(
     let count = head.count;
     let given = head.given;
     let kept = head.kept;
+    let edition = head.edition;
     if width == 0 {
         return head.standing(shape::blank(head, rules, marks));
     }
@@ -91,6 +94,7 @@ fn tested(
         fixed,
         given,
         waiting: head.waiting,
+        edition,
     }
 }
 
@@ -100,6 +104,7 @@ pub fn pack(head: Head, rules: &[u64; NUMBERS], marks: &[usize; Sheet::MARKS]) -
     ensures { λ r. ⌜ r ≡ packed head (now (rules .entry)) (now (marks .entry)) ⌝ }
 {
     let kept = head.kept;
+    let edition = head.edition;
     let laid = places::pack(rules);
     let set = *marks;
     Sheet {
@@ -111,6 +116,7 @@ pub fn pack(head: Head, rules: &[u64; NUMBERS], marks: &[usize; Sheet::MARKS]) -
         kept,
         given: head.given,
         waiting: head.waiting,
+        edition,
     }
 }
 
@@ -133,6 +139,7 @@ impl Head {
     {
         let kept = self.kept;
         let fixed = self.fixed;
+        let edition = self.edition;
         Head {
             stands,
             width: self.width,
@@ -142,6 +149,7 @@ impl Head {
             fixed,
             given: self.given,
             waiting: self.waiting,
+            edition,
         }
     }
 }

@@ -21,10 +21,11 @@ use chain::Link;
 use rule::Rule;
 pub use shape::same_kept;
 use verdict::Kept;
+use word::Edition;
 
-// A rule desk's sheet: the width, the rules in the order added, for each mark how many rules there were when it was set, and what is
-// kept of the rules in force. The first `count` rules and the first `marked` marks are in force; the rules up to `given` and the next
-// `waiting` marks wait to come back. Places not in use hold zeros, and the blank sheet is all zeros.
+// A rule desk's sheet: the width, the rules in the order added, for each mark how many rules there were when it was set, what is
+// kept of the rules in force, and the edition that it was opened in. The first `count` rules and the first `marked` marks are in force; the rules up to `given` and the next
+// `waiting` marks wait to come back. Places not in use hold zeros, and the blank sheet is all zeros, of the old edition.
 pub struct Sheet {
     pub width: u64,
     pub rules: [Rule; Rule::LIMIT],
@@ -34,6 +35,7 @@ pub struct Sheet {
     pub kept: Kept,
     pub given: usize,
     pub waiting: usize,
+    pub edition: Edition,
 }
 
 // What a call answers: 0 or the number of a refusal, and the sheet as it is then.
@@ -60,6 +62,7 @@ pub struct Head {
     pub fixed: Fixed,
     pub given: usize,
     pub waiting: usize,
+    pub edition: Edition,
 }
 
 // What a call on a sheet that is laid out answers: 0 or the number of a refusal, and the head as it is then.
@@ -83,7 +86,7 @@ impl Sheet {
     // What asking wants of a full sheet.
     pub const LENT: usize = Link::ROOM;
 
-    // The blank sheet, all zeros.
+    // The blank sheet, all zeros, of the old edition.
     pub fn blank() -> Sheet
         ensures { λ r. ⌜ r ≡ blank ⌝ }
     {
@@ -100,6 +103,7 @@ impl Sheet {
             },
             given: 0,
             waiting: 0,
+            edition: Edition::Old,
         }
     }
 }

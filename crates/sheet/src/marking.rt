@@ -55,6 +55,7 @@ pub fn mark(
     let kept = head.kept;
     let fixed = head.fixed;
     let next = marked + 1;
+    let edition = head.edition;
     let head = Head {
         stands: true,
         width: head.width,
@@ -64,6 +65,7 @@ pub fn mark(
         fixed,
         given: count,
         waiting: 0,
+        edition,
     };
     Said { number: 0, head }
 }

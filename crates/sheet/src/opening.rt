@@ -4,7 +4,7 @@ ghost use lib.ListN.{replicate};
 ghost use Rattle.page.specs.Calls.{open-at};
 ghost use Rattle.sheet.specs.Held.{Held, packed};
 ghost use Rattle.sheet.specs.Laid.{After};
-ghost use Rattle.page.specs.Page.{MARKS, at-width};
+ghost use Rattle.page.specs.Page.{MARKS};
 ghost use Rattle.sheet.specs.Statements.{Outcome};
 use crate::Answer;
 use crate::Head;
@@ -12,14 +12,15 @@ use crate::Said;
 use crate::Sheet;
 use crate::laying;
 use bits::Fixed;
+use page::Opening;
 use places::NUMBERS;
 use rule::Rule;
 use word::Width;
 
 impl Sheet {
     // Opens a new sheet where the blank one is laid out. The old record is handed back where the width is refused, and is not read.
-    pub fn open(self, width: u64) -> Answer
-        ensures { λ r. ⌜ Outcome self (open-at (at-width width)) r ⌝ }
+    pub fn open(self, opening: Opening) -> Answer
+        ensures { λ r. ⌜ Outcome self (open-at opening) r ⌝ }
     {
         let mut rules = [0; NUMBERS];
         let mut marks: [usize; Sheet::MARKS] = [0; Sheet::MARKS];
@@ -28,7 +29,7 @@ impl Sheet {
         let mut side = [false; Rule::LIMIT];
         let none = Sheet::blank();
         let head = laying::lay_out(none, &mut rules, &mut marks, &mut from, &mut to, &mut side);
-        let said = open(head, &mut rules, &mut marks, &from, &to, &side, width);
+        let said = open(head, &mut rules, &mut marks, &from, &to, &side, opening);
         let number = said.number;
         if number != 0 {
             return Answer {
@@ -48,15 +49,17 @@ pub fn open(
     from: &[u64; Rule::LIMIT],
     to: &[u64; Rule::LIMIT],
     side: &[bool; Rule::LIMIT],
-    width: u64,
+    opening: Opening,
 ) -> Said
     requires { ⌜ Held head (now rules) (now marks) (now from) (now to) (now side) ⌝ }
-    ensures { λ r. ⌜ After (packed head (now (rules .entry)) (now (marks .entry))) (open-at (at-width width)) (r .number) (r .head) (now (rules .exit)) (now (marks .exit)) (now (from .entry)) (now (to .entry)) (now (side .entry)) ⌝ }
+    ensures { λ r. ⌜ After (packed head (now (rules .entry)) (now (marks .entry))) (open-at opening) (r .number) (r .head) (now (rules .exit)) (now (marks .exit)) (now (from .entry)) (now (to .entry)) (now (side .entry)) ⌝ }
 {
+    let width = opening.width;
+    let edition = opening.edition;
     if width < 1 {
         return Said { number: 2, head };
     }
-    if Width::LIMIT < width {
+    if edition.terms().widest < width {
         return Said { number: 2, head };
     }
     places::clear(&mut *rules, 0, Rule::LIMIT);
@@ -73,6 +76,7 @@ pub fn open(
         fixed,
         given: 0,
         waiting: 0,
+        edition,
     };
     Said { number: 0, head }
 }

@@ -4,10 +4,11 @@ ghost use mathlib.Core.Bool.{true, _&&_};
 ghost use Prim.Native.Nat.{_+_, _≤_};
 ghost use lib.Dec.{leb};
 ghost use lib.ListN.{length};
+ghost use Rattle.word.specs.Edition.{terms};
 ghost use Rattle.rule.specs.Meaning.{RULES};
 ghost use Rattle.places.specs.Places.{rulesIn};
 ghost use Rattle.sheet.specs.Held.{packed};
-ghost use Rattle.page.specs.Page.{MARKS, WIDEST};
+ghost use Rattle.page.specs.Page.{MARKS};
 ghost use Rattle.sheet.specs.Shape.{Whole, inForce, isSheet, sameKept, wellShaped};
 use crate::Head;
 use crate::Sheet;
@@ -15,6 +16,7 @@ use crate::laying;
 use places::NUMBERS;
 use rule::Rule;
 use verdict::Kept;
+use word::Edition;
 use word::Width;
 
 impl Sheet {
@@ -38,6 +40,10 @@ pub fn blank(head: Head, rules: &[u64; NUMBERS], marks: &[usize; Sheet::MARKS]) 
     ensures { λ r. ⌜ r ≡ isSheet (packed head (now (rules .entry)) (now (marks .entry))) ⌝ }
 {
     let kept = head.kept;
+    let edition = head.edition;
+    if !edition.same(Edition::Old) {
+        return false;
+    }
     if head.given != 0 {
         return false;
     }
@@ -66,17 +72,18 @@ pub fn blank(head: Head, rules: &[u64; NUMBERS], marks: &[usize; Sheet::MARKS]) 
     )
 }
 
-// Whether a record whose width is not 0 has a width, rules and marks as a sheet may have them.
+// Whether a record whose width is not 0 has a width of its edition, rules and marks as a sheet may have them.
 pub fn shaped(head: Head, rules: &[u64; NUMBERS], marks: &[usize; Sheet::MARKS]) -> bool
     requires { ⌜ (head .width ≡ 0 → ⊥) ⌝ }
     requires { ⌜ (length (rulesIn (now rules)) ≡ RULES) × (length (now marks) ≡ MARKS) ⌝ }
-    ensures { λ r. ⌜ r ≡ (wellShaped (packed head (now (rules .entry)) (now (marks .entry))) && leb (head .width) WIDEST) ⌝ }
+    ensures { λ r. ⌜ r ≡ (wellShaped (packed head (now (rules .entry)) (now (marks .entry))) && leb (head .width) (terms (head .edition) .widest)) ⌝ }
 {
     let width = head.width;
     let count = head.count;
     let given = head.given;
     let marked = head.marked;
     let waiting = head.waiting;
+    let edition = head.edition;
     if Rule::LIMIT < given {
         return false;
     }
@@ -89,7 +96,7 @@ pub fn shaped(head: Head, rules: &[u64; NUMBERS], marks: &[usize; Sheet::MARKS])
     if count != in_force(given, marks, marked, waiting) {
         return false;
     }
-    if Width::LIMIT < width {
+    if edition.terms().widest < width {
         return false;
     }
     if !places::all_acceptable(rules, given, Width { bits: width }) {

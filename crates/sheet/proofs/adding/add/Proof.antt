@@ -22,21 +22,21 @@ use Rattle.sheet.proofs.adding.add.Statement.{statement}
 use Rattle.sheet.proofs.adding.add.Tie as tie
 
 -- the number found is the table's
-seen : (s : tie.Start) (n : ℕ) → n ≡ ruleNumber (s .args .head) (s .args .rule) → RuleSeen (packed (s .args .head) (s .args .rules .now) (s .args .marks .now)) (s .args .rule) n
-seen s n e = subst (RuleSeen _ (s .args .rule)) (sym e) (rule-so (s .pre) (s .args .rule))
+seen : (s : tie.Start) (n : ℕ) → n ≡ ruleNumber (s .args .head) (s .args .edition) (s .args .rule) → RuleSeen (packed (s .args .head) (s .args .rules .now) (s .args .marks .now)) (s .args .edition) (s .args .rule) n
+seen s n e = subst (RuleSeen _ (s .args .edition) (s .args .rule)) (sym e) (rule-so (s .pre) (s .args .edition) (s .args .rule))
 
 -- where the rule is accepted
 abbrev start : tie.Else1 → tie.Start
 start a = a .before .before .before
 
 none : (a : tie.Else1) → before (start a .args .head .stands) (start a .args .head .width) ≡ 0
-none a = number-zero (start a .args .head) (start a .args .rule) (sym (a .before .refuses-rule .ensures) ∙ a .if1 .left)
+none a = number-zero (start a .args .head) (start a .args .edition) (start a .args .rule) (sym (a .before .refuses-rule .ensures) ∙ a .if1 .left)
 
-on : (a : tie.Else1) → (p : Standing (packed (start a .args .head) (start a .args .rules .now) (start a .args .marks .now))) × (refusal (page (p .on)) (add (start a .args .rule)) ≡ 0)
+on : (a : tie.Else1) → (p : Standing (packed (start a .args .head) (start a .args .rules .now) (start a .args .marks .now))) × (refusal (page (p .on)) (add (start a .args .edition) (start a .args .rule)) ≡ 0)
 on a = accepted-rule (seen (start a) (a .before .refuses-rule .result) (a .before .refuses-rule .ensures)) (a .if1 .left)
 
 free : (a : tie.Else1) → start a .args .head .count < RULES
-free a = next-free (start a .pre) (none a) (start a .args .rule) (on a .0) (on a .1)
+free a = next-free (start a .pre) (none a) (start a .args .edition) (start a .args .rule) (on a .0) (on a .1)
 
 refuses-rule-requires : tie.Need-refuses-rule-requires
 refuses-rule-requires c κs = width-so (c .before .pre)
@@ -62,7 +62,7 @@ put-requires c κs =
     let l = c .before in
     let a = chosen l in
     let o = on a in
-    (free a, put-free (start a .pre) (none a) (start a .args .rule) (o .0) (o .1) _ (l .clear-waiting .ensures .0))
+    (free a, put-free (start a .pre) (none a) (start a .args .edition) (start a .args .rule) (o .0) (o .1) _ (l .clear-waiting .ensures .0))
 
 of-requires : tie.Need-of-requires
 of-requires c κs = let a = chosen (c .before .before) in width-so (start a .pre) (none a)
@@ -95,13 +95,13 @@ narrowed-requires c κs =
     let s = start a in
     let o = on a in
     let put = b .before .before .before .before .before .before .put .ensures in
-    let w = swept-more (s .pre) (none a) (s .args .rule) (o .0) (o .1) _ _ _ _ _ _ _ (l .clear-waiting .ensures .0) (l .clear-waiting .ensures .1) put (laid b) (b .with .ensures) in (
+    let w = swept-more (s .pre) (none a) (s .args .edition) (s .args .rule) (o .0) (o .1) _ _ _ _ _ _ _ (l .clear-waiting .ensures .0) (l .clear-waiting .ensures .1) put (laid b) (b .with .ensures) in (
       width-so (s .pre) (none a),
       (
         w .lie,
         (
           (w .tidy, w .within),
-          bounds-more (s .pre) (none a) (s .args .rule) (o .0) (o .1) _ _ _ _ _ _ _ (l .clear-waiting .ensures .0) (l .clear-waiting .ensures .1) put (laid b) (b .with .ensures),
+          bounds-more (s .pre) (none a) (s .args .edition) (s .args .rule) (o .0) (o .1) _ _ _ _ _ _ _ (l .clear-waiting .ensures .0) (l .clear-waiting .ensures .1) put (laid b) (b .with .ensures),
         ),
       ),
     )
@@ -114,7 +114,7 @@ returns-2 c =
     let s = start a in
     let o = on a in
     let put = b .before .before .before .before .before .before .put .ensures in
-    added (s .pre) (none a) (s .args .rule) (o .0) (o .1) _ _ _ _ _ _ _ (l .clear-waiting .ensures .0) (l .clear-waiting .ensures .1) put (laid b) (b .with .ensures) _ (c .narrowed .ensures)
+    added (s .pre) (none a) (s .args .edition) (s .args .rule) (o .0) (o .1) _ _ _ _ _ _ _ (l .clear-waiting .ensures .0) (l .clear-waiting .ensures .1) put (laid b) (b .with .ensures) _ (c .narrowed .ensures)
 
 pub add-spec : {M : Type 1} → statement M
 add-spec =

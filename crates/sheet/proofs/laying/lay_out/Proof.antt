@@ -38,6 +38,7 @@ returns c =
             kept = s .args .sheet .kept;
             given = s .args .sheet .given;
             waiting = s .args .sheet .waiting;
+            edition = s .args .sheet .edition;
           }),
       c .tested .ensures .1,
     )

@@ -21,6 +21,7 @@ returns c =
       kept = s .args .head .kept;
       given = s .args .head .given;
       waiting = s .args .head .waiting;
+      edition = s .args .head .edition;
     }
 
 pub pack-spec : {M : Type 1} → statement M

@@ -1,12 +1,15 @@
 -- `open` meets its contract: a refused opening leaves all as it was, and an accepted one empties every place. Assumes nothing.
 use mathlib.Core.Path.{sym, subst}
-use Prim.Native.Nat.{_-_, _≤_}
+use Prim.Native.Nat.{_-_, _≤_, _<_}
 use native.Mathlib.Omega.{arith}
 use borrow.Author.Needs.{needs}
-use Rattle.word.specs.Word.{top}
+use Rattle.word.specs.Edition.{terms}
+use Rattle.word.specs.declared.Terms.{Terms}
+use Rattle.word.specs.Word.{IsWidth}
+use Rattle.word.proofs.Editions.{widest-held}
 use Rattle.verdict.specs.OnBands.{Ends}
 use Rattle.verdict.proofs.Rules.{whole-wheel}
-use Rattle.page.specs.Page.{WIDEST, no-page}
+use Rattle.page.specs.Page.{no-page}
 use Rattle.sheet.specs.Statements.{Outcome}
 use Rattle.page.proofs.Refusals.{open-narrow, open-wide}
 use Rattle.sheet.proofs.Ways.{refused-open}
@@ -18,9 +21,29 @@ returns : tie.Need-returns
 unfolding Outcome
 returns c = record { outcome = refused-open _ _ (open-narrow no-page _ (c .if1 .taken)) (λ e. omega arith); held = c .before .pre }
 
+terms-requires : tie.Need-terms-requires
+terms-requires c κs = search needs
+
 returns-2 : tie.Need-returns-2
 unfolding Outcome
-returns-2 c = record { outcome = refused-open _ _ (open-wide no-page _ (c .if2 .taken)) (λ e. omega arith); held = c .before .before .pre }
+returns-2 c =
+    let t = c .before .before in
+    let s = t .before .before in
+    let wide = subst (λ (k : Terms). k .widest < s .args .opening .width) (t .terms .ensures) (c .if2 .taken) in
+    record { outcome = refused-open _ _ (open-wide no-page (s .args .opening) wide) (λ e. omega arith); held = s .pre }
+
+-- where the width is accepted
+abbrev start : tie.Else2 → tie.Start
+start a = a .before .before .before .before
+
+low : (a : tie.Else2) → 1 ≤ start a .args .opening .width
+low a = omega arith
+
+high : (a : tie.Else2) → start a .args .opening .width ≤ terms (start a .args .opening .edition) .widest
+high a = subst (λ (k : Terms). start a .args .opening .width ≤ k .widest) (a .before .before .terms .ensures) (a .if2 .left)
+
+is-width : (a : tie.Else2) → IsWidth (start a .args .opening .width)
+is-width a = record { low = low a; high = omega (arith, high a, widest-held (start a .args .opening .edition)) }
 
 clear-requires : tie.Need-clear-requires
 clear-requires c κs = search needs
@@ -29,34 +52,29 @@ clear-marks-requires : tie.Need-clear-marks-requires
 clear-marks-requires c κs = search needs
 
 top-requires : tie.Need-top-requires
-top-requires c κs = search needs
-
-low : (a : tie.Else2) → 1 ≤ a .before .before .args .width
-low a = omega arith
-
-high : (a : tie.Else2) → a .before .before .args .width ≤ WIDEST
-high a = omega arith
+top-requires c κs = is-width (c .before .before .before .before)
 
 solve-requires : tie.Need-solve-requires
 solve-requires c κs =
     let a = c .before .before .before .before .before in
-    let s = a .before .before in
-    let w = s .args .width in
-    let t = swept-none w (low a) (high a) _ _ _ (s .pre .room .band-places) in
-    (record { low = low a; high = omega (arith, high a) }, (t .lie, ((t .tidy, t .within), subst (Ends w _ _ 0) (sym (c .top .ensures)) (whole-wheel w _ _))))
+    let s = start a in
+    let w = s .args .opening .width in
+    let t = swept-none w (s .args .opening .edition) (low a) (high a) _ _ _ (s .pre .room .band-places) in
+    (is-width a, (t .lie, ((t .tidy, t .within), subst (Ends w _ _ 0) (sym (c .top .ensures)) (whole-wheel w _ _))))
 
 returns-3 : tie.Need-returns-3
 returns-3 c =
     let m = c .before .before in
     let l = m .before .before in
     let a = l .before .before in
-    opened-so _ (low a) (high a) (a .before .before .pre) _ _ _ (l .clear .ensures) (m .clear-marks .ensures) (c .solve .ensures)
+    opened-so _ _ (low a) (high a) (start a .pre) _ _ _ (l .clear .ensures) (m .clear-marks .ensures) (c .solve .ensures)
 
 pub open-spec : {M : Type 1} → statement M
 open-spec =
     tie.close
     (tie.spec
     returns
+    terms-requires
     returns-2
     clear-requires
     clear-marks-requires

@@ -5,6 +5,8 @@ use mathlib.Core.Bool.{true, and-false}
 use Prim.Native.Nat.{_-_}
 use borrow.Author.Needs.{needs}
 use borrow.Author.Tests.{ne-eqb}
+use Rattle.word.specs.declared.Edition.the-variants.{Old}
+use Rattle.word.specs.Edition.{same}
 use Rattle.accept.specs.Accept.{every, isNoRule}
 use Rattle.accept.proofs.Choices.{failed, passed}
 use Rattle.places.specs.Places.{rulesIn}
@@ -14,83 +16,110 @@ use Rattle.sheet.proofs.Told.{blank-count, blank-kept, blank-marks, bla
 use Rattle.sheet.proofs.shape.blank.Statement.{statement}
 use Rattle.sheet.proofs.shape.blank.Tie as tie
 
+same-requires : tie.Need-same-requires
+same-requires c κs = search needs
+
 returns : tie.Need-returns
 unfolding isSheet packed
-returns c = let s = c .before .before .before in simp (s .pre .0, ne-eqb _ _ (c .if1 .taken), and-false)
+returns c =
+    let s = c .before .before .before in
+    simp (s .pre .0, failed (c .before .same .ensures) (c .if1 .taken), and-false)
+
+-- the old edition
+old : (e : tie.Else1) → same (e .before .before .before .args .head .edition) Old ≡ true
+old e = passed (e .before .same .ensures) (e .if1 .left)
 
 returns-2 : tie.Need-returns-2
 unfolding isSheet packed
-returns-2 c = let s = c .before .before .before .before .before in simp (s .pre .0, ne-eqb _ _ (c .if2 .taken), and-false)
+returns-2 c =
+    let e = c .before .before in
+    simp (e .before .before .before .pre .0, old e, ne-eqb _ _ (c .if2 .taken), and-false)
 
 returns-3 : tie.Need-returns-3
 unfolding isSheet packed
-returns-3 c = let s = c .before .before .before .before .before .before .before in simp (s .pre .0, ne-eqb _ _ (c .if3 .taken), and-false)
-
--- the tests that nothing is in force and nothing waits
-abbrev second : tie.Else3 → tie.Else2
-second w = w .before .before
-
-abbrev first : tie.Else3 → tie.Else1
-first w = second w .before .before
-
-abbrev start : tie.Else3 → tie.Start
-start w = first w .before .before .before
+returns-3 c =
+    let e = c .before .before .before .before in
+    simp (e .before .before .before .pre .0, old e, ne-eqb _ _ (c .if3 .taken), and-false)
 
 returns-4 : tie.Need-returns-4
-unfolding packed
+unfolding isSheet packed
 returns-4 c =
-    let w = c .before .before in
-    blank-count _ (start w .pre .0) (first w .if1 .left) (second w .if2 .left) (w .if3 .left) (c .if4 .taken)
+    let e = c .before .before .before .before .before .before in
+    simp (e .before .before .before .pre .0, old e, ne-eqb _ _ (c .if4 .taken), and-false)
 
-none-from-requires : tie.Need-none-from-requires
-none-from-requires c κs = search needs
+-- the tests that nothing is in force and nothing waits
+abbrev second : tie.Else4 → tie.Else3
+second w = w .before .before
+
+abbrev first : tie.Else4 → tie.Else2
+first w = second w .before .before
+
+abbrev edition : tie.Else4 → tie.Else1
+edition w = first w .before .before
+
+abbrev start : tie.Else4 → tie.Start
+start w = edition w .before .before .before
 
 returns-5 : tie.Need-returns-5
 unfolding packed
 returns-5 c =
+    let w = c .before .before in
+    blank-count _ (start w .pre .0) (old (edition w)) (first w .if2 .left) (second w .if3 .left) (w .if4 .left) (c .if5 .taken)
+
+none-from-requires : tie.Need-none-from-requires
+none-from-requires c κs = search needs
+
+returns-6 : tie.Need-returns-6
+unfolding packed
+returns-6 c =
     let n = c .before .before in
     let w = n .before .before in
-    blank-rules _ (start w .pre .0) (first w .if1 .left) (second w .if2 .left) (w .if3 .left) (n .if4 .left) (failed (c .before .none-from .ensures) (c .if5 .taken))
+    blank-rules _ (start w .pre .0) (old (edition w)) (first w .if2 .left) (second w .if3 .left) (w .if4 .left) (n .if5 .left)
+    (failed (c .before .none-from .ensures) (c .if6 .taken))
 
 all-zero-requires : tie.Need-all-zero-requires
 all-zero-requires c κs = search needs
 
 -- no rule is left in any place
-bare : (d : tie.Else5) → every isNoRule (rulesIn (start (d .before .before .before .before) .args .rules .now)) ≡ true
-bare d = passed (d .before .none-from .ensures) (d .if5 .left)
-
-returns-6 : tie.Need-returns-6
-unfolding packed
-returns-6 c =
-    let d = c .before .before in
-    let n = d .before .before in
-    let w = n .before .before in
-    blank-marks _ (start w .pre .0) (first w .if1 .left) (second w .if2 .left) (w .if3 .left) (n .if4 .left) (bare d) (failed (c .before .all-zero .ensures) (c .if6 .taken))
-
-same-kept-requires : tie.Need-same-kept-requires
-same-kept-requires c κs = search needs
+bare : (d : tie.Else6) → every isNoRule (rulesIn (start (d .before .before .before .before) .args .rules .now)) ≡ true
+bare d = passed (d .before .none-from .ensures) (d .if6 .left)
 
 returns-7 : tie.Need-returns-7
 unfolding packed
 returns-7 c =
+    let d = c .before .before in
+    let n = d .before .before in
+    let w = n .before .before in
+    blank-marks _ (start w .pre .0) (old (edition w)) (first w .if2 .left) (second w .if3 .left) (w .if4 .left) (n .if5 .left) (bare d)
+    (failed (c .before .all-zero .ensures) (c .if7 .taken))
+
+same-kept-requires : tie.Need-same-kept-requires
+same-kept-requires c κs = search needs
+
+returns-8 : tie.Need-returns-8
+unfolding packed
+returns-8 c =
     let f = c .before in
     let d = f .before .before in
     let n = d .before .before in
     let w = n .before .before in
     c .same-kept .ensures
-    ∙ blank-kept _ (start w .pre .0) (first w .if1 .left) (second w .if2 .left) (w .if3 .left) (n .if4 .left) (bare d) (passed (f .before .all-zero .ensures) (f .if6 .left))
+    ∙ blank-kept _ (start w .pre .0) (old (edition w)) (first w .if2 .left) (second w .if3 .left) (w .if4 .left) (n .if5 .left) (bare d)
+    (passed (f .before .all-zero .ensures) (f .if7 .left))
 
 pub blank-spec : {M : Type 1} → statement M
 blank-spec =
     tie.close
     (tie.spec
+    same-requires
     returns
     returns-2
     returns-3
     returns-4
-    none-from-requires
     returns-5
-    all-zero-requires
+    none-from-requires
     returns-6
+    all-zero-requires
+    returns-7
     same-kept-requires
-    returns-7)
+    returns-8)

@@ -1,11 +1,14 @@
 -- `shaped` meets its contract: each answer is what the shape comes to under the tests that led there. Assumes nothing.
-use mathlib.Core.Path.{_≡_, sym, _∙_}
+use mathlib.Core.Path.{_≡_, sym, _∙_, subst}
 use mathlib.Core.Bool.{true, and-false, and-true}
-use Prim.Native.Nat.{_-_}
+use Prim.Native.Nat.{ℕ, _-_, _≤_, _<_}
 use native.Mathlib.Omega.{arith}
 use borrow.Author.Needs.{needs}
 use borrow.Author.Tests.{eq-eqb, le-leb, lt-leb, ne-eqb}
 use lib.Dec.{eqb, leb}
+use Rattle.word.specs.declared.Terms.{Terms}
+use Rattle.word.specs.Edition.{terms}
+use Rattle.word.proofs.Editions.{widest-held}
 use Rattle.rule.specs.Meaning.{RULES}
 use Rattle.accept.proofs.Choices.{failed, passed}
 use Rattle.page.specs.Page.{MARKS}
@@ -42,13 +45,23 @@ returns-4 c =
       ne-eqb _ _ (λ e. c .if4 .taken (e ∙ sym (n .in-force .ensures))),
     )
 
-returns-5 : tie.Need-returns-5
-unfolding wellShaped packed rulesShaped
-returns-5 c = simp (lt-leb _ _ (c .if5 .taken), and-false)
-
 -- where the counters are right
 abbrev start : tie.Else4 → tie.Start
 start c = c .before .before .before .before .before
+
+-- the widest of the edition is what was found
+wider : (t : tie.After-terms) (w : ℕ) → t .terms .result .widest < w → terms (start (t .before) .args .head .edition) .widest < w
+wider t w h = subst (λ (k : Terms). k .widest < w) (t .terms .ensures) h
+
+within : (t : tie.After-terms) (w : ℕ) → w ≤ t .terms .result .widest → w ≤ terms (start (t .before) .args .head .edition) .widest
+within t w h = subst (λ (k : Terms). w ≤ k .widest) (t .terms .ensures) h
+
+terms-requires : tie.Need-terms-requires
+terms-requires c κs = search needs
+
+returns-5 : tie.Need-returns-5
+unfolding wellShaped packed rulesShaped
+returns-5 c = simp (lt-leb _ _ (wider (c .before .before) _ (c .if5 .taken)), and-false)
 
 given-few : (c : tie.Else4) → leb (start c .args .head .given) RULES ≡ true
 given-few c = le-leb _ _ (c .before .before .before .before .if1 .left)
@@ -64,12 +77,16 @@ counted : (c : tie.Else4)
 counted c = eq-eqb _ _ (c .if4 .left ∙ c .before .in-force .ensures)
 
 all-acceptable-requires : tie.Need-all-acceptable-requires
-all-acceptable-requires c κs = search needs
+all-acceptable-requires c κs =
+    let t = c .before .before in
+    let h = within t _ (c .if5 .left) in
+    let k = widest-held (start (t .before) .args .head .edition) in
+    search needs
 
 returns-6 : tie.Need-returns-6
 unfolding wellShaped packed rulesShaped
 returns-6 c =
-    let n = c .before .before .before in
+    let n = c .before .before .before .before .before in
     simp (given-few n, marked-few n, waiting-few n, counted n, failed (c .before .all-acceptable .ensures) (c .if6 .taken))
 
 none-from-requires : tie.Need-none-from-requires
@@ -79,7 +96,7 @@ returns-7 : tie.Need-returns-7
 unfolding wellShaped packed rulesShaped
 returns-7 c =
     let d = c .before .before in
-    let n = d .before .before .before in
+    let n = d .before .before .before .before .before in
     simp (given-few n, marked-few n, waiting-few n, counted n, passed (d .before .all-acceptable .ensures) (d .if6 .left), failed (c .before .none-from .ensures) (c .if7 .taken))
 
 add-marked-so : tie.Need-add-marked-so
@@ -94,13 +111,13 @@ returns-8 c =
     let f = c .before in
     let d = f .before .before in
     let b = d .before .before in
-    let n = b .before in
+    let n = b .before .before .before in
     simp (
       given-few n,
       marked-few n,
       waiting-few n,
       counted n,
-      le-leb _ _ (b .if5 .left),
+      le-leb _ _ (within (b .before .before) _ (b .if5 .left)),
       passed (d .before .all-acceptable .ensures) (d .if6 .left),
       passed (f .before .none-from .ensures) (f .if7 .left),
       c .marked-so .ensures,
@@ -116,6 +133,7 @@ shaped-spec =
     returns-3
     in-force-requires
     returns-4
+    terms-requires
     returns-5
     all-acceptable-requires
     returns-6
