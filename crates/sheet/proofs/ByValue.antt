@@ -9,11 +9,13 @@ use Rattle.rule.specs.Meaning.{RULES}
 use Rattle.lent.specs.Lent.{zipped}
 use Rattle.places.specs.Places.{rulesIn}
 use Rattle.sheet.specs.declared.Answer.{Answer}
-use Rattle.sheet.specs.declared.Head.{Head}
+use Rattle.lent_head.specs.declared.Head.{Head}
 use Rattle.sheet.specs.declared.Reply.{Reply}
 use Rattle.sheet.specs.declared.Sheet.{Sheet}
 use Rattle.page.specs.Calls.{Call, open-at, refusal}
-use Rattle.sheet.specs.Held.{Room, packed}
+use Rattle.lent_head.specs.Held.{Room, foundTo}
+use Rattle.sheet.specs.Held.{packed}
+use Rattle.sheet.specs.Shape.{headOf}
 use Rattle.sheet.specs.Laid.{After}
 use Rattle.page.specs.declared.Opening.{Opening}
 use Rattle.page.specs.Page.{MARKS, no-page}
@@ -23,6 +25,23 @@ use Rattle.sheet.proofs.Ways.{accepted-open, refused-open}
 pub empty-room : Room (replicate (4 * RULES) 0) (replicate MARKS 0) (replicate RULES 0) (replicate RULES 0) (replicate RULES false)
 unfolding rulesIn zipped
 empty-room = record { rules-places = refl; marks-places = refl; band-places = refl }
+
+-- head and arrays that were laid out and tested stand for the record
+pub laid-out : (s : Sheet) {k : Head} (rules : List ℕ) {marks : List ℕ} → k ≡ foundTo (headOf s) (k .stands) (k .fixed) → rulesIn rules ≡ s .rules → marks ≡ s .marks
+    → packed k rules marks ≡ s
+unfolding packed
+laid-out s rules e r m =
+    λ i. record {
+      width = e i .width;
+      rules = r i;
+      count = e i .count;
+      marks = m i;
+      marked = e i .marked;
+      kept = e i .kept;
+      given = e i .given;
+      waiting = e i .waiting;
+      edition = e i .edition;
+    }
 
 pub by-value : {s t : Sheet} {c : Call} {r : Answer} {n : ℕ} {h : Head} {rules marks from to : List ℕ} {side : List Bool}
     → t ≡ s → After t c n h rules marks from to side → r ≡ answers n (packed h rules marks) → Outcome s c r

@@ -5,19 +5,19 @@ use mathlib.Core.Path.{_≡_, refl, sym, ap, ap₂, _∙_, subst}
 use mathlib.Core.List.{List, [], _∷_, _++_, append-assoc}
 use Prim.Native.Nat.{ℕ, suc, _+_, _-_, _≤_, _<_}
 use native.Mathlib.Omega.{arith}
-use borrow.Author.Tests.{eq-eqb, ne-eqb}
-use lib.ListN.{drop, getD, length, length-append, length-replicate, replicate, set, take}
-use lib.Seq.{append-snoc, drop-append-seam, drop-at, getD-append-seam, getD-take, set-append-seam, take-append-seam, take-at}
+use lib.ListN.{getD, length, length-append, length-replicate, replicate, set, take}
+use lib.Seq.{append-snoc, getD-append-seam, getD-take, set-append-seam, take-append-seam, take-at}
 use Rattle.rule.specs.declared.Rule.{Rule}
 use Rattle.rule.specs.Meaning.{RULES}
 use Rattle.verdict.specs.Kept.{kept}
 use Rattle.sheet.specs.declared.Sheet.{Sheet}
 use Rattle.page.specs.Page.{Entry, MARKS, OpenPage, a-mark, a-rule, laidAside, marksOn, noRule, padded, page, restored, rulesOn, stretch, struck, takenUp, withEntries, withPile}
 use Rattle.sheet.specs.Record.{fresh}
-use Rattle.sheet.specs.Shape.{inForce}
+use Rattle.lent_head.specs.Shape.{inForce}
+use Rattle.lent_head.proofs.Shaped.{none-waits, some-wait}
 use Rattle.page.proofs.Lawful.{LawfulPile}
-use Rattle.page.proofs.Stretches.{Stretches, marks-more, restored-marked, restored-marks, restored-rules, rules-more, stretch-struck, waitingMarks, waitingRules}
-use Rattle.page.proofs.Struck.{count-left, marks-left-length, newest, newest-low}
+use Rattle.page.proofs.Stretches.{Stretches, marks-more, restored-marked, restored-marks, restored-rules, stretch-struck, waitingMarks, waitingRules}
+use Rattle.page.proofs.Struck.{count-left, marks-left-length, newest}
 
 -- ---- places not in use
 
@@ -49,17 +49,6 @@ module _ (ss : List (List Entry)) (es : List Entry) (h : Stretches ss) (zs : Lis
   standing-marks : take (length (marksOn es)) (marksOn (restored ss es) ++ zs) ≡ marksOn es
   standing-marks = rw (restored-marks ss es h, append-assoc (marksOn es)) (take-append-seam (marksOn es) (waitingMarks (length (rulesOn es)) ss ++ zs))
 
--- ---- how many rules are in force
-
-module _ (given : ℕ) (ms : List ℕ) (marked : ℕ) {waiting : ℕ} where
-  pub none-waits : waiting ≡ 0 → inForce given ms marked waiting ≡ given
-  unfolding inForce
-  none-waits z = rw (eq-eqb waiting 0 z)
-
-  pub some-wait : 0 < waiting → inForce given ms marked waiting ≡ getD ms marked 0
-  unfolding inForce
-  some-wait h = rw (ne-eqb waiting 0 (λ z. omega arith))
-
 -- the mark next to come back notes the rules that stand
 pub in-force : (ss : List (List Entry)) (es : List Entry) → Stretches ss → (zs : List ℕ)
     → inForce (length (rulesOn (restored ss es))) (marksOn (restored ss es) ++ zs) (length (marksOn es)) (length ss) ≡ length (rulesOn es)
@@ -89,11 +78,6 @@ pub record Given (o : OpenPage) (s : Sheet) : Type 0 where
   pub waiting : s .waiting ≡ length (o .pile)
   pub edition : s .edition ≡ o .opening .edition
   pub given-low : s .count ≤ s .given
-  pub given-high : s .given ≤ RULES
-  pub marks-high : s .marked + s .waiting ≤ MARKS
-  -- and after that, nothing
-  pub rules-after : drop (s .given) (s .rules) ≡ replicate (RULES - s .given) noRule
-  pub marks-after : drop (s .marked + s .waiting) (s .marks) ≡ replicate (MARKS - (s .marked + s .waiting)) 0
 
 -- ---- the records that the calls make
 
@@ -205,10 +189,6 @@ module _ (o : OpenPage) where
           waiting = refl;
           edition = refl;
           given-low = omega (arith, ap length (restored-rules (o .pile) es), length-append (rulesOn es) (waitingRules (o .pile)));
-          given-high = l .restores .rules-fit;
-          marks-high = omega (arith, all-marked, l .restores .marks-fit);
-          rules-after = drop-append-seam (rulesOn all) no-rules;
-          marks-after = drop-at (marksOn all) no-marks _ all-marked ∙ ap (λ (k : ℕ). replicate (MARKS - k) 0) all-marked;
         }
 
     clear-fresh : fresh (page (withEntries o es)) ≡ cleared (fresh (page o))
@@ -292,10 +272,6 @@ module _ (o : OpenPage) where
         sym (getD-take n (padded MARKS 0 (marksOn all)) (n - 1) 0 (omega arith))
         ∙ ap (λ (ms : List ℕ). getD ms (n - 1) 0) (standing-marks (o .pile) es (l .stretches) (no-marks l))
 
-    leaves-low : leaves (fresh (page o)) ≤ fresh (page o) .count
-    unfolding fresh
-    leaves-low = omega (arith, leaves-newest, newest-low es some)
-
     back-fresh : fresh (page (laidAside o)) ≡ steppedBack (fresh (page o))
     unfolding fresh laidAside restored
     back-fresh =
@@ -319,12 +295,6 @@ module _ (o : OpenPage) (es : List Entry) where
     unfolding fresh restored
     rules-brought =
         sym (in-force ss (s ++ es) (h .1) _) ∙ ap₂ (inForce (f (s ∷ ss) .given) (f (s ∷ ss) .marks)) marks-brought fewer-wait
-
-  brings-low : (ss : List (List Entry)) → Stretches ss → 0 < length ss → f ss .count ≤ brings (f ss)
-  unfolding fresh
-  brings-low [] h some = absurd (omega arith)
-  brings-low (s ∷ ss) h some =
-      omega (arith, rules-brought s ss h, ap length (rules-more s es), length-append (rulesOn es) (rulesOn s))
 
   forward-fresh : (ss : List (List Entry)) → Stretches ss → 0 < length ss → fresh (page (takenUp ss (withPile o es ss))) ≡ steppedForward (f ss)
   unfolding fresh takenUp restored
@@ -353,12 +323,6 @@ module _ (o : OpenPage) {s : Sheet} (e : s ≡ fresh (page o)) (l : LawfulPile o
     pub after-back : fresh (page (laidAside o)) ≡ steppedBack s
     after-back = back-fresh o l some ∙ ap steppedBack (sym e)
 
-    pub back-low : leaves s ≤ s .count
-    back-low = subst (λ (t : Sheet). leaves t ≤ t .count) (sym e) (leaves-low o l some)
-
   module _ (some : 0 < length (o .pile)) where
     pub after-forward : fresh (page (takenUp (o .pile) o)) ≡ steppedForward s
     after-forward = forward-fresh o (o .entries) (o .pile) (l .stretches) some ∙ ap steppedForward (sym e)
-
-    pub forward-low : s .count ≤ brings s
-    forward-low = subst (λ (t : Sheet). t .count ≤ brings t) (sym e) (brings-low o (o .entries) (o .pile) (l .stretches) some)

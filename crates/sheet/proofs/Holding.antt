@@ -1,84 +1,45 @@
--- What is held says which number comes before the table, and that where none does the record has a page, lawful rules and their
--- bands; and a record with a page whose bands are drawn is held. Assumes nothing.
-use mathlib.Core.Path.{_≡_, refl, sym, ap, ap₂, _∙_, subst, subst₂}
+-- What is held says which number comes before the table, and that where none does the record has a page; and a record with a page whose
+-- bands are drawn is held. Assumes nothing.
+use mathlib.Core.Path.{_≡_, refl, sym, ap, _∙_, subst}
 use mathlib.Core.Bool.{Bool, true, false, false≢true}
-use mathlib.Core.List.{List, [], _∷_, map, _++_}
-use Prim.Native.Nat.{ℕ, zero, suc, _≤_, _<_}
+use mathlib.Core.List.{List}
+use Prim.Native.Nat.{ℕ, _<_}
 use native.Mathlib.Decide.{decLt, ℕ-discrete}
 use native.Mathlib.Omega.{arith}
 use borrow.Author.Tests.{eq-eqb, ne-eqb}
-use lib.ListN.{length, take}
-use lib.Seq.{take-take}
+use lib.ListN.{length}
 use Rattle.word.specs.declared.Edition.{Edition}
 use Rattle.word.specs.Edition.{same}
-use Rattle.word.specs.Word.{IsWidth, top}
 use Rattle.rule.specs.declared.Rule.{Rule}
-use Rattle.rule.specs.Meaning.{AllLawful, RULES}
+use Rattle.rule.specs.Meaning.{RULES}
 use Rattle.accept.specs.Accept.{refusalOf}
-use Rattle.band.specs.declared.Band.{Band}
-use Rattle.band.specs.Band.{AllLaid, bandOf}
-use Rattle.bits.specs.declared.Fixed.{Fixed}
-use Rattle.bits.specs.Fixed.{Tidy, Within, fixedBits}
-use Rattle.bits.proofs.Joined.{fixed-tidy, fixed-within}
-use Rattle.lent.proofs.Passes.{bands-laid}
-use Rattle.verdict.specs.declared.Kept.{Kept}
-use Rattle.verdict.specs.Kept.{kept}
-use Rattle.verdict.specs.OnBands.{Bounds, keptBy}
-use Rattle.verdict.proofs.Rules.{kept-bounds, kept-is}
-use Rattle.sheet.specs.declared.Sheet.{Sheet}
-use Rattle.page.specs.Calls.{add, refusal}
-use Rattle.page.specs.Page.{OpenPage, page, rulesOn}
-use Rattle.sheet.specs.Stands.{RuleSeen, Standing, Stands, before-table, by-table, no-sheet}
-use Rattle.sheet.specs.Statements.{IsSheet}
-use Rattle.page.proofs.Refusals.{add-bad, add-fits, add-full, add-other}
-use Rattle.sheet.proofs.Stands.{has-page, has-width, is-blank, known, rules-lawful, width-of}
-use Rattle.sheet.proofs.Tested.{passes-sheet, sheet-passes}
-use Rattle.sheet.proofs.WaysOfAsking.{kept-on}
-use Rattle.lent.specs.Lent.{Lie, zipped}
+use Rattle.bits.specs.declared.Fixed.the-variants.{Bits}
+use Rattle.lent.specs.Lent.{zipped}
 use Rattle.places.specs.Places.{rulesIn}
-use Rattle.sheet.specs.declared.Head.{Head}
-use Rattle.sheet.specs.Held.{Drawn, Held, Room, Waits, before, packed}
-use Rattle.sheet.specs.Laid.{ruleNumber}
-use Rattle.sheet.proofs.Numbers.{number-before, number-full, number-none, number-other, number-own}
+use Rattle.page.specs.Calls.{Call, add, refusal}
+use Rattle.page.specs.Page.{OpenPage, no-page, page, rulesOn}
+use Rattle.page.proofs.Refusals.{add-bad, add-fits, add-full, add-other}
+use Rattle.lent_head.specs.declared.Head.{Head}
+use Rattle.lent_head.specs.Held.{Drawn, Held, Room}
+use Rattle.lent_head.specs.Numbers.{before, ruleNumber}
+use Rattle.lent_head.specs.Shape.{standsSo}
+use Rattle.lent_head.proofs.Numbers.{number-before, number-full, number-none, number-other, number-own}
+use Rattle.lent_head.proofs.Told.{unread}
+use Rattle.lent_calls.specs.Done.{Refused}
+use Rattle.lent_calls.specs.Done.Refused.{before-first, own-ground}
+use Rattle.sheet.specs.declared.Sheet.{Sheet}
+use Rattle.sheet.specs.Held.{packed}
+use Rattle.sheet.specs.Shape.{isSheet}
+use Rattle.sheet.specs.Stands.{RuleSeen, Standing, Stands, before-table, by-table, no-sheet}
+use Rattle.sheet.specs.Statements.{IsSheet, Reads, answers}
+use Rattle.sheet.proofs.Stands.{has-page, has-width, is-blank, known, refused-standing}
+use Rattle.sheet.proofs.Tested.{passes-sheet, sheet-passes}
+use Rattle.sheet.proofs.Ways.{refused-reads}
 
-before-zero : (b : Bool) (w : ℕ) → before b w ≡ 0 → (b ≡ true) × (w ≡ 0 → ⊥)
-unfolding before
-before-zero false w e = absurd (omega arith)
-before-zero true w e = (refl, λ z. omega (arith, rw (eq-eqb w 0 z) at e))
-
--- bands and bits that are those of lawful rules may be swept
-pub record Swept (w n : ℕ) (from to : List ℕ) (side : List Bool) (fixed : Fixed) : Type 0 where
-  pub lie : Lie (top w) n (zipped from to side)
-  pub tidy : Tidy fixed
-  pub within : Within w fixed
-
-pub swept : (w n : ℕ) (from to : List ℕ) (side : List Bool) (fixed : Fixed) (rs : List Rule) → 1 ≤ w → n ≤ RULES → length (zipped from to side) ≡ RULES
-    → AllLawful w (take n rs) → Drawn w n n rs (zipped from to side) fixed → Swept w n from to side fixed
-swept w n from to side fixed rs low few places lawful d =
-    record {
-      lie = record { places = places; count = few; laid = subst (AllLaid (top w)) (sym (d .own)) (bands-laid w low (take n rs) lawful) };
-      tidy = subst Tidy (sym (d .bits)) (fixed-tidy (take n rs));
-      within = subst (Within w) (sym (d .bits)) (fixed-within w (take n rs) lawful);
-    }
-
--- and what is kept of them is what the rules give
-pub kept-found : (w n : ℕ) (rs : List Rule) (bands : List Band) (fixed : Fixed) → 1 ≤ w → AllLawful w (take n rs) → Drawn w n n rs bands fixed
-    → {k : Kept} → k ≡ keptBy w (take n bands) fixed → k ≡ kept w (take n rs)
-kept-found w n rs bands fixed low lawful d found = found ∙ ap₂ (keptBy w) (d .own) (d .bits) ∙ kept-is w low (take n rs) lawful
-
-take-map : {A B : Type 0} (f : A → B) (n : ℕ) (l : List A) → take n (map f l) ≡ map f (take n l)
-take-map f zero l = refl
-take-map f (suc n) [] = refl
-take-map f (suc n) (x ∷ l) = ap (λ (m : List _). f x ∷ m) (take-map f n l)
-
--- the first n bands are those of the first n rules
-pub first-drawn : {w given : ℕ} {rs : List Rule} {bands : List Band} → take given bands ≡ map (bandOf w) (take given rs)
-    → (n : ℕ) → n ≤ given → {f : Fixed} → f ≡ fixedBits (take n rs) → Drawn w n n rs bands f
-first-drawn {w} {given} {rs} {bands} own n low bits =
-    record {
-      own = sym (take-take n given bands low) ∙ ap (take n) own ∙ take-map (bandOf w) n (take given rs) ∙ ap (map (bandOf w)) (take-take n given rs low);
-      bits = bits;
-    }
+-- the record that head and arrays stand for passes where they do
+pub packed-told : (h : Head) (rules marks : List ℕ) → isSheet (packed h rules marks) ≡ standsSo h (rulesIn rules) marks
+unfolding isSheet packed
+packed-told h rules marks = unread h (rulesIn rules) marks false (Bits 0 0)
 
 module _ {h : Head} {rules marks from to : List ℕ} {side : List Bool} (held : Held h rules marks from to side) where
   abbrev s : Sheet
@@ -86,14 +47,14 @@ module _ {h : Head} {rules marks from to : List ℕ} {side : List Bool} (held : 
 
   is-sheet : h .stands ≡ true → IsSheet s
   unfolding packed
-  is-sheet e = passes-sheet s (held .room .rules-places) (held .room .marks-places) (sym (held .tested) ∙ e)
+  is-sheet e = passes-sheet s (held .room .rules-places) (held .room .marks-places) (packed-told h rules marks ∙ sym (held .tested) ∙ e)
 
   pub stands-so : Stands s (before (h .stands) (h .width))
   unfolding before packed
   stands-so = go (h .stands) refl (ℕ-discrete (h .width) 0)
     where
       go : (b : Bool) → h .stands ≡ b → Dec (h .width ≡ 0) → Stands s (before b (h .width))
-      go false e d = no-sheet (λ i. false≢true (sym e ∙ held .tested ∙ sheet-passes s i))
+      go false e d = no-sheet (λ i. false≢true (sym e ∙ held .tested ∙ sym (packed-told h rules marks) ∙ sheet-passes s i))
       go true e (yes z) = rw (eq-eqb (h .width) 0 z) (is-blank (is-sheet e) z)
       go true e (no z) = rw (ne-eqb (h .width) 0 z) (has-width (is-sheet e) z)
 
@@ -101,48 +62,11 @@ module _ {h : Head} {rules marks from to : List ℕ} {side : List Bool} (held : 
     pub on-sheet : Standing s
     on-sheet = has-page stands-so e
 
-    pub stands-true : h .stands ≡ true
-    stands-true = before-zero (h .stands) (h .width) e .0
-
-    pub width-so : IsWidth (h .width)
-    unfolding packed
-    width-so = width-of on-sheet
-
-    pub lawful-so : AllLawful (h .width) (take (h .count) (rulesIn rules))
-    unfolding packed
-    lawful-so = rules-lawful on-sheet
-
-    pub all-drawn : Drawn (h .width) (h .given) (h .count) (rulesIn rules) (zipped from to side) (h .fixed)
-    all-drawn = held .drawn stands-true (before-zero (h .stands) (h .width) e .1)
-
-    pub waits-so : Waits h (rulesIn rules) marks
-    unfolding packed
-    waits-so =
-        let g = known on-sheet in
-        record {
-          rules-places = g .rules-length;
-          marks-places = g .marks-length;
-          given-low = g .given-low;
-          given-high = g .given-high;
-          marks-high = g .marks-high;
-          rules-after = g .rules-after;
-          marks-after = g .marks-after;
-        }
-
-    pub drawn-so : Drawn (h .width) (h .count) (h .count) (rulesIn rules) (zipped from to side) (h .fixed)
-    drawn-so = first-drawn (all-drawn .own) (h .count) (waits-so .given-low) (all-drawn .bits)
-
-    -- what is kept bounds what is kept with rules more
-    pub bounds-so : (n : ℕ) (rs us : List Rule) (bands : List Band) (fixed : Fixed) → take n rs ≡ take (h .count) (rulesIn rules) ++ us
-        → AllLawful (h .width) (take n rs) → Drawn (h .width) n n rs bands fixed → Bounds (h .width) (take n bands) fixed (h .kept)
-    unfolding packed
-    bounds-so n rs us bands fixed more lawful d =
-        let w = h .width in
-        let old = take (h .count) (rulesIn rules) in
-        let rises = kept-bounds w (width-so .low) old us (subst (AllLawful w) more lawful) in
-        subst₂ (λ (bs : List Band) (f : Fixed). Bounds w bs f (h .kept)) (sym (d .own)) (sym (d .bits))
-        (subst (λ (l : List Rule). Bounds w (map (bandOf w) l) (fixedBits l) (h .kept)) (sym more)
-        (subst (Bounds w (map (bandOf w) (old ++ us)) (fixedBits (old ++ us))) (sym (kept-on on-sheet)) rises))
+  -- a refusal is the table's, whatever its number
+  pub refused-after : {own n : ℕ} {Ground : Type 0} → Refused h own Ground n → (c : Call) → refusal no-page c ≡ 1 → (own ≡ 0 → ⊥)
+      → ((p : Standing s) → Ground → refusal (page (p .on)) c ≡ own) → Reads s c (answers n s)
+  refused-after (before-first e z) c blank y table = refused-standing (subst (Stands s) (sym e) stands-so) z c blank
+  refused-after (own-ground e g) c blank y table = let p = on-sheet e in refused-reads _ (p .reached) (p .gives) c (table p g) y
 
   -- the rule's number is the table's
   module _ (d : Edition) (u : Rule) (e : before (h .stands) (h .width) ≡ 0) where
@@ -187,6 +111,6 @@ module _ {h : Head} {rules marks from to : List ℕ} {side : List Bool} where
   still-held p e room d =
       record {
         room = room;
-        tested = e ∙ sym (sheet-passes (packed h rules marks) (record { on = page (p .on); reached = p .reached; gives = p .gives }));
+        tested = e ∙ sym (sheet-passes (packed h rules marks) (record { on = page (p .on); reached = p .reached; gives = p .gives })) ∙ packed-told h rules marks;
         drawn = λ t z. d;
       }

@@ -4,7 +4,6 @@ pub mod Fresh
 pub mod Holding
 pub mod Marked
 pub mod Moved
-pub mod Numbers
 pub mod OnePage
 pub mod Opened
 pub mod ShapedRecord
@@ -12,6 +11,5 @@ pub mod Stands
 pub mod SteppedBack
 pub mod SteppedForward
 pub mod Tested
-pub mod Told
 pub mod Ways
 pub mod WaysOfAsking

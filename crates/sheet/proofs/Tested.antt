@@ -16,41 +16,27 @@ use Rattle.word.proofs.Editions.{same-told}
 use Rattle.word.proofs.Tests.{both-pass}
 use Rattle.rule.specs.Meaning.{RULES}
 use Rattle.accept.specs.Accept.{every, isNoRule}
-use Rattle.verdict.specs.declared.Kept.{Kept}
 use Rattle.verdict.specs.Kept.{keeps, kept}
 use Rattle.sheet.specs.declared.Sheet.{Sheet}
 use Rattle.page.specs.Page.{Entry, MARKS, OpenPage, Page, at-width, marksOn, newPage, no-page, padded, page, restored, rulesOn, withPile}
 use Rattle.sheet.specs.Record.{fresh}
-use Rattle.sheet.specs.Shape.{inForce, isSheet, sameKept, wellShaped}
+use Rattle.lent_head.specs.Shape.{inForce, sameKept, standsSo, wellShaped}
+use Rattle.lent_head.proofs.Shaped.{none-waits, passes-same, same-passes}
+use Rattle.sheet.specs.Shape.{isSheet}
 use Rattle.page.specs.Shape.{marksShaped, rising, rulesShaped}
 use Rattle.sheet.specs.Statements.{IsSheet}
 use Rattle.page.specs.Reached.Reached.{start}
-use Rattle.sheet.proofs.Fresh.{given, in-force, none-waits}
+use Rattle.sheet.proofs.Fresh.{given, in-force}
 use Rattle.page.proofs.Lawful.{LawfulPage, LawfulPile, reached-page}
 use Rattle.page.proofs.Replayed.{lawful-reached}
 use Rattle.page.proofs.ShapedMarks.{Entered, shaped-entered, shaped-marks-rise}
 use Rattle.page.proofs.Stretches.{Parted, parted, restored-marked}
-use Rattle.sheet.proofs.ShapedRecord.{ShapedSheet, filled, marksIn, rulesIn, shaped-filled, shaped-sheet}
-
-pub same-passes : (k : Kept) → sameKept k k ≡ true
-unfolding sameKept
-same-passes k = ap₂ _&&_ (eq-eqb (k .verdict) _ refl) (ap₂ _&&_ (eq-eqb (k .smallest) _ refl) (eq-eqb (k .largest) _ refl))
-
-passes-same : (k l : Kept) → sameKept k l ≡ true → k ≡ l
-unfolding sameKept
-passes-same k l e =
-    let verdict = both-pass (eqb (k .verdict) (l .verdict)) _ e in
-    let words = both-pass (eqb (k .smallest) (l .smallest)) _ (verdict .1) in
-    λ i. record {
-      verdict = eqb-true (k .verdict) (l .verdict) (verdict .0) i;
-      smallest = eqb-true (k .smallest) (l .smallest) (words .0) i;
-      largest = eqb-true (k .largest) (l .largest) (words .1) i;
-    }
+use Rattle.sheet.proofs.ShapedRecord.{ShapedSheet, filled, marksIn, rulesIn, shaped-filled, shaped-sheet, shapedSo}
 
 -- ---- what a page gives passes
 
 fresh-passes : (pg : Page) → LawfulPage pg → isSheet (fresh pg) ≡ true
-unfolding isSheet fresh wellShaped inForce rulesShaped marksShaped every isNoRule rising sameKept same
+unfolding isSheet standsSo fresh wellShaped inForce rulesShaped marksShaped every isNoRule rising sameKept same
 fresh-passes no-page l = refl
 fresh-passes (page o) l =
     let w : ℕ = o .opening .width in
@@ -67,9 +53,9 @@ sheet-passes s h = rw (h .gives) (fresh-passes (h .on) (reached-page (h .reached
 -- ---- what passes, a page gives
 
 passes-blank : (s : Sheet) → ShapedSheet s → s .width ≡ 0 → isSheet s ≡ true → IsSheet s
-unfolding isSheet fresh
+unfolding isSheet standsSo fresh
 passes-blank s h z e =
-    let edition = both-pass (same (s .edition) Old) _ (rw (eq-eqb (s .width) 0 z) at (both-pass (wellShaped s) _ e .1)) in
+    let edition = both-pass (same (s .edition) Old) _ (rw (eq-eqb (s .width) 0 z) at (both-pass (shapedSo s) _ e .1)) in
     let given = both-pass (eqb (s .given) 0) _ (edition .1) in
     let marked = both-pass (eqb (s .marked) 0) _ (given .1) in
     let waiting = both-pass (eqb (s .waiting) 0) _ (marked .1) in
@@ -117,10 +103,10 @@ module _ (s : Sheet) (h : ShapedSheet s) where
       h .places ∙ (λ i. filled (s .width) (noted-rules i) (noted-marks i) (noted-count i) (noted-marked i) (sym (parts .many) i) (s .kept) (s .edition))
 
 passes-opened : (s : Sheet) → ShapedSheet s → (s .width ≡ 0 → ⊥) → isSheet s ≡ true → IsSheet s
-unfolding isSheet fresh
+unfolding isSheet standsSo fresh
 passes-opened s h z e =
     let w : ℕ = s .width in
-    let t = both-pass (leb w (terms (s .edition) .widest)) _ (rw (ne-eqb w 0 z) at (both-pass (wellShaped s) _ e .1)) in
+    let t = both-pass (leb w (terms (s .edition) .widest)) _ (rw (ne-eqb w 0 z) at (both-pass (shapedSo s) _ e .1)) in
     let p = parts s h in
     let o : OpenPage = withPile (newPage (at-width w (s .edition))) (p .left) (p .pile) in
     let l : LawfulPile o =
@@ -145,11 +131,11 @@ passes-opened s h z e =
     }
 
 pub passes-sheet : (s : Sheet) → length (s .rules) ≡ RULES → length (s .marks) ≡ MARKS → isSheet s ≡ true → IsSheet s
-unfolding isSheet
+unfolding isSheet standsSo
 passes-sheet s a b e = go (ℕ-discrete (s .width) 0)
   where
     shaped : ShapedSheet s
-    shaped = shaped-sheet s a b (both-pass (wellShaped s) _ e .0)
+    shaped = shaped-sheet s a b (both-pass (shapedSo s) _ e .0)
 
     go : Dec (s .width ≡ 0) → IsSheet s
     go (yes z) = passes-blank s shaped z e

@@ -78,7 +78,7 @@ refused-asking (blank-sheet e) z b = refused-on no-page start e b (blank-ask (le
 refused-asking (on-page p) z b = absurd (z refl)
 
 -- what is kept is what the rules on the page give
-pub kept-on : {s : Sheet} → Standing s → s .kept ≡ kept (s .width) (take (s .count) (s .rules))
+kept-on : {s : Sheet} → Standing s → s .kept ≡ kept (s .width) (take (s .count) (s .rules))
 unfolding fresh
 kept-on p =
     let g = known p in

@@ -1,25 +1,10 @@
--- A sheet laid out: a small head, the rules and the marks in lent arrays, and the rules' bands in three more. A route: what a
--- call must answer is said of the record that they stand for.
-use mathlib.Core.Path.{_≡_}
-use mathlib.Core.Bool.{Bool, true, cond}
-use mathlib.Core.List.{List, map}
-use Prim.Native.Nat.{ℕ, _+_, _-_, _≤_}
-use lib.Dec.{eqb}
-use lib.ListN.{drop, length, replicate, take}
-use Rattle.rule.specs.declared.Rule.{Rule}
-use Rattle.rule.specs.Meaning.{RULES}
-use Rattle.band.specs.declared.Band.{Band}
-use Rattle.band.specs.Band.{bandOf}
-use Rattle.bits.specs.declared.Fixed.{Fixed}
-use Rattle.bits.specs.Fixed.{fixedBits}
+-- The record that a sheet laid out in lent arrays stands for. A route: what a call must answer is said of this record.
+use mathlib.Core.List.{List}
+use Prim.Native.Nat.{ℕ}
+use Rattle.places.specs.Places.{rulesIn}
+use Rattle.lent_head.specs.declared.Head.{Head}
 use Rattle.sheet.specs.declared.Sheet.{Sheet}
-use Rattle.page.specs.Page.{MARKS}
-use Rattle.sheet.specs.Shape.{isSheet}
-use Rattle.lent.specs.Lent.{zipped}
-use Rattle.places.specs.Places.{noRule, rulesIn}
-use Rattle.sheet.specs.declared.Head.{Head}
 
--- the record that the head and the arrays stand for
 unfoldable pub packed : Head → (rules marks : List ℕ) → Sheet
 packed h rules marks =
     record {
@@ -29,54 +14,6 @@ packed h rules marks =
       marks = marks;
       marked = h .marked;
       kept = h .kept;
-      given = h .given;
-      waiting = h .waiting;
-      edition = h .edition;
-    }
-
--- as many places as a record has
-pub record Room (rules marks from to : List ℕ) (side : List Bool) : Type 0 where
-  pub rules-places : length (rulesIn rules) ≡ RULES
-  pub marks-places : length marks ≡ MARKS
-  pub band-places : length (zipped from to side) ≡ RULES
-
--- the first bands are those of all rules given, in force and waiting, and the bits are those of the rules in force
-pub record Drawn (w given count : ℕ) (rs : List Rule) (bands : List Band) (fixed : Fixed) : Type 0 where
-  pub own : take given bands ≡ map (bandOf w) (take given rs)
-  pub bits : fixed ≡ fixedBits (take count rs)
-
--- What is held between calls: the head says whether the record is a sheet and, where it is one that is not blank, the bands and
--- the bits of its rules are drawn. The bands of rules that wait stay where they lie.
-pub record Held (h : Head) (rules marks from to : List ℕ) (side : List Bool) : Type 0 where
-  pub room : Room rules marks from to side
-  pub tested : h .stands ≡ isSheet (packed h rules marks)
-  pub drawn : h .stands ≡ true → (h .width ≡ 0 → ⊥)
-      → Drawn (h .width) (h .given) (h .count) (rulesIn rules) (zipped from to side) (h .fixed)
-
--- rules and marks that wait lie after those in force, in places that there are, and no rule and no mark after them
-pub record Waits (h : Head) (rs : List Rule) (ms : List ℕ) : Type 0 where
-  pub rules-places : length rs ≡ RULES
-  pub marks-places : length ms ≡ MARKS
-  pub given-low : h .count ≤ h .given
-  pub given-high : h .given ≤ RULES
-  pub marks-high : h .marked + h .waiting ≤ MARKS
-  pub rules-after : drop (h .given) rs ≡ replicate (RULES - h .given) noRule
-  pub marks-after : drop (h .marked + h .waiting) ms ≡ replicate (MARKS - (h .marked + h .waiting)) 0
-
--- the number that a record gets before the table is looked at: 17 where it is no sheet, 1 on the blank sheet, else 0
-unfoldable pub before : (stands : Bool) → (width : ℕ) → ℕ
-before stands width = cond stands (cond (eqb width 0) 1 0) 17
-
--- the head with another word on whether the record is a sheet
-abbrev pub stood : Head → Bool → Head
-stood h b =
-    record {
-      stands = b;
-      width = h .width;
-      count = h .count;
-      marked = h .marked;
-      kept = h .kept;
-      fixed = h .fixed;
       given = h .given;
       waiting = h .waiting;
       edition = h .edition;

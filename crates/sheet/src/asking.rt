@@ -1,12 +1,12 @@
 // Asking.
 ghost use mathlib.Core.Path.{_≡_};
-ghost use Rattle.sheet.specs.Held.{Held, packed};
+ghost use Rattle.lent_head.specs.Held.{Held};
+ghost use Rattle.sheet.specs.Held.{packed};
 ghost use Rattle.sheet.specs.Statements.{Asked, refuses};
-use crate::Head;
 use crate::Reply;
 use crate::Sheet;
 use crate::laying;
-use crate::standing;
+use lent_head::Head;
 use places::NUMBERS;
 use rule::Rule;
 use verdict::Kept;
@@ -40,7 +40,7 @@ pub fn ask(
     requires { ⌜ Held head (now rules) (now marks) (now from) (now to) (now side) ⌝ }
     ensures { λ r. ⌜ Asked (packed head (now (rules .entry)) (now (marks .entry))) (now (out .entry)) (now (out .exit)) r ⌝ }
 {
-    let number = standing::standing(head);
+    let number = lent_head::standing(head);
     if number != 0 {
         return refusal(number);
     }

@@ -1,20 +1,34 @@
 // A record laid out, tested, and packed again.
 ghost use mathlib.Core.Path.{_≡_};
+ghost use mathlib.Core.Bool.{true};
 ghost use lib.ListN.{length};
 ghost use Rattle.rule.specs.Meaning.{RULES};
 ghost use Rattle.places.specs.Places.{rulesIn};
-ghost use Rattle.sheet.specs.Held.{Held, Room, packed, stood};
-ghost use Rattle.page.specs.Page.{MARKS};
+ghost use Rattle.lent_head.specs.Held.{Held, Room};
+ghost use Rattle.sheet.specs.Held.{packed};
+ghost use Rattle.sheet.specs.Shape.{Whole, isSheet};
 ghost use Rattle.sheet.specs.Statements.{answers};
 use crate::Answer;
-use crate::Head;
-use crate::Said;
 use crate::Sheet;
-use crate::shape;
 use bits::Fixed;
+use lent_head::Head;
+use lent_head::Said;
 use places::NUMBERS;
 use rule::Rule;
-use word::Width;
+
+impl Sheet {
+    // Whether some page of accepted calls gives this record, kept numbers included.
+    pub fn is_sheet(self) -> bool
+        ensures { λ r. ⌜ (r ≡ isSheet self) × (r ≡ true → Whole (self .rules) (self .marks)) ⌝ }
+    {
+        let mut rules = [0; NUMBERS];
+        let mut marks: [usize; Sheet::MARKS] = [0; Sheet::MARKS];
+        let mut from = [0; Rule::LIMIT];
+        let mut to = [0; Rule::LIMIT];
+        let mut side = [false; Rule::LIMIT];
+        lay_out(self, &mut rules, &mut marks, &mut from, &mut to, &mut side).stands
+    }
+}
 
 // Lays a record out, sheet or not, and tests whether it is one.
 pub fn lay_out(
@@ -34,7 +48,7 @@ pub fn lay_out(
     let kept = sheet.kept;
     let edition = sheet.edition;
     places::lay_out(&mut *rules, laid);
-    set_marks(&mut *marks, set);
+    lent_head::set_marks(&mut *marks, set);
     let head = Head {
         stands: false,
         width: sheet.width,
@@ -46,56 +60,7 @@ pub fn lay_out(
         waiting: sheet.waiting,
         edition,
     };
-    tested(head, &*rules, &*marks, &mut *from, &mut *to, &mut *side)
-}
-
-// The marks of a record, laid out.
-fn set_marks(marks: &mut [usize; Sheet::MARKS], set: [usize; Sheet::MARKS])
-    ensures { λ _. ⌜ (now (marks .exit) ≡ set) × (length (now (marks .exit)) ≡ MARKS) ⌝ }
-{
-    *marks = set;
-}
-
-// The head with the test whether the record is a sheet and, where it is and is not blank, the bands of its rules drawn, of those that
-// wait too.
-fn tested(
-    head: Head,
-    rules: &[u64; NUMBERS],
-    marks: &[usize; Sheet::MARKS],
-    from: &mut [u64; Rule::LIMIT],
-    to: &mut [u64; Rule::LIMIT],
-    side: &mut [bool; Rule::LIMIT],
-) -> Head
-    requires { ⌜ Room (now rules) (now marks) (now from) (now to) (now side) ⌝ }
-    ensures { λ r. ⌜ packed r (now (rules .entry)) (now (marks .entry)) ≡ packed head (now (rules .entry)) (now (marks .entry)) ⌝ }
-    ensures { λ r. ⌜ Held r (now (rules .entry)) (now (marks .entry)) (now (from .exit)) (now (to .exit)) (now (side .exit)) ⌝ }
-{
-    let width = head.width;
-    let count = head.count;
-    let given = head.given;
-    let kept = head.kept;
-    let edition = head.edition;
-    if width == 0 {
-        return head.standing(shape::blank(head, rules, marks));
-    }
-    if !shape::shaped(head, rules, marks) {
-        return head.standing(false);
-    }
-    let bits = Width { bits: width };
-    places::draw(rules, &mut *from, &mut *to, &mut *side, given, bits);
-    let fixed = places::bits_of(rules, count);
-    let found = verdict::laid::solve(&*from, &*to, &*side, count, fixed, bits, 0, bits.top());
-    Head {
-        stands: shape::same_kept(kept, found),
-        width,
-        count,
-        marked: head.marked,
-        kept,
-        fixed,
-        given,
-        waiting: head.waiting,
-        edition,
-    }
+    lent_head::tested(head, &*rules, &*marks, &mut *from, &mut *to, &mut *side)
 }
 
 // Packs the record that the head and the arrays stand for.
@@ -130,26 +95,5 @@ pub fn answered(said: Said, rules: &[u64; NUMBERS], marks: &[usize; Sheet::MARKS
     Answer {
         number: said.number,
         sheet,
-    }
-}
-
-impl Head {
-    fn standing(self, stands: bool) -> Head
-        ensures { λ r. ⌜ r ≡ stood self stands ⌝ }
-    {
-        let kept = self.kept;
-        let fixed = self.fixed;
-        let edition = self.edition;
-        Head {
-            stands,
-            width: self.width,
-            count: self.count,
-            marked: self.marked,
-            kept,
-            fixed,
-            given: self.given,
-            waiting: self.waiting,
-            edition,
-        }
     }
 }

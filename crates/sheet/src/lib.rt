@@ -5,21 +5,18 @@ ghost use Rattle.sheet.specs.Record.{blank};
 
 mod adding;
 mod asking;
-mod clearing;
 mod going_back;
 mod going_forward;
 pub mod laid;
 mod laying;
 mod marking;
 mod opening;
-mod shape;
-mod standing;
 
 pub use asking::refusal;
-use bits::Fixed;
 use chain::Link;
+pub use lent_head::Head;
+pub use lent_head::Said;
 use rule::Rule;
-pub use shape::same_kept;
 use verdict::Kept;
 use word::Edition;
 
@@ -49,26 +46,6 @@ pub struct Reply {
     pub number: u64,
     pub kept: Kept,
     pub links: usize,
-}
-
-// What a sheet that is laid out has beside its arrays: whether the record is a sheet at all, its numbers, and the bits that the
-// rules in force fix.
-pub struct Head {
-    pub stands: bool,
-    pub width: u64,
-    pub count: usize,
-    pub marked: usize,
-    pub kept: Kept,
-    pub fixed: Fixed,
-    pub given: usize,
-    pub waiting: usize,
-    pub edition: Edition,
-}
-
-// What a call on a sheet that is laid out answers: 0 or the number of a refusal, and the head as it is then.
-pub struct Said {
-    pub number: u64,
-    pub head: Head,
 }
 
 // A place that no rule has taken.

@@ -5,6 +5,7 @@ use Rattle.sheet.specs.declared.Sheet.{Sheet}
 use Rattle.sheet.specs.Held.{packed}
 use Rattle.sheet.specs.Shape.{isSheet}
 use Rattle.sheet.proofs.ByValue.{empty-room}
+use Rattle.sheet.proofs.Holding.{packed-told}
 use Rattle.sheet.proofs.Sheet.is_sheet.Statement.{statement}
 use Rattle.sheet.proofs.Sheet.is_sheet.Tie as tie
 
@@ -16,7 +17,7 @@ unfolding packed
 returns c =
     let laid = c .lay-out .ensures .0 in
     let held = c .lay-out .ensures .1 in (
-      held .tested ∙ ap isSheet laid,
+      held .tested ∙ sym (packed-told _ _ _) ∙ ap isSheet laid,
       λ e. record {
         rules-length = sym (ap (λ (s : Sheet). length (s .rules)) laid) ∙ held .room .rules-places;
         marks-length = sym (ap (λ (s : Sheet). length (s .marks)) laid) ∙ held .room .marks-places;

@@ -10,14 +10,14 @@ use Rattle.rule.specs.Meaning.{RULES}
 use Rattle.verdict.specs.declared.Kept.{Kept}
 use Rattle.sheet.specs.Stands.{Standing, Stands}
 use Rattle.sheet.specs.Statements.{Asked}
-use Rattle.sheet.proofs.WaysOfAsking.{chain-asking, kept-asking, kept-on, refused-asking, short-asking}
-use Rattle.page.proofs.Lawful.{reached-lawful}
-use Rattle.sheet.proofs.Stands.{known}
+use Rattle.sheet.proofs.WaysOfAsking.{chain-asking, kept-asking, refused-asking, short-asking}
 use Rattle.chain.specs.OfRules.{OfRules}
 use Rattle.lent.specs.Lent.{zipped}
 use Rattle.places.specs.Places.{rulesIn}
-use Rattle.sheet.specs.Held.{before, packed}
-use Rattle.sheet.proofs.Holding.{drawn-so, lawful-so, on-sheet, stands-so, swept, width-so}
+use Rattle.lent_head.specs.Numbers.{before}
+use Rattle.sheet.specs.Held.{packed}
+use Rattle.lent_head.proofs.Holding.{drawn-so, kept-so, lawful-so, swept, waits-so, width-so}
+use Rattle.sheet.proofs.Holding.{on-sheet, stands-so}
 use Rattle.sheet.proofs.asking.ask.Statement.{statement}
 use Rattle.sheet.proofs.asking.ask.Tie as tie
 
@@ -31,8 +31,7 @@ on : (a : tie.Else1) → Standing (packed (start a .args .head) (start a .args .
 on a = on-sheet (start a .pre) (none a)
 
 few : (a : tie.Else1) → start a .args .head .count ≤ RULES
-unfolding packed
-few a = let p = on a in omega (arith, known p .count, reached-lawful (p .reached) .rules-fit)
+few a = let w = waits-so (start a .pre) (none a) in omega (arith, w .given-low, w .given-high)
 
 abbrev rs : tie.Else1 → List Rule
 rs a = take (start a .args .head .count) (rulesIn (start a .args .rules .now))
@@ -40,11 +39,10 @@ rs a = take (start a .args .head .count) (rulesIn (start a .args .rules .now))
 -- the rules that the bands and the bits are those of
 of-rules : (a : tie.Else1) → start a .args .head .kept .verdict ≡ 0
     → OfRules (start a .args .head .width) (take (start a .args .head .count) (zipped (start a .args .from .now) (start a .args .to .now) (start a .args .side .now))) (start a .args .head .fixed) (rs a)
-unfolding packed
 of-rules a e =
     let h = start a .pre in
     let d = drawn-so h (none a) in
-    record { lawful = lawful-so h (none a); own = d .own; bits = d .bits; none = sym (ap (λ (k : Kept). k .verdict) (kept-on (on a))) ∙ e }
+    record { lawful = lawful-so h (none a); own = d .own; bits = d .bits; none = sym (ap (λ (k : Kept). k .verdict) (kept-so h (none a))) ∙ e }
 
 standing-requires : tie.Need-standing-requires
 standing-requires c κs = search needs

@@ -1,8 +1,7 @@
 -- `lay_out` meets its contract: the arrays hold the record, and the head its numbers. Assumes nothing.
-use mathlib.Core.Path.{_∙_}
 use Prim.Native.Nat.{_-_}
 use borrow.Author.Needs.{needs}
-use Rattle.sheet.specs.Held.{packed}
+use Rattle.sheet.proofs.ByValue.{laid-out}
 use Rattle.sheet.proofs.laying.lay_out.Statement.{statement}
 use Rattle.sheet.proofs.laying.lay_out.Tie as tie
 
@@ -23,25 +22,11 @@ tested-requires c κs =
     }
 
 returns : tie.Need-returns
-unfolding packed
 returns c =
     let m = c .before .before .before .before .before .before in
     let o = m .before .before in
-    let s = o .before .before .before .before .before in (
-      c .tested .ensures .0
-          ∙ (λ i. record {
-            width = s .args .sheet .width;
-            rules = o .lay-out .ensures .0 i;
-            count = s .args .sheet .count;
-            marks = m .set-marks .ensures .0 i;
-            marked = s .args .sheet .marked;
-            kept = s .args .sheet .kept;
-            given = s .args .sheet .given;
-            waiting = s .args .sheet .waiting;
-            edition = s .args .sheet .edition;
-          }),
-      c .tested .ensures .1,
-    )
+    let s = o .before .before .before .before .before in
+    (laid-out (s .args .sheet) _ (c .tested .ensures .0) (o .lay-out .ensures .0) (m .set-marks .ensures .0), c .tested .ensures .1)
 
 pub lay-out-spec : {M : Type 1} → statement M
 lay-out-spec = tie.close (tie.spec lay-out-requires set-marks-requires tested-requires returns)

@@ -1,0 +1,6 @@
+pub mod Added
+pub mod Bare
+pub mod Moved
+pub mod Opened
+pub mod SteppedBack
+pub mod SteppedForward

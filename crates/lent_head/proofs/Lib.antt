@@ -1,0 +1,4 @@
+pub mod Holding
+pub mod Numbers
+pub mod Shaped
+pub mod Told

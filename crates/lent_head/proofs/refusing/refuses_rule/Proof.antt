@@ -1,0 +1,62 @@
+-- `refuses_rule` meets its contract. Assumes nothing.
+use mathlib.Core.Path.{_≡_, sym, _∙_}
+use Prim.Native.Nat.{_-_}
+use borrow.Author.Needs.{needs}
+use mathlib.Core.Bool.{true}
+use Rattle.word.specs.Edition.{same}
+use Rattle.accept.proofs.Choices.{failed, passed}
+use Rattle.lent_head.specs.Numbers.{before}
+use Rattle.lent_head.proofs.Numbers.{number-before, number-full, number-none, number-other, number-own}
+use Rattle.lent_head.proofs.refusing.refuses_rule.Statement.{statement}
+use Rattle.lent_head.proofs.refusing.refuses_rule.Tie as tie
+
+same-requires : tie.Need-same-requires
+same-requires c κs = search needs
+
+standing-requires : tie.Need-standing-requires
+standing-requires c κs = search needs
+
+-- where nothing comes before the table
+abbrev start : tie.Else1 → tie.Start
+start a = a .before .before .before
+
+none : (a : tie.Else1) → before (start a .args .head .stands) (start a .args .head .width) ≡ 0
+none a = sym (a .before .standing .ensures) ∙ a .if1 .left
+
+returns : tie.Need-returns
+returns c =
+    let n = c .before .standing .ensures in
+    n ∙ number-before _ _ _ (λ z. c .if1 .taken (n ∙ z))
+
+returns-2 : tie.Need-returns-2
+returns-2 c = let a = c .before in number-other _ _ _ (none a) (failed (a .before .before .same .ensures) (c .if2 .taken))
+
+-- where the frame is of the sheet's edition
+own-edition : (b : tie.Else2) → same (start (b .before) .args .edition) (start (b .before) .args .head .edition) ≡ true
+own-edition b = passed (b .before .before .before .same .ensures) (b .if2 .left)
+
+refusal-of-requires : tie.Need-refusal-of-requires
+refusal-of-requires c κs = let a = c .before in start a .pre (none a)
+
+returns-3 : tie.Need-returns-3
+returns-3 c =
+    let r = c .before .refusal-of .ensures in
+    let b = c .before .before in
+    r ∙ number-own _ _ _ (none (b .before)) (own-edition b) (λ z. c .if3 .taken (r ∙ z))
+
+returns-4 : tie.Need-returns-4
+returns-4 c =
+    let o = c .before in
+    let b = o .before .before in
+    number-full _ _ _ (none (b .before)) (own-edition b) (sym (o .before .refusal-of .ensures) ∙ o .if3 .left) (c .if4 .taken)
+
+returns-5 : tie.Need-returns-5
+returns-5 c =
+    let o = c .before in
+    let b = o .before .before in
+    number-none _ _ _ (none (b .before)) (own-edition b) (sym (o .before .refusal-of .ensures) ∙ o .if3 .left) (c .if4 .left)
+
+pub refuses-rule-spec : {M : Type 1} → statement M
+refuses-rule-spec =
+    tie.close
+    (tie.spec same-requires standing-requires returns returns-2 refusal-of-requires returns-3 returns-4 returns-5)

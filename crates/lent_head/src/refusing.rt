@@ -1,0 +1,48 @@
+// The numbers that a call finds from the head before it does anything.
+ghost use mathlib.Core.Path.{_≡_};
+ghost use Rattle.word.specs.Word.{IsWidth};
+ghost use Rattle.lent_head.specs.Numbers.{before, ruleNumber};
+use crate::Head;
+use rule::Rule;
+use word::Edition;
+use word::Width;
+
+// What every call but an opening looks at first: 17 where the record is no sheet, 1 on the blank sheet.
+pub fn standing(head: Head) -> u64
+    ensures { λ r. ⌜ r ≡ before (head .stands) (head .width) ⌝ }
+{
+    let stands = head.stands;
+    let width = head.width;
+    if stands {
+        if width == 0 {
+            return 1;
+        }
+        return 0;
+    }
+    17
+}
+
+// The number with which a rule is refused, or 0. Another edition's frame is refused before the rule is looked at.
+pub fn refuses_rule(head: Head, edition: Edition, rule: Rule) -> u64
+    requires { ⌜ (before (head .stands) (head .width) ≡ 0 → IsWidth (head .width)) ⌝ }
+    ensures { λ r. ⌜ r ≡ ruleNumber head edition rule ⌝ }
+{
+    let count = head.count;
+    let kind = head.edition;
+    let own = edition.same(kind);
+    let number = standing(head);
+    if number != 0 {
+        return number;
+    }
+    if !own {
+        return 11;
+    }
+    let bad = accept::refusal_of(rule, Width { bits: head.width });
+    if bad != 0 {
+        return bad;
+    }
+    if Rule::LIMIT <= count {
+        return 6;
+    }
+    0
+}
