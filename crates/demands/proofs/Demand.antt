@@ -18,7 +18,8 @@ use Rattle.sheet.specs.declared.Reply.{Reply}
 use Rattle.sheet.specs.declared.Sheet.{Sheet}
 use Rattle.page.specs.Calls.{Call, accepts, add, after, ask, back, clerk, forward, grounds, mark, open-at, refusal, replay, written}
 use Rattle.demands.specs.Demands.{FreshlyGiven}
-use Rattle.page.specs.Page.{OpenPage, Opening, Page, no-page, page, rulesOn}
+use Rattle.page.specs.declared.Opening.{Opening}
+use Rattle.page.specs.Page.{OpenPage, Page, no-page, page, rulesOn}
 use Rattle.sheet.specs.Record.{blank, fresh}
 use Rattle.sheet.specs.Statements.{AllAccepted, IsSheet, Outcome, Sequence, answers, asks, calls, done, opened}
 use Rattle.page.specs.Reached.{Reached, start}
@@ -48,7 +49,7 @@ module _ {s : Sheet} (pg : Page) (e : s ≡ fresh pg) where
   pub outcome-on : Reached pg → (c : Call) {r : Answer} → Outcome s c r → r ≡ answers (refusal pg c) (fresh (after pg c))
   unfolding Outcome
   outcome-on h (open-at g) p = p ∙ opened-on g
-  outcome-on h (add u) p = p .on-page pg h e
+  outcome-on h (add d u) p = p .on-page pg h e
   outcome-on h mark p = p .on-page pg h e
   outcome-on h back p = p .on-page pg h e
   outcome-on h forward p = p .on-page pg h e
@@ -85,7 +86,7 @@ module _ {s : Sheet} (pg : Page) (h : Reached pg) (e : s ≡ fresh pg) where
   some-outcome : (c : Call) → ((r : Answer) × Outcome s c r) ⊎ ((m : ℕ) × (c ≡ ask m))
   unfolding Outcome
   some-outcome (open-at g) = inl (opened s g, refl)
-  some-outcome (add u) = inl (_, sheet-reads pg h e (add u) refl)
+  some-outcome (add d u) = inl (_, sheet-reads pg h e (add d u) refl)
   some-outcome mark = inl (_, sheet-reads pg h e mark refl)
   some-outcome back = inl (_, sheet-reads pg h e back refl)
   some-outcome forward = inl (_, sheet-reads pg h e forward refl)

@@ -1,4 +1,5 @@
 pub mod Again
 pub mod Answered
 pub mod Demand
+pub mod Editions
 pub mod Unique

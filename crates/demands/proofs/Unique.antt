@@ -12,7 +12,8 @@ use Rattle.sheet.specs.declared.Answer.{Answer}
 use Rattle.sheet.specs.declared.Reply.{Reply}
 use Rattle.sheet.specs.declared.Sheet.{Sheet}
 use Rattle.page.specs.Calls.{Call, add, ask, back, forward, mark, open-at, refusal}
-use Rattle.page.specs.Page.{Opening, Page, no-page}
+use Rattle.page.specs.declared.Opening.{Opening}
+use Rattle.page.specs.Page.{Page, no-page}
 use Rattle.sheet.specs.Record.{fresh}
 use Rattle.sheet.specs.Statements.{Asked, IsSheet, Outcome, Reads, chainOn, opened, overlaid, reply}
 use Rattle.page.proofs.Refusals.{after-refused}
@@ -28,7 +29,7 @@ reads-unique {s} {c} {r} {r′} a a′ = go (sheet-dec s)
 pub outcome-unique : (s : Sheet) (c : Call) {r r′ : Answer} → Outcome s c r → Outcome s c r′ → r ≡ r′
 unfolding Outcome
 outcome-unique s (open-at g) a a′ = a ∙ sym a′
-outcome-unique s (add u) a a′ = reads-unique a a′
+outcome-unique s (add d u) a a′ = reads-unique a a′
 outcome-unique s mark a a′ = reads-unique a a′
 outcome-unique s back a a′ = reads-unique a a′
 outcome-unique s forward a a′ = reads-unique a a′
@@ -64,7 +65,7 @@ pub outcome-leaves : {s : Sheet} (c : Call) (r : Answer) → Outcome s c r → (
 unfolding Outcome
 outcome-leaves {s} (open-at g) r a k =
     ap (λ (t : Answer). t .sheet) a ∙ opened-leaves s g (λ q. k (ap (λ (t : Answer). t .number) a ∙ q))
-outcome-leaves (add u) r a k = reads-leaves a k
+outcome-leaves (add d u) r a k = reads-leaves a k
 outcome-leaves mark r a k = reads-leaves a k
 outcome-leaves back r a k = reads-leaves a k
 outcome-leaves forward r a k = reads-leaves a k

@@ -2,7 +2,7 @@
 use mathlib.Core.Path.{_≡_}
 use mathlib.Core.List.{List}
 use Prim.Native.Nat.{ℕ}
-use lib.ListN.{length}
+use lib.ListN.{length, take}
 use Rattle.rule.specs.declared.Rule.{Rule}
 use Rattle.verdict.specs.Demand.{Right}
 use Rattle.chain.specs.declared.Link.{Link}
@@ -36,3 +36,8 @@ pub record FreshlyGiven (s : Sheet) (pg : Page) : Type 0 where
   pub given : (t : Sheet) × Sequence blank (replay pg) t
   pub equals : {t : Sheet} → Sequence blank (replay pg) t → s ≡ t
   pub accepted : {t : Sheet} (q : Sequence blank (replay pg) t) → AllAccepted q
+
+-- two sheets with the same width and the same rules in force, of whatever edition
+pub record SameRules (s t : Sheet) : Type 0 where
+  pub width : s .width ≡ t .width
+  pub rules : take (s .count) (s .rules) ≡ take (t .count) (t .rules)
