@@ -19,13 +19,15 @@ use Rattle.sheet.specs.declared.Sheet.{Sheet}
 use Rattle.sheet.specs.Shape.{isSheet}
 use Rattle.sheet.specs.Stands.{Standing}
 use Rattle.page.proofs.Lawful.{reached-lawful}
-use Rattle.sheet.proofs.Holding.{first-drawn}
+use Rattle.lent_head.proofs.Holding.{first-drawn}
+use Rattle.sheet.proofs.Holding.{packed-told}
 use Rattle.sheet.proofs.Stands.{has-page, has-width, known, rules-lawful, width-of}
 use Rattle.sheet.proofs.Tested.{passes-sheet}
 use Rattle.lent.specs.Lent.{Lie, zipped}
 use Rattle.places.specs.Places.{rulesIn}
-use Rattle.sheet.specs.declared.Head.{Head}
-use Rattle.sheet.specs.Held.{Held, packed}
+use Rattle.lent_head.specs.declared.Head.{Head}
+use Rattle.lent_head.specs.Held.{Held}
+use Rattle.sheet.specs.Held.{packed}
 use Rattle.checker.specs.Accepted.{Accepted}
 use Rattle.checker.specs.Check.{accepts, linksIn, shown, shownBy}
 use Rattle.checker.specs.Route.{OfRules}
@@ -56,7 +58,7 @@ module _ {h : Head} {rules marks from to : List ℕ} {side : List Bool} (held : 
   pub no-sheet-no : h .stands ≡ false → (ns : List ℕ) → false ≡ accepts s ns
   unfolding accepts
   no-sheet-no e ns =
-      sym (ap (λ (b : Bool). b && (not (eqb (s .width) 0) && shownBy (s .width) (take (s .count) (s .rules)) ns)) (sym (held .tested) ∙ e))
+      sym (ap (λ (b : Bool). b && (not (eqb (s .width) 0) && shownBy (s .width) (take (s .count) (s .rules)) ns)) (packed-told h rules marks ∙ sym (held .tested) ∙ e))
 
   pub blank-no : h .width ≡ 0 → (ns : List ℕ) → false ≡ accepts s ns
   unfolding accepts packed
@@ -71,7 +73,7 @@ module _ {h : Head} {rules marks from to : List ℕ} {side : List Bool} (held : 
 
     standing : Standing s
     unfolding packed
-    standing = has-page (has-width (passes-sheet s (held .room .rules-places) (held .room .marks-places) (sym (held .tested) ∙ e)) z) refl
+    standing = has-page (has-width (passes-sheet s (held .room .rules-places) (held .room .marks-places) (packed-told h rules marks ∙ sym (held .tested) ∙ e)) z) refl
 
     pub width-so : IsWidth (h .width)
     unfolding packed
@@ -100,4 +102,4 @@ module _ {h : Head} {rules marks from to : List ℕ} {side : List Bool} (held : 
     pub shown-so : (ns : List ℕ) → shownBy (h .width) own ns ≡ accepts s ns
     unfolding accepts packed
     shown-so ns =
-        sym (ap₂ (λ (a b : Bool). a && (not b && shownBy (h .width) own ns)) (sym (held .tested) ∙ e) (ne-eqb (h .width) 0 z))
+        sym (ap₂ (λ (a b : Bool). a && (not b && shownBy (h .width) own ns)) (packed-told h rules marks ∙ sym (held .tested) ∙ e) (ne-eqb (h .width) 0 z))
