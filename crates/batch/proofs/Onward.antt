@@ -2,15 +2,16 @@
 use mathlib.Core.Path.{_≡_}
 use Prim.Native.Nat.{ℕ}
 use borrow.Author.Tests.{eq-eqb, ne-eqb}
+use Rattle.word.specs.declared.Edition.{Edition}
 use Rattle.sheet.specs.declared.Answer.{Answer}
 use Rattle.batch.specs.declared.course.Course.{Course}
 use Rattle.batch.specs.Course.{onward}
 
-abbrev at : Answer → ℕ → Course
-at a p = record { number = a .number; sheet = a .sheet; place = p }
+abbrev at : Edition → Answer → ℕ → Course
+at e a p = record { number = a .number; sheet = a .sheet; place = p; edition = e }
 
-pub stops-at : (a : Answer) (p q : ℕ) → (a .number ≡ 0 → ⊥) → at a p ≡ onward a p q
-stops-at a p q n = rw (ne-eqb (a .number) 0 n)
+pub stops-at : (e : Edition) (a : Answer) (p q : ℕ) → (a .number ≡ 0 → ⊥) → at e a p ≡ onward e a p q
+stops-at e a p q n = rw (ne-eqb (a .number) 0 n)
 
-pub goes-on : (a : Answer) (p q : ℕ) → a .number ≡ 0 → at a q ≡ onward a p q
-goes-on a p q e = rw (eq-eqb (a .number) 0 e)
+pub goes-on : (e : Edition) (a : Answer) (p q : ℕ) → a .number ≡ 0 → at e a q ≡ onward e a p q
+goes-on e a p q z = rw (eq-eqb (a .number) 0 z)

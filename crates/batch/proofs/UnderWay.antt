@@ -13,11 +13,13 @@ use lib.Dec.{eqb, ltb}
 use lib.ListN.{drop, drop-of-length-le, getD, length}
 use lib.Seq.{drop-cons}
 use Rattle.word.proofs.Tests.{both-pass}
+use Rattle.word.specs.declared.Edition.{Edition}
 use Rattle.rule.specs.declared.Rule.{Rule}
 use Rattle.chain.specs.Links.{numbersOf}
 use Rattle.sheet.specs.declared.Answer.{Answer}
 use Rattle.page.specs.Calls.{Call, add, after, open-at, refusal}
-use Rattle.page.specs.Page.{Opening, Page, noRule, no-page}
+use Rattle.page.specs.declared.Opening.{Opening}
+use Rattle.page.specs.Page.{Page, noRule, no-page}
 use Rattle.sheet.specs.Record.{fresh}
 use Rattle.sheet.specs.Statements.{Outcome, answers}
 use Rattle.page.specs.Reached.{Reached, start}
@@ -31,7 +33,7 @@ use Rattle.batch.proofs.Onward.{goes-on, stops-at}
 
 pub data UnderWay (g : Opening) (us : List Rule) (m : ℕ) (c : Course) : Type 0 where
   on-page : (pg : Page) → Reached pg → c .number ≡ 0 → c .sheet ≡ fresh pg → c .place ≤ length us
-      → batch g us m ≡ added pg (c .place) (drop (c .place) us) m → UnderWay g us m c
+      → batch g us m ≡ added (c .edition) pg (c .place) (drop (c .place) us) m → UnderWay g us m c
   stopped : (c .number ≡ 0 → ⊥) → c .place ≤ length us → batch g us m ≡ stops (c .number) (c .place) → UnderWay g us m c
 
 -- what is left to do: nothing once the batch has stopped
@@ -50,25 +52,25 @@ module _ (g : Opening) (us : List Rule) (m : ℕ) where
   place-fits (stopped z p q) = p
 
   -- after a call on a page: on at the place q with the rules from there, or stopped at the place p
-  module _ {pg : Page} (h : Reached pg) (c : Call) (p q : ℕ) (p-fits : p ≤ n) (q-fits : refusal pg c ≡ 0 → q ≤ n) where
-    call-way : (refusal pg c ≡ 0 → batch g us m ≡ added (after pg c) q (drop q us) m)
+  module _ (d : Edition) {pg : Page} (h : Reached pg) (c : Call) (p q : ℕ) (p-fits : p ≤ n) (q-fits : refusal pg c ≡ 0 → q ≤ n) where
+    call-way : (refusal pg c ≡ 0 → batch g us m ≡ added d (after pg c) q (drop q us) m)
         → ((refusal pg c ≡ 0 → ⊥) → batch g us m ≡ stops (refusal pg c) p) → {a : Answer}
-        → a ≡ answers (refusal pg c) (fresh (after pg c)) → Way (onward a p q)
-    call-way goes-to stops-with {a} e = subst (λ (b : Answer). Way (onward b p q)) (sym e) (go (ℕ-discrete (refusal pg c) 0))
+        → a ≡ answers (refusal pg c) (fresh (after pg c)) → Way (onward d a p q)
+    call-way goes-to stops-with {a} e = subst (λ (b : Answer). Way (onward d b p q)) (sym e) (go (ℕ-discrete (refusal pg c) 0))
       where
         b : Answer
         b = answers (refusal pg c) (fresh (after pg c))
 
-        go : Dec (refusal pg c ≡ 0) → Way (onward b p q)
-        go (yes z) = subst Way (goes-on b p q z) (on-page (after pg c) (after-reached h c) z refl (q-fits z) (goes-to z))
-        go (no z) = subst Way (stops-at b p q z) (stopped z p-fits (stops-with z))
+        go : Dec (refusal pg c ≡ 0) → Way (onward d b p q)
+        go (yes z) = subst Way (goes-on d b p q z) (on-page (after pg c) (after-reached h c) z refl (q-fits z) (goes-to z))
+        go (no z) = subst Way (stops-at d b p q z) (stopped z p-fits (stops-with z))
 
   -- ---- the opening
 
   pub begun-way : Way (begun g n)
   unfolding begun Outcome fresh
   begun-way =
-      call-way start (open-at g) n 0 (omega arith) (λ _. omega arith) (open-goes g us m) (open-stops g us m)
+      call-way (g .edition) start (open-at g) n 0 (omega arith) (λ _. omega arith) (open-goes g us m) (open-stops g us m)
       (outcome-on no-page refl start (open-at g) refl)
 
   -- ---- a step
@@ -79,6 +81,9 @@ module _ (g : Opening) (us : List Rule) (m : ℕ) where
 
     abbrev u : Rule
     u = getD us p noRule
+
+    abbrev d : Edition
+    d = c .edition
 
     none-refused : c .number ≡ 0
     unfolding goes
@@ -97,17 +102,17 @@ module _ (g : Opening) (us : List Rule) (m : ℕ) where
       step-way (stopped z _ q) = absurd (z none-refused)
       step-way (on-page pg h z e _ q) =
           subst Way (sym (s .follows))
-          (call-way h (add u) p (p + 1) (omega (arith, within)) (λ _. omega (arith, within))
-          (λ f. comes-to ∙ add-goes pg p u _ m f) (λ f. comes-to ∙ add-stops pg p u _ m f)
-          (outcome-on pg e h (add u) (s .answered)))
+          (call-way d h (add d u) p (p + 1) (omega (arith, within)) (λ _. omega (arith, within))
+          (λ f. comes-to ∙ add-goes d pg p u _ m f) (λ f. comes-to ∙ add-stops d pg p u _ m f)
+          (outcome-on pg e h (add d u) (s .answered)))
         where
-          comes-to : batch g us m ≡ added pg p (u ∷ drop (p + 1) us) m
-          comes-to = q ∙ ap (λ (vs : List Rule). added pg p vs m) rest-is
+          comes-to : batch g us m ≡ added d pg p (u ∷ drop (p + 1) us) m
+          comes-to = q ∙ ap (λ (vs : List Rule). added d pg p vs m) rest-is
 
       pub step-less : left n r < left n c
       step-less = rw (s .follows, eq-eqb (c .number) 0 none-refused) (go (ℕ-discrete (s .answer .number) 0))
         where
-          go : Dec (s .answer .number ≡ 0) → left n (onward (s .answer) p (p + 1)) < suc (n - p)
+          go : Dec (s .answer .number ≡ 0) → left n (onward d (s .answer) p (p + 1)) < suc (n - p)
           go (yes e) = rw (eq-eqb (s .answer .number) 0 e) (omega (arith, within))
           go (no z) = rw (ne-eqb (s .answer .number) 0 z) (omega arith)
 

@@ -6,11 +6,13 @@ use Prim.Native.Nat.{ℕ, _+_}
 use native.Mathlib.Decide.{ℕ-discrete}
 use borrow.Author.Tests.{eq-eqb, ne-eqb}
 use lib.ListN.{length}
+use Rattle.word.specs.declared.Edition.{Edition}
 use Rattle.rule.specs.declared.Rule.{Rule}
 use Rattle.chain.specs.declared.Link.{Link}
 use Rattle.chain.specs.Links.{numbersOf}
 use Rattle.page.specs.Calls.{add, after, ask, open-at, refusal}
-use Rattle.page.specs.Page.{Opening, Page, no-page}
+use Rattle.page.specs.declared.Opening.{Opening}
+use Rattle.page.specs.Page.{Page, no-page}
 use Rattle.sheet.specs.Statements.{chainOn, overlaid, reply}
 use Rattle.batch.specs.declared.Batch.{Batch}
 use Rattle.batch.specs.Batch.{Batched, Ending, added, batch}
@@ -32,20 +34,20 @@ asking-leaves pg m n = go (ℕ-discrete (refusal pg (ask m)) 0)
     go (yes e) = absurd (n (rw (eq-eqb (refusal pg (ask m)) 0 e)))
     go (no k) = rw (ne-eqb (refusal pg (ask m)) 0 k)
 
-added-leaves : (pg : Page) (i : ℕ) (us : List Rule) (m : ℕ) → Leaves (added pg i us m)
+added-leaves : (e : Edition) (pg : Page) (i : ℕ) (us : List Rule) (m : ℕ) → Leaves (added e pg i us m)
 unfolding added
-added-leaves pg i [] m = asking-leaves pg m
-added-leaves pg i (u ∷ us) m = go (ℕ-discrete (refusal pg (add u)) 0) (added-leaves (after pg (add u)) (i + 1) us m)
+added-leaves e pg i [] m = asking-leaves pg m
+added-leaves e pg i (u ∷ us) m = go (ℕ-discrete (refusal pg (add e u)) 0) (added-leaves e (after pg (add e u)) (i + 1) us m)
   where
-    go : Dec (refusal pg (add u) ≡ 0) → Leaves (added (after pg (add u)) (i + 1) us m) → Leaves (added pg i (u ∷ us) m)
-    go (yes e) rest = subst Leaves (sym (add-goes pg i u us m e)) rest
-    go (no k) _ = subst Leaves (sym (add-stops pg i u us m k)) (λ _. refl)
+    go : Dec (refusal pg (add e u) ≡ 0) → Leaves (added e (after pg (add e u)) (i + 1) us m) → Leaves (added e pg i (u ∷ us) m)
+    go (yes y) rest = subst Leaves (sym (add-goes e pg i u us m y)) rest
+    go (no k) _ = subst Leaves (sym (add-stops e pg i u us m k)) (λ _. refl)
 
 batch-leaves : (g : Opening) (us : List Rule) (m : ℕ) → Leaves (batch g us m)
 batch-leaves g us m = go (ℕ-discrete (refusal no-page (open-at g)) 0)
   where
     go : Dec (refusal no-page (open-at g) ≡ 0) → Leaves (batch g us m)
-    go (yes e) = subst Leaves (sym (open-goes g us m e)) (added-leaves (after no-page (open-at g)) 0 us m)
+    go (yes e) = subst Leaves (sym (open-goes g us m e)) (added-leaves (g .edition) (after no-page (open-at g)) 0 us m)
     go (no k) = subst Leaves (sym (open-stops g us m k)) (λ _. refl)
 
 pub batched-leaves : (g : Opening) (us : List Rule) {b b′ : List ℕ} {r : Batch} → Batched g us b b′ r → (r .reply .number ≡ 0 → ⊥)

@@ -5,12 +5,14 @@ use mathlib.Core.List.{List, [], _∷_}
 use Prim.Native.Nat.{ℕ, _+_}
 use lib.Dec.{eqb}
 use lib.ListN.{length}
+use Rattle.word.specs.declared.Edition.{Edition}
 use Rattle.rule.specs.declared.Rule.{Rule}
 use Rattle.rule.specs.Meaning.{RULES}
 use Rattle.chain.specs.declared.Link.{Link}
 use Rattle.sheet.specs.declared.Reply.{Reply}
 use Rattle.page.specs.Calls.{add, after, open-at, refusal}
-use Rattle.page.specs.Page.{Opening, Page, no-page}
+use Rattle.page.specs.declared.Opening.{Opening}
+use Rattle.page.specs.Page.{Page, no-page}
 use Rattle.sheet.specs.Statements.{chainOn, overlaid, refuses, reply}
 use Rattle.batch.specs.declared.Batch.{Batch}
 
@@ -33,19 +35,20 @@ ending a ls = record { answer = a; chain = ls }
 abbrev pub stops : (number place : ℕ) → Ending
 stops k i = ending (batches (refuses k) i) []
 
--- "adding each rule in order and asking", where i rules stand on the page and m numbers are lent
-unfoldable pub added : Page → (i : ℕ) → List Rule → (m : ℕ) → Ending
-added pg i [] m = ending (batches (reply pg m) i) (chainOn pg m)
-added pg i (u ∷ us) m =
-    let k : ℕ = refusal pg (add u) in
-    cond (eqb k 0) (added (after pg (add u)) (i + 1) us m) (stops k i)
+-- "adding each rule in order and asking", by adds of one edition, where i rules stand on the page and m numbers are lent
+unfoldable pub added : Edition → Page → (i : ℕ) → List Rule → (m : ℕ) → Ending
+added e pg i [] m = ending (batches (reply pg m) i) (chainOn pg m)
+added e pg i (u ∷ us) m =
+    let k : ℕ = refusal pg (add e u) in
+    cond (eqb k 0) (added e (after pg (add e u)) (i + 1) us m) (stops k i)
 
--- "It answers as opening a sheet, adding each rule in order and asking would"
+-- "It answers as opening a sheet, adding each rule in order and asking would"; "The batch call takes the edition too", which is
+-- that of the opening and of every add
 -- "(for 2, for 9 and where nothing is refused: the list's length)"
 unfoldable pub batch : Opening → List Rule → (m : ℕ) → Ending
 batch g us m =
     let k : ℕ = refusal no-page (open-at g) in
-    cond (eqb k 0) (added (after no-page (open-at g)) 0 us m) (stops k (length us))
+    cond (eqb k 0) (added (g .edition) (after no-page (open-at g)) 0 us m) (stops k (length us))
 
 -- an ending as the caller sees it: the answer, and the lent buffer, b before and b′ after
 pub record Gives (e : Ending) (b b′ : List ℕ) (r : Batch) : Type 0 where

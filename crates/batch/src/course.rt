@@ -1,27 +1,30 @@
 // How far a batch has come.
 ghost use mathlib.Core.Path.{_≡_};
 ghost use Prim.Native.Nat.{_+_, _<_, _≤_, _^_};
-ghost use Rattle.page.specs.Page.{at-width};
 ghost use Rattle.batch.specs.Batch.{batches};
 ghost use Rattle.batch.specs.Course.{Finished, Stepped, begun, goes};
 use crate::Batch;
+use page::Opening;
 use rule::Rule;
 use sheet::Reply;
 use sheet::Sheet;
+use word::Edition;
 
-// The number of the first refusal, or 0; the sheet as it is then; and at which rule the batch stands.
+// The number of the first refusal, or 0; the sheet as it is then; at which rule the batch stands; and the edition of its adds.
 pub struct Course {
     pub number: u64,
     pub sheet: Sheet,
     pub place: usize,
+    pub edition: Edition,
 }
 
 impl Course {
     // Opens the sheet. A refused opening is given the list's length for its place.
-    pub fn begin(width: u64, length: usize) -> Course
-        ensures { λ r. ⌜ r ≡ begun (at-width width) length ⌝ }
+    pub fn begin(opening: Opening, length: usize) -> Course
+        ensures { λ r. ⌜ r ≡ begun opening length ⌝ }
     {
-        let answer = Sheet::blank().open(width);
+        let edition = opening.edition;
+        let answer = Sheet::blank().open(opening);
         let number = answer.number;
         let sheet = answer.sheet;
         if number != 0 {
@@ -29,12 +32,14 @@ impl Course {
                 number,
                 sheet,
                 place: length,
+                edition,
             };
         }
         Course {
             number,
             sheet,
             place: 0,
+            edition,
         }
     }
 
@@ -54,7 +59,8 @@ impl Course {
         requires { ⌜ self .place + 1 < 2 ^ 64 ⌝ }
         ensures { λ r. ⌜ Stepped self rule r ⌝ }
     {
-        let answer = self.sheet.add(rule);
+        let edition = self.edition;
+        let answer = self.sheet.add(edition, rule);
         let sheet = answer.sheet;
         let next = self.place + 1;
         if answer.number != 0 {
@@ -62,12 +68,14 @@ impl Course {
                 number: answer.number,
                 sheet,
                 place: self.place,
+                edition,
             };
         }
         Course {
             number: 0,
             sheet,
             place: next,
+            edition,
         }
     }
 

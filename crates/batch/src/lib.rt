@@ -1,12 +1,12 @@
-// The batch call: a width, a lent list of rules and a chain buffer, answered as the calls one by one would be.
+// The batch call: an opening, a lent list of rules and a chain buffer, answered as the calls one by one would be.
 ghost use Prim.Native.Nat.{_≤_};
 ghost use lib.ListN.{take};
-ghost use Rattle.page.specs.Page.{at-width};
 ghost use Rattle.batch.specs.Batch.{Batched, MOST};
 
 mod course;
 
 use crate::course::Course;
+use page::Opening;
 use rule::Rule;
 use sheet::Reply;
 
@@ -21,12 +21,12 @@ impl Batch {
     pub const MOST: usize = Rule::LIMIT + 1;
 }
 
-// Opens a sheet, adds each rule in order and asks, up to the first refusal.
-pub fn run(width: u64, rules: &[Rule], out: &mut [u64]) -> Batch
-    ensures { λ r. ⌜ Batched (at-width width) (now (rules .entry)) (now (out .entry)) (now (out .exit)) r ⌝ }
+// Opens a sheet, adds each rule in order and asks, up to the first refusal. The adds are of the opening's edition.
+pub fn run(opening: Opening, rules: &[Rule], out: &mut [u64]) -> Batch
+    ensures { λ r. ⌜ Batched opening (now (rules .entry)) (now (out .entry)) (now (out .exit)) r ⌝ }
 {
     let length = rules.len();
-    let mut course = Course::begin(width, length);
+    let mut course = Course::begin(opening, length);
     while course.goes(length) {
         let place = course.place;
         course = course.step(rules[place]);
@@ -36,19 +36,19 @@ pub fn run(width: u64, rules: &[Rule], out: &mut [u64]) -> Batch
 
 // The batch call on the first rules of an array. A caller of `run` lends a list of records, and has to be proved by hand; a
 // caller of this has not. A count above the array's length is that length.
-pub fn first(width: u64, rules: [Rule; Batch::MOST], count: usize, out: &mut [u64]) -> Batch
-    ensures { λ r. ⌜ Batched (at-width width) (take count rules) (now (out .entry)) (now (out .exit)) r ⌝ }
+pub fn first(opening: Opening, rules: [Rule; Batch::MOST], count: usize, out: &mut [u64]) -> Batch
+    ensures { λ r. ⌜ Batched opening (take count rules) (now (out .entry)) (now (out .exit)) r ⌝ }
 {
     if Batch::MOST < count {
-        return handed(width, rules, Batch::MOST, &mut *out);
+        return handed(opening, rules, Batch::MOST, &mut *out);
     }
-    handed(width, rules, count, &mut *out)
+    handed(opening, rules, count, &mut *out)
 }
 
 // Lends the first rules of an array.
-fn handed(width: u64, rules: [Rule; Batch::MOST], count: usize, out: &mut [u64]) -> Batch
+fn handed(opening: Opening, rules: [Rule; Batch::MOST], count: usize, out: &mut [u64]) -> Batch
     requires { ⌜ count ≤ MOST ⌝ }
-    ensures { λ r. ⌜ Batched (at-width width) (take count rules) (now (out .entry)) (now (out .exit)) r ⌝ }
+    ensures { λ r. ⌜ Batched opening (take count rules) (now (out .entry)) (now (out .exit)) r ⌝ }
 {
-    run(width, &rules[..count], out)
+    run(opening, &rules[..count], out)
 }

@@ -29,7 +29,7 @@ use sound.WpLaws.{FmC, fmOf, WpFn-mono}
 use denote.RattleType.{RattleType, owns}
 use denote.Laws.{Is, Tells, shows}
 use denote.Memory.{cellAt, partAt, partOf, pointee, shares}
-use denote.Plain.{uint-makes, uint-vals, uint-tells}
+use denote.Plain.{uint-vals, uint-tells}
 use denote.Array.{Array, array-vals, array-tells, array-makes, array-lawful}
 use denote.ArrayMemory.{array-apart, array-whole}
 use denote.Builtin.{u64, usize}
@@ -53,7 +53,9 @@ use denote.Signature.Array.{arrayOf}
 use Rattle.rule.specs.declared.Rule.{Rule}
 use Rattle.rule.proofs.Rule as R
 use Rattle.rule.proofs.Rule.Laws as R′
-use Rattle.page.specs.Page.{at-width}
+use Rattle.page.specs.declared.Opening.{Opening}
+use Rattle.page.proofs.Opening as O
+use Rattle.page.proofs.Opening.Laws as O′
 use Rattle.batch.specs.declared.Batch.{Batch}
 use Rattle.batch.specs.Batch.{Batched, MOST}
 use Rattle.batch.proofs.Batch as B
@@ -70,12 +72,15 @@ use Rattle.batch.proofs.handed.Code.Mir as mir
 
 abbrev stayed : Stays (handed.ended .signature .params) (handed.ended .kept)
 stayed = (
-  stay-dropped (plain (λ _. u64)) yes,
+  stay-dropped (plain (λ _. O.the-row)) yes,
   (
     stay-dropped (arrayOf (plain (λ _. R.the-row)) MOST) yes,
     (stay-dropped (plain (λ _. usize)) yes, (gave-slice (0 ∷ []) tt (plain (λ _. u64)), tt)),
   ),
 )
+
+abbrev openingVal : Opening → Val
+openingVal = LL.val O.the-type O′.the-laws
 
 -- as many rules as the array has places, and their machine value
 abbrev ListOf : RattleType
@@ -161,8 +166,8 @@ abbrev Run : {M : Type 1} (𝓤 : URA M) (H : Heap 𝓤) (A : Atoms 𝓤) (mem :
 Run 𝓤 H A mem run = tripleOf 𝓤 H A run′.signature (run′.spec 𝓤 H A mem run)
 
 module _ {M : Type 1} (𝓤 : URA M) (H : Heap 𝓤) (A : Atoms 𝓤) (W : Given 𝓤 H A) (mem : Memory → SProp 𝓤)
-    (run : Routine → Fun 𝓤) (κ : Lft) (q : Share) (w : ℕ) (us : List Rule) (k b o : ℕ) (γ : GName) (ys : List ℕ)
-    (w-fits : w < 2 ^ 64) (is : Is ListOf us (list-vals us)) (few : k ≤ MOST) (room : Room u64 (length ys)) where
+    (run : Routine → Fun 𝓤) (κ : Lft) (q : Share) (g : Opening) (us : List Rule) (k b o : ℕ) (γ : GName) (ys : List ℕ)
+    (is-opening : Is O.the-row g (openingVal g ∷ [])) (is : Is ListOf us (list-vals us)) (few : k ≤ MOST) (room : Room u64 (length ys)) where
   abbrev m : ℕ
   m = length ys
 
@@ -174,13 +179,13 @@ module _ {M : Type 1} (𝓤 : URA M) (H : Heap 𝓤) (A : Atoms 𝓤) (W : Given
   out = record { ptr = (b, o); name = γ; now = ys }
 
   abbrev Arg : Type 0
-  Arg = ℕ × (List Rule × (ℕ × (RefT (List ℕ) × Unit {0})))
+  Arg = Opening × (List Rule × (ℕ × (RefT (List ℕ) × Unit {0})))
 
   abbrev a : Arg
-  a = (w, (us, (k, (out, tt))))
+  a = (g, (us, (k, (out, tt))))
 
   abbrev vals : List Val × (List Val × (List Val × (List Val × Unit {0})))
-  vals = (vint w64 w ∷ [], (list-vals us, (vint w64 k ∷ [], (sliceVal (b, o) m ∷ [], tt))))
+  vals = (openingVal g ∷ [], (list-vals us, (vint w64 k ∷ [], (sliceVal (b, o) m ∷ [], tt))))
 
   abbrev Post : Val → SProp 𝓤
   Post = walkOf 𝓤 H A handed.ended stayed (handed.clauses 𝓤 H A mem run) .post (((κ, tt), (q, tt), tt, a, vals), tt)
@@ -188,7 +193,7 @@ module _ {M : Type 1} (𝓤 : URA M) (H : Heap 𝓤) (A : Atoms 𝓤) (W : Given
   abbrev OwnOut : Fml
   OwnOut = MutSlice (named 0) κ u64 .own out (sliceVal (b, o) m ∷ [])
 
-  exits : (r : Batch) (v : Val) (zs : List ℕ) → Batched (at-width w) vs ys zs r → length zs ≡ m
+  exits : (r : Batch) (v : Val) (zs : List ℕ) → Batched g vs ys zs r → length zs ≡ m
       → ent 𝓤 (⋆ 𝓤 H A (‵ (B.the-row .own r (v ∷ [])) ∷ (‵ (flft κ q) ⊛ ‵ ftrue) ∷ ‵ (finally u64 γ zs) ∷ [])) (Post v)
   exits r v zs e l =
       qed W (‵ (B.the-row .own r (v ∷ [])) ∷ (‵ (flft κ q) ⊛ ‵ ftrue) ∷ ‵ (finally u64 γ zs) ∷ []) ∵
@@ -211,8 +216,8 @@ module _ {M : Type 1} (𝓤 : URA M) (H : Heap 𝓤) (A : Atoms 𝓤) (W : Given
         (α ∷ [], (κ, tt)),
         (fullShare, (q, tt)),
         tt,
-        (w, (rules, (out, tt))),
-        (vint w64 w ∷ [], (sliceVal (l, 0) (length vs) ∷ [], (sliceVal (b, o) m ∷ [], tt))),
+        (g, (rules, (out, tt))),
+        (openingVal g ∷ [], (sliceVal (l, 0) (length vs) ∷ [], (sliceVal (b, o) m ∷ [], tt))),
       ),
       tt,
     )
@@ -222,7 +227,7 @@ module _ {M : Type 1} (𝓤 : URA M) (H : Heap 𝓤) (A : Atoms 𝓤) (W : Given
     asks-run =
         qed W ((‵ (flft (α ∷ []) fullShare) ⊛ ‵ (flft κ q)) ∷ ‵ OwnRules ∷ ‵ OwnOut ∷ []) ∵ nothing ! $ move ! (3 ∷ 0 ∷ []) $
         fjoin ! $ move ! (2 ∷ 0 ∷ []) $ fjoin ! $
-        owned ! u64 (Is u64) (uint-makes 𝓤 H A W w64) w _ (refl, w-fits) $ fjoin ! $ move ! (1 ∷ []) $ split ! $ nothing ! $
+        owned ! O.the-row (Is O.the-row) (LL.makes O.the-type O′.the-plain 𝓤 H A) g _ is-opening $ fjoin ! $ move ! (1 ∷ []) $ split ! $ nothing ! $
         move ! (2 ∷ 0 ∷ []) $ join ! $ move ! (1 ∷ 0 ∷ []) $ join ! $ join ! $ frame ! $ done !
 
   -- as many rules are lent as are asked for
@@ -238,7 +243,7 @@ module _ {M : Type 1} (𝓤 : URA M) (H : Heap 𝓤) (A : Atoms 𝓤) (W : Given
     Λ = 𝓣 .Λ
 
     abbrev E : Env 𝓤 H
-    E = (B′.mir, l₀) ∷ (word, l₁) ∷ (listTy, l₂) ∷ (word, l₃) ∷ (outTy, l₄) ∷ (listTy, l₅) ∷ (listRef, l₆)
+    E = (B′.mir, l₀) ∷ (O′.mir, l₁) ∷ (listTy, l₂) ∷ (word, l₃) ∷ (outTy, l₄) ∷ (listTy, l₅) ∷ (listRef, l₆)
         ∷ (sliceTy rulesRef, l₇) ∷ (outRef, l₈) ∷ (sliceTy outRef, l₉) ∷ []
 
     -- from where the parameters are passed
@@ -248,8 +253,8 @@ module _ {M : Type 1} (𝓤 : URA M) (H : Heap 𝓤) (A : Atoms 𝓤) (W : Given
         ∷ ‵ (froom listTy l₅ 0) ∷ ‵ (fdies listTy l₅) ∷ ‵ (fat fullShare outTy l₄ 0 (sliceVal (b, o) m)) ∷ ‵ (fdies outTy l₄)
         ∷ ‵ (fat fullShare word l₃ 0 (vint w64 k)) ∷ ‵ (fdies word l₃) ∷ ‵ (fat fullShare listTy l₂ 0 (listVal us))
         ∷ ‵ (fdies listTy l₂)
-        ∷ ‵ (fat fullShare word l₁ 0 (vint w64 w)) ∷ ‵ (fdies word l₁) ∷ ‵ (froom B′.mir l₀ 0) ∷ ‵ (fdies B′.mir l₀)
-        ∷ (‵ (flft κ q) ⊛ ‵ ftrue) ∷ ‵ (owns (u64 ∷ ListOf ∷ usize ∷ MutSlice (named 0) κ u64 ∷ []) a vals) ∷ []
+        ∷ ‵ (fat fullShare O′.mir l₁ 0 (openingVal g)) ∷ ‵ (fdies O′.mir l₁) ∷ ‵ (froom B′.mir l₀ 0) ∷ ‵ (fdies B′.mir l₀)
+        ∷ (‵ (flft κ q) ⊛ ‵ ftrue) ∷ ‵ (owns (O.the-row ∷ ListOf ∷ usize ∷ MutSlice (named 0) κ u64 ∷ []) a vals) ∷ []
 
     lends : Sq W Passed (runs C Λ E mir.t-1 (atRet E Post))
     lends =
@@ -285,12 +290,12 @@ module _ {M : Type 1} (𝓤 : URA M) (H : Heap 𝓤) (A : Atoms 𝓤) (W : Given
         (no-more !)))) (λ v.
         use1 W (later (some (λ (r : Batch). ((‵ (flft (α ∷ []) fullShare) ⊛ ‵ (flft κ q) ⊛ ‵ ftrue)
         ⊛ ‵ (B.the-row .own r (v ∷ []))) ⊛ raw (ensured 𝓤 H A run′.ended (run′.clauses 𝓤 H A mem run) (α ∷ [], (κ, tt))
-        (w, (rules α l₅ γ₁, (out, tt))) tt r)))) (id⊢ 𝓤 _) $ await ! tt $ pick ! (λ r.
+        (g, (rules α l₅ γ₁, (out, tt))) tt r)))) (id⊢ 𝓤 _) $ await ! tt $ pick ! (λ r.
         split ! $ move ! (1 ∷ []) $ use1 W
         (some (λ (zs : Unit {0} × (Unit {0} × (List ℕ × Unit {0}))). ‵
-        (lasts run′.ended (α ∷ [], (κ, tt)) (w, (rules α l₅ γ₁, (out, tt))) zs)
-        ⊛ raw (fact 𝓤 (Batched (at-width w) vs ys (zs .1 .1 .0) r)))) (id⊢ 𝓤 _) $ pick ! (λ zs.
-        split ! $ move ! (1 ∷ []) $ heard ! (Batched (at-width w) vs ys (zs .1 .1 .0) r) (λ e.
+        (lasts run′.ended (α ∷ [], (κ, tt)) (g, (rules α l₅ γ₁, (out, tt))) zs)
+        ⊛ raw (fact 𝓤 (Batched g vs ys (zs .1 .1 .0) r)))) (id⊢ 𝓤 _) $ pick ! (λ zs.
+        split ! $ move ! (1 ∷ []) $ heard ! (Batched g vs ys (zs .1 .1 .0) r) (λ e.
         fsplit ! $ drop ! $ fsplit ! $ drop ! $ fsplit ! $ fsplit ! $ move ! (1 ∷ []) $ feqL ! (λ l.
         -- the lifetime is over, and the rules come back: [the list; the token 1; the result; the last list; …; _9 7; _8; _7;
         -- _6; …; _4 16; _3; _2; _1; _0]
@@ -317,14 +322,14 @@ module _ {M : Type 1} (𝓤 : URA M) (H : Heap 𝓤) (A : Atoms 𝓤) (W : Given
 
   walk : (𝓣 : Tables 𝓤 H) → FmC 𝓤 H (W .laws) (𝓣 .C) → Triple 𝓤 (𝓣 .C #run) (Run 𝓤 H A mem run)
       → ent 𝓤 (onEntry 𝓤 H A handed.signature (κ, tt) (q, tt) a vals)
-      (WpFn 𝓤 H (𝓣 .C) (𝓣 .Λ) code.function (vint w64 w ∷ listVal us ∷ vint w64 k ∷ sliceVal (b, o) m ∷ []) Post)
+      (WpFn 𝓤 H (𝓣 .C) (𝓣 .Λ) code.function (openingVal g ∷ listVal us ∷ vint w64 k ∷ sliceVal (b, o) m ∷ []) Post)
   walk 𝓣 fm known =
-      qed W ((‵ (flft κ q) ⊛ ‵ ftrue) ∷ ‵ (owns (u64 ∷ ListOf ∷ usize ∷ MutSlice (named 0) κ u64 ∷ []) a vals) ∷ []) ∵
-      enter ! (𝓣 .C) (𝓣 .Λ) code.function (vint w64 w ∷ listVal us ∷ vint w64 k ∷ sliceVal (b, o) m ∷ []) _ $
+      qed W ((‵ (flft κ q) ⊛ ‵ ftrue) ∷ ‵ (owns (O.the-row ∷ ListOf ∷ usize ∷ MutSlice (named 0) κ u64 ∷ []) a vals) ∷ []) ∵
+      enter ! (𝓣 .C) (𝓣 .Λ) code.function (openingVal g ∷ listVal us ∷ vint w64 k ∷ sliceVal (b, o) m ∷ []) _ $
       alloc1 ! (λ l₀. alloc1 ! (λ l₁. alloc1 !
       (λ l₂. alloc1 ! (λ l₃. alloc1 !
       (λ l₄. alloc1 ! (λ l₅. alloc1 ! (λ l₆. alloc1 ! (λ l₇. alloc1 ! (λ l₈. alloc1 ! (λ l₉. alloc0 ! $ params1 ! $
-      pass1 ! (init ! 16 refl (tt, record { fits = w-fits })) $ pass1 ! (init ! 14 refl (list-typed 𝓤 H A W us is)) $
+      pass1 ! (init ! 16 refl (LL.lawful O.the-type O′.the-laws 𝓤 H A W .typed g _ is-opening .0)) $ pass1 ! (init ! 14 refl (list-typed 𝓤 H A W us is)) $
       pass1 ! (init ! 12 refl (tt, record { fits = omega (arith, few) })) $
       pass1 ! (init ! 10 refl (tt, (tt, (record { fits = room .0 }, tt)))) $ pass0 ! $
       lends 𝓣 fm known l₀ l₁ l₂ l₃ l₄ l₅ l₆ l₇ l₈ l₉))))))))))
@@ -333,17 +338,17 @@ module _ {M : Type 1} (𝓤 : URA M) (H : Heap 𝓤) (A : Atoms 𝓤) (W : Given
     (run : Routine → Fun 𝓤) (𝓣 : Tables 𝓤 H) (known : Triple 𝓤 (𝓣 .C #run) (Run 𝓤 H A mem run)) where
   handed-walks : Walks 𝓤 H A handed.ended stayed (WpFn 𝓤 H (𝓣 .C) (𝓣 .Λ) code.function) (handed.clauses 𝓤 H A mem run)
   handed-walks = walked 𝓤 H A handed.ended stayed (handed.clauses 𝓤 H A mem run) (WpFn 𝓤 H (𝓣 .C) (𝓣 .Λ) code.function)
-      (λ κs. (uint-vals w64, (list-vals, (uint-vals w64, (slice-vals, tt)))))
-      (λ κs. (uint-tells w64, (list-tells, (uint-tells w64, (mut-slice-tells (named 0) (κs .0) u64, tt)))))
+      (λ κs. (LL.vals O.the-type O′.the-laws, (list-vals, (uint-vals w64, (slice-vals, tt)))))
+      (λ κs. (LL.tells O.the-type O′.the-laws, (list-tells, (uint-tells w64, (mut-slice-tells (named 0) (κs .0) u64, tt)))))
       (λ κs qs bounds a g are. needs 𝓤 (a .1 .1 .0 ≤ MOST) _ (λ few.
       walk 𝓤 H A W mem run (κs .0) (qs .0) (a .0) (a .1 .0) (a .1 .1 .0) (a .1 .1 .1 .0 .ptr .0) (a .1 .1 .1 .0 .ptr .1)
       (a .1 .1 .1 .0 .name) (a .1 .1 .1 .0 .now)
-      (are .0 .1) (are .1 .0) few (are .1 .1 .1 .0 .0 .1) 𝓣 (fmOf 𝓤 H (W .laws) 𝓣) known))
+      (are .0) (are .1 .0) few (are .1 .1 .1 .0 .0 .1) 𝓣 (fmOf 𝓤 H (W .laws) 𝓣) known))
 
   handed-meets : Meets 𝓤 H A handed.signature (WpFn 𝓤 H (𝓣 .C) (𝓣 .Λ) code.function) (handed.spec 𝓤 H A mem run)
   handed-meets =
       walk-meets 𝓤 H A handed.ended stayed W (
-        goes-dropped 𝓤 H A W 1 (plain (λ _. u64)) yes (λ κs x f. refl),
+        goes-dropped 𝓤 H A W 1 (plain (λ _. O.the-row)) yes (λ κs x f. refl),
         (
           goes-dropped 𝓤 H A W 1 (arrayOf (plain (λ _. R.the-row)) MOST) yes (λ κs x f. refl),
           (

@@ -31,7 +31,7 @@ use sound.WpLaws.{FmC, fmOf, WpFn-mono}
 use denote.RattleType.{owns}
 use denote.Laws.{Is, shows}
 use denote.Memory.{pointee, shares}
-use denote.Plain.{bool-tells, bool-lawful, uint-vals, uint-tells}
+use denote.Plain.{bool-tells, bool-lawful}
 use denote.Builtin.{bool, u64}
 use denote.Index.{place-is, elem-out, elem-back, looks-slice, shuts-slice}
 use denote.Ref.{now}
@@ -50,7 +50,9 @@ use denote.Signature.{plain}
 use Rattle.rule.specs.declared.Rule.{Rule}
 use Rattle.rule.proofs.Rule as R
 use Rattle.rule.proofs.Rule.Laws as R′
-use Rattle.page.specs.Page.{at-width, noRule}
+use Rattle.page.specs.Page.{noRule}
+use Rattle.page.proofs.Opening as O
+use Rattle.page.proofs.Opening.Laws as O′
 use Rattle.batch.specs.declared.Batch.{Batch}
 use Rattle.batch.specs.declared.course.Course.{Course}
 use Rattle.batch.specs.Course.{Finished, Stepped, begun, goes}
@@ -76,7 +78,7 @@ use Rattle.batch.proofs.course.Course.finish.Symbol as finish-def
 use Rattle.batch.proofs.course.Course.finish.Symbol.{name as #finish}
 use Rattle.batch.proofs.course.Course.finish.Met as finish-thm
 use Rattle.batch.proofs.run.Proof.Asks as Asks
-use Rattle.batch.proofs.run.Proof.Asks.{Begin, Called, Finish, Goes, IsCourse, OwnOut, OwnRules, Step, answered, begin-says, courseVal, course-tells, goes-says, outVal, ruleVals, rule-tells, rulesVal, spelled, stayed, step-says}
+use Rattle.batch.proofs.run.Proof.Asks.{Begin, Called, Finish, Goes, IsCourse, OwnOut, OwnRules, Step, answered, begin-says, courseVal, course-tells, goes-says, openingVal, outVal, ruleVals, rule-tells, rulesVal, spelled, stayed, step-says}
 use Rattle.batch.proofs.run.Key.{name as #run}
 use Rattle.batch.proofs.run as run′
 use Rattle.batch.proofs.run.Statement as stated
@@ -102,7 +104,7 @@ lentTy = sliceTy lentRef
 -- where a turn of the loop begins: a course that is under way, with its machine value
 record Turn (x : Called) : Type 0 where
   course : Course
-  way : UnderWay (at-width (x .w)) (now (x .rules)) (length (now (x .out))) course
+  way : UnderWay (x .g) (now (x .rules)) (length (now (x .out))) course
   is : IsCourse course (courseVal course)
 
 -- what is known of the functions called
@@ -154,21 +156,21 @@ module _ {M : Type 1} (𝓤 : URA M) (H : Heap 𝓤) (A : Atoms 𝓤) (W : Given
     fm : FmC 𝓤 H (W .laws) C
     fm = fmOf 𝓤 H (W .laws) 𝓣
 
-    -- the result; width, rules, out; length, course, place; the test, the offset, the pointer, the rule; out, lent on
+    -- the result; the opening, rules, out; length, course, place; the test, the offset, the pointer, the rule; out, lent on
     abbrev E : Env 𝓤 H
     E =
-        (B′.mir, l₀) ∷ (word, l₁) ∷ (rulesTy, l₂) ∷ (outTy, l₃) ∷ (word, l₄) ∷ (T′.mir, l₅) ∷ (word, l₆) ∷ (tyBool, l₇)
+        (B′.mir, l₀) ∷ (O′.mir, l₁) ∷ (rulesTy, l₂) ∷ (outTy, l₃) ∷ (word, l₄) ∷ (T′.mir, l₅) ∷ (word, l₆) ∷ (tyBool, l₇)
         ∷ (word, l₈) ∷ (tyPtr, l₉) ∷ (R′.mir, l₁₀) ∷ (lentRef, l₁₁) ∷ (lentTy, l₁₂) ∷ []
 
-    -- what no turn touches: [rules; length; width; out; room for the result and for out, lent on; what rules and out own; out's
+    -- what no turn touches: [rules; length; the opening; out; room for the result and for out, lent on; what rules and out own; out's
     -- token; and that each local dies]
     abbrev Frame : List (Item 𝓤)
     Frame =
         ‵ (fat fullShare rulesTy l₂ 0 (rulesVal x)) ∷ ‵ (fat fullShare word l₄ 0 (vint w64 n))
-        ∷ ‵ (fat fullShare word l₁ 0 (vint w64 (x .w))) ∷ ‵ (fat fullShare outTy l₃ 0 (outVal x))
+        ∷ ‵ (fat fullShare O′.mir l₁ 0 (openingVal (x .g))) ∷ ‵ (fat fullShare outTy l₃ 0 (outVal x))
         ∷ ‵ (froom B′.mir l₀ 0) ∷ ‵ (froom lentRef l₁₁ 0) ∷ ‵ (froom lentTy l₁₂ 0)
         ∷ ‵ (OwnRules x) ∷ ‵ (OwnOut x) ∷ ‵ (flft (x .κ′) (x .q′))
-        ∷ ‵ (fdies B′.mir l₀) ∷ ‵ (fdies word l₁) ∷ ‵ (fdies rulesTy l₂) ∷ ‵ (fdies outTy l₃) ∷ ‵ (fdies word l₄)
+        ∷ ‵ (fdies B′.mir l₀) ∷ ‵ (fdies O′.mir l₁) ∷ ‵ (fdies rulesTy l₂) ∷ ‵ (fdies outTy l₃) ∷ ‵ (fdies word l₄)
         ∷ ‵ (fdies T′.mir l₅) ∷ ‵ (fdies word l₆) ∷ ‵ (fdies tyBool l₇) ∷ ‵ (fdies word l₈) ∷ ‵ (fdies tyPtr l₉)
         ∷ ‵ (fdies R′.mir l₁₀) ∷ ‵ (fdies lentRef l₁₁) ∷ ‵ (fdies lentTy l₁₂) ∷ []
 
@@ -196,7 +198,7 @@ module _ {M : Type 1} (𝓤 : URA M) (H : Heap 𝓤) (A : Atoms 𝓤) (W : Given
         → Sq W (I t) (runs C Λ E (seq (call #goes (copy (place 5 []) ∷ copy (place 4 []) ∷ []) (place 7 [])) rest) Q)
     tested t z so k =
         use0 W (raw (Goes 𝓤 H A mem run .pre (Asks.to-goes 𝓤 H A W mem run x c)))
-        (Asks.asks-goes 𝓤 H A W mem run x c (t .is) (place-fits (at-width (x .w)) us m (t .way))) $
+        (Asks.asks-goes 𝓤 H A W mem run x c (t .is) (place-fits (x .g) us m (t .way))) $
         calls-at ! fm (Goes 𝓤 H A mem run) (known .tests) (Asks.to-goes 𝓤 H A W mem run x c)
         (and-then ! (load ! (from ! (stop !)) (look ! 1 refl)) (and-then ! (load ! (from ! (stop !)) (look ! 10 refl))
         (no-more !)))
@@ -250,8 +252,8 @@ module _ {M : Type 1} (𝓤 : URA M) (H : Heap 𝓤) (A : Atoms 𝓤) (W : Given
         rewrite ! 2 (λ (y : Val). ‵ (fat fullShare T′.mir l₅ 0 y)) (course-tells r v is) refl $
         forget ! 3 refl $ forget ! 4 refl $ forget ! 5 refl $ forget ! 6 refl $ forget ! 7 refl $
         move ! (2 ∷ 3 ∷ 4 ∷ 5 ∷ 6 ∷ 7 ∷ 1 ∷ 0 ∷ []) $
-        again ! Less I t (record { course = r; way = step-way (at-width (x .w)) us m c more r e (t .way); is = spelled r v is })
-        (step-less (at-width (x .w)) us m c more r e))))))
+        again ! Less I t (record { course = r; way = step-way (x .g) us m c more r e (t .way); is = spelled r v is })
+        (step-less (x .g) us m c more r e))))))
       where
         c : Course
         c = t .course
@@ -263,7 +265,7 @@ module _ {M : Type 1} (𝓤 : URA M) (H : Heap 𝓤) (A : Atoms 𝓤) (W : Given
         u = getD us p noRule
 
         inside : p < n
-        inside = within (at-width (x .w)) us m c more
+        inside = within (x .g) us m c more
 
         place-small : p < 2 ^ 64
         place-small = omega (arith, inside, x .room .0)
@@ -315,7 +317,7 @@ module _ {M : Type 1} (𝓤 : URA M) (H : Heap 𝓤) (A : Atoms 𝓤) (W : Given
         move ! (6 ∷ 15 ∷ []) $ free1 ! $ move ! (5 ∷ 14 ∷ []) $ free1 ! $ move ! (5 ∷ 13 ∷ []) $ free1 ! $
         move ! (5 ∷ 12 ∷ []) $ free1 ! $ move ! (5 ∷ 11 ∷ []) $ free1 ! $ move ! (7 ∷ 10 ∷ []) $ free1 ! $
         move ! (7 ∷ 9 ∷ []) $ free1 ! $ free0 ! $ keep ! (6 ∷ 1 ∷ 7 ∷ 3 ∷ 0 ∷ []) $
-        by ! (Asks.exits 𝓤 H A W mem run x r v (zs .1 .0) (finish-way (at-width (x .w)) us c ys (zs .1 .0) r f (t .way) none-left) l))))))))
+        by ! (Asks.exits 𝓤 H A W mem run x r v (zs .1 .0) (finish-way (x .g) us c ys (zs .1 .0) r f (t .way) none-left) l))))))))
       where
         c : Course
         c = t .course
@@ -340,9 +342,9 @@ module _ {M : Type 1} (𝓤 : URA M) (H : Heap 𝓤) (A : Atoms 𝓤) (W : Given
         ∷ ‵ (froom word l₆ 0) ∷ ‵ (fdies word l₆) ∷ ‵ (froom T′.mir l₅ 0) ∷ ‵ (fdies T′.mir l₅)
         ∷ ‵ (froom word l₄ 0) ∷ ‵ (fdies word l₄) ∷ ‵ (fat fullShare outTy l₃ 0 (outVal x)) ∷ ‵ (fdies outTy l₃)
         ∷ ‵ (fat fullShare rulesTy l₂ 0 (rulesVal x)) ∷ ‵ (fdies rulesTy l₂)
-        ∷ ‵ (fat fullShare word l₁ 0 (vint w64 (x .w))) ∷ ‵ (fdies word l₁) ∷ ‵ (froom B′.mir l₀ 0) ∷ ‵ (fdies B′.mir l₀)
+        ∷ ‵ (fat fullShare O′.mir l₁ 0 (openingVal (x .g))) ∷ ‵ (fdies O′.mir l₁) ∷ ‵ (froom B′.mir l₀ 0) ∷ ‵ (fdies B′.mir l₀)
         ∷ (‵ (flft (x .κ) (x .q)) ⊛ ‵ (flft (x .κ′) (x .q′)) ⊛ ‵ ftrue)
-        ∷ ‵ (owns (u64 ∷ ShrSlice (named 0) (x .κ) R.the-row ∷ MutSlice (named 1) (x .κ′) u64 ∷ [])
+        ∷ ‵ (owns (O.the-row ∷ ShrSlice (named 0) (x .κ) R.the-row ∷ MutSlice (named 1) (x .κ′) u64 ∷ [])
         (Asks.bound 𝓤 H A W mem run x .0 .3) (Asks.bound 𝓤 H A W mem run x .0 .4)) ∷ []
 
     opens : Sq W Passed (runs C Λ E mir.t-1 (atRet E Post))
@@ -356,8 +358,8 @@ module _ {M : Type 1} (𝓤 : URA M) (H : Heap 𝓤) (A : Atoms 𝓤) (W : Given
         (λ v.
         use1 W
         (later (some (λ (r : Course). (‵ ftrue ⊛ ‵ (T.the-row .own r (v ∷ [])))
-        ⊛ raw (ensured 𝓤 H A begin.ended (begin.clauses 𝓤 H A mem run) tt (x .w, (n, tt)) tt r)))) (id⊢ 𝓤 _) $
-        answered ! tt T.the-row v _ (λ r. r ≡ begun (at-width (x .w)) n) (begin-says 𝓤 H A mem run (x .w) n) (λ r e is.
+        ⊛ raw (ensured 𝓤 H A begin.ended (begin.clauses 𝓤 H A mem run) tt (x .g, (n, tt)) tt r)))) (id⊢ 𝓤 _) $
+        answered ! tt T.the-row v _ (λ r. r ≡ begun (x .g) n) (begin-says 𝓤 H A mem run (x .g) n) (λ r e is.
         land ! (from ! (stop !)) (init ! 14 refl (LL.lawful T.the-type T′.the-laws 𝓤 H A W .typed r _ is .0)) $
         rewrite ! 14 (λ (y : Val). ‵ (fat fullShare T′.mir l₅ 0 y)) (course-tells r v is) refl $
         -- of what rules owns one copy is kept for the exit, and of the other the borrow
@@ -370,21 +372,21 @@ module _ {M : Type 1} (𝓤 : URA M) (H : Heap 𝓤) (A : Atoms 𝓤) (W : Given
         first ! $ blocks ! $
         keep ! (21 ∷ 17 ∷ 19 ∷ 15 ∷ 13 ∷ 11 ∷ 5 ∷ 2 ∷ 27 ∷ 23 ∷ 29 ∷ 25 ∷ 31 ∷ 9 ∷ 7 ∷ 6 ∷ 3 ∷ 0
         ∷ 32 ∷ 30 ∷ 28 ∷ 26 ∷ 24 ∷ 22 ∷ 20 ∷ 18 ∷ 16 ∷ 14 ∷ 12 ∷ 10 ∷ 8 ∷ []) $
-        looped (record { course = r; way = subst (UnderWay (at-width (x .w)) us m) (sym e) (begun-way (at-width (x .w)) us m); is = spelled r v is })))
+        looped (record { course = r; way = subst (UnderWay (x .g) us m) (sym e) (begun-way (x .g) us m); is = spelled r v is })))
 
   walk : (𝓣 : Tables 𝓤 H) → Known 𝓤 H A mem run 𝓣
       → ent 𝓤
       (onEntry 𝓤 H A run′.signature (x .κ, (x .κ′, tt)) (x .q, (x .q′, tt)) (Asks.bound 𝓤 H A W mem run x .0 .3)
       (Asks.bound 𝓤 H A W mem run x .0 .4))
-      (WpFn 𝓤 H (𝓣 .C) (𝓣 .Λ) code.function (vint w64 (x .w) ∷ rulesVal x ∷ outVal x ∷ []) Post)
+      (WpFn 𝓤 H (𝓣 .C) (𝓣 .Λ) code.function (openingVal (x .g) ∷ rulesVal x ∷ outVal x ∷ []) Post)
   walk 𝓣 known =
       qed W ((‵ (flft (x .κ) (x .q)) ⊛ ‵ (flft (x .κ′) (x .q′)) ⊛ ‵ ftrue)
-      ∷ ‵ (owns (u64 ∷ ShrSlice (named 0) (x .κ) R.the-row ∷ MutSlice (named 1) (x .κ′) u64 ∷ [])
+      ∷ ‵ (owns (O.the-row ∷ ShrSlice (named 0) (x .κ) R.the-row ∷ MutSlice (named 1) (x .κ′) u64 ∷ [])
       (Asks.bound 𝓤 H A W mem run x .0 .3) (Asks.bound 𝓤 H A W mem run x .0 .4)) ∷ []) ∵
-      enter ! (𝓣 .C) (𝓣 .Λ) code.function (vint w64 (x .w) ∷ rulesVal x ∷ outVal x ∷ []) _ $
+      enter ! (𝓣 .C) (𝓣 .Λ) code.function (openingVal (x .g) ∷ rulesVal x ∷ outVal x ∷ []) _ $
       alloc1 ! (λ l₀. alloc1 ! (λ l₁. alloc1 ! (λ l₂. alloc1 ! (λ l₃. alloc1 ! (λ l₄. alloc1 ! (λ l₅. alloc1 ! (λ l₆.
       alloc1 ! (λ l₇. alloc1 ! (λ l₈. alloc1 ! (λ l₉. alloc1 ! (λ l₁₀. alloc1 ! (λ l₁₁. alloc1 ! (λ l₁₂. alloc0 ! $ params1 ! $
-      pass1 ! (init ! 22 refl (tt, record { fits = x .w-fits })) $
+      pass1 ! (init ! 22 refl (LL.lawful O.the-type O′.the-laws 𝓤 H A W .typed (x .g) _ (x .is-opening) .0)) $
       pass1 ! (init ! 20 refl (tt, (tt, (record { fits = x .room .0 }, tt)))) $
       pass1 ! (init ! 18 refl (tt, (tt, (record { fits = x .room′ .0 }, tt)))) $ pass0 ! $
       opens 𝓣 known l₀ l₁ l₂ l₃ l₄ l₅ l₆ l₇ l₈ l₉ l₁₀ l₁₁ l₁₂)))))))))))))
@@ -394,8 +396,8 @@ module _ {M : Type 1} (𝓤 : URA M) (H : Heap 𝓤) (A : Atoms 𝓤) (W : Given
   run-walks : Walks 𝓤 H A run′.ended stayed (WpFn 𝓤 H (𝓣 .C) (𝓣 .Λ) code.function) (run′.clauses 𝓤 H A mem run)
   run-walks =
       walked 𝓤 H A run′.ended stayed (run′.clauses 𝓤 H A mem run) (WpFn 𝓤 H (𝓣 .C) (𝓣 .Λ) code.function)
-      (λ κs. (uint-vals w64, (slice-vals, (slice-vals, tt))))
-      (λ κs. (uint-tells w64, (shr-slice-tells (named 0) (κs .0) R.the-row, (mut-slice-tells (named 1) (κs .1 .0) u64, tt))))
+      (λ κs. (LL.vals O.the-type O′.the-laws, (slice-vals, (slice-vals, tt))))
+      (λ κs. (LL.tells O.the-type O′.the-laws, (shr-slice-tells (named 0) (κs .0) R.the-row, (mut-slice-tells (named 1) (κs .1 .0) u64, tt))))
       (λ κs qs bounds a g are. via 𝓤 _ (fst∗ 𝓤 _ (emp 𝓤))
       (walk 𝓤 H A W mem run
       (record {
@@ -403,10 +405,10 @@ module _ {M : Type 1} (𝓤 : URA M) (H : Heap 𝓤) (A : Atoms 𝓤) (W : Given
         κ′ = κs .1 .0;
         q = qs .0;
         q′ = qs .1 .0;
-        w = a .0;
+        g = a .0;
         rules = a .1 .0;
         out = a .1 .1 .0;
-        w-fits = are .0 .1;
+        is-opening = are .0;
         room = are .1 .0 .0 .1;
         room′ = are .1 .1 .0 .0 .1;
       }) 𝓣 known))
@@ -414,7 +416,7 @@ module _ {M : Type 1} (𝓤 : URA M) (H : Heap 𝓤) (A : Atoms 𝓤) (W : Given
   run-meets : Meets 𝓤 H A run′.signature (WpFn 𝓤 H (𝓣 .C) (𝓣 .Λ) code.function) (run′.spec 𝓤 H A mem run)
   run-meets =
       walk-meets 𝓤 H A run′.ended stayed W (
-        goes-none 𝓤 H A W 2 (λ _. u64) yes (λ κs x f. refl),
+        goes-none 𝓤 H A W 2 (λ _. O.the-row) yes (λ κs x f. refl),
         (
           goes-none-slice 𝓤 H A W 2 (0 ∷ []) tt (plain (λ _. R.the-row)) yes,
           (goes-gave-slice 𝓤 H A W 2 1 tt (plain (λ _. u64)), tt),

@@ -1,5 +1,5 @@
 -- What `batch::run` hands to the four functions that it calls, what they say, and how it ends: all of the proof that walks no
--- code. A number, a rule and a course own only facts, so what a callee asks of them is had for nothing. The buffer goes to
+-- code. A number, an opening, a rule and a course own only facts, so what a callee asks of them is had for nothing. The buffer goes to
 -- `finish` at its own lifetime, share and ghost name, and is given up for good. Assumes nothing.
 use mathlib.Core.Path.{_≡_, refl, ap, subst}
 use mathlib.Core.Bool.{Bool}
@@ -34,7 +34,9 @@ use denote.Signature.{plain}
 use Rattle.rule.specs.declared.Rule.{Rule}
 use Rattle.rule.proofs.Rule as R
 use Rattle.rule.proofs.Rule.Laws as R′
-use Rattle.page.specs.Page.{at-width}
+use Rattle.page.specs.declared.Opening.{Opening}
+use Rattle.page.proofs.Opening as O
+use Rattle.page.proofs.Opening.Laws as O′
 use Rattle.batch.specs.declared.Batch.{Batch}
 use Rattle.batch.specs.declared.course.Course.{Course}
 use Rattle.batch.specs.Batch.{Batched}
@@ -51,7 +53,7 @@ use Rattle.batch.proofs.run as run′
 -- what is had of each parameter at exit: out is given up
 abbrev pub stayed : Stays (run′.ended .signature .params) (run′.ended .kept)
 stayed = (
-  stay-none (λ _. u64) yes,
+  stay-none (λ _. O.the-row) yes,
   (
     stay-none-slice (0 ∷ []) tt (plain (λ _. R.the-row)) yes,
     (gave-slice (1 ∷ []) tt (plain (λ _. u64)), tt),
@@ -59,6 +61,9 @@ stayed = (
 )
 
 -- ---- machine values
+
+abbrev pub openingVal : Opening → Val
+openingVal = LL.val O.the-type O′.the-laws
 
 abbrev pub ruleVals : Rule → List Val
 ruleVals = LL.vals R.the-type R′.the-laws
@@ -94,10 +99,10 @@ module _ {M : Type 1} (𝓤 : URA M) (H : Heap 𝓤) (A : Atoms 𝓤) (mem : Mem
   Finish = tripleOf 𝓤 H A finish.signature (finish.spec 𝓤 H A mem run)
 
   -- of the first three callees' `ensured`, the clause alone: none has a last value
-  pub begin-says : (w n : ℕ) (r : Course)
-      → ent 𝓤 (ensured 𝓤 H A begin.ended (begin.clauses 𝓤 H A mem run) tt (w, (n, tt)) tt r) (fact 𝓤 (r ≡ begun (at-width w) n))
-  begin-says w n r =
-      exE 𝓤 _ (λ ws. snd∗ 𝓤 (sem 𝓤 H A (lasts begin.ended tt (w, (n, tt)) ws)) (fact 𝓤 (r ≡ begun (at-width w) n)))
+  pub begin-says : (g : Opening) (n : ℕ) (r : Course)
+      → ent 𝓤 (ensured 𝓤 H A begin.ended (begin.clauses 𝓤 H A mem run) tt (g, (n, tt)) tt r) (fact 𝓤 (r ≡ begun g n))
+  begin-says g n r =
+      exE 𝓤 _ (λ ws. snd∗ 𝓤 (sem 𝓤 H A (lasts begin.ended tt (g, (n, tt)) ws)) (fact 𝓤 (r ≡ begun g n)))
 
   pub goes-says : (c : Course) (n : ℕ) (r : Bool)
       → ent 𝓤 (ensured 𝓤 H A goes′.ended (goes′.clauses 𝓤 H A mem run) tt (c, (n, tt)) tt r) (fact 𝓤 (r ≡ goes c n))
@@ -127,10 +132,10 @@ pub record Called : Type 0 where
   pub κ′ : Lft
   pub q : Share
   pub q′ : Share
-  pub w : ℕ
+  pub g : Opening
   pub rules : RefT (List Rule)
   pub out : RefT (List ℕ)
-  pub w-fits : w < 2 ^ 64
+  pub is-opening : Is O.the-row g (openingVal g ∷ [])
   pub room : Room R.the-row (length (now rules))
   pub room′ : Room u64 (length (now out))
 
@@ -158,8 +163,8 @@ module _ {M : Type 1} (𝓤 : URA M) (H : Heap 𝓤) (A : Atoms 𝓤) (W : Given
       (x .κ, (x .κ′, tt)),
       (x .q, (x .q′, tt)),
       tt,
-      (x .w, (x .rules, (x .out, tt))),
-      (vint w64 (x .w) ∷ [], (rulesVal x ∷ [], (outVal x ∷ [], tt))),
+      (x .g, (x .rules, (x .out, tt))),
+      (openingVal (x .g) ∷ [], (rulesVal x ∷ [], (outVal x ∷ [], tt))),
     ),
     tt,
   )
@@ -177,7 +182,7 @@ module _ {M : Type 1} (𝓤 : URA M) (H : Heap 𝓤) (A : Atoms 𝓤) (W : Given
       ∷ ‵ (B.the-row .own r (v ∷ []))
       ∷ []
 
-  pub exits : (r : Batch) (v : Val) (zs : List ℕ) → Batched (at-width (x .w)) (now (x .rules)) (now (x .out)) zs r
+  pub exits : (r : Batch) (v : Val) (zs : List ℕ) → Batched (x .g) (now (x .rules)) (now (x .out)) zs r
       → length zs ≡ length (now (x .out)) → ent 𝓤 (⋆ 𝓤 H A (Had r v zs)) (Post v)
   exits r v zs e l =
       qed W (Had r v zs) ∵
@@ -186,17 +191,17 @@ module _ {M : Type 1} (𝓤 : URA M) (H : Heap 𝓤) (A : Atoms 𝓤) (W : Given
       says ! e $
       nothing ! $ move ! (2 ∷ 0 ∷ []) $ join ! $ move ! (1 ∷ 0 ∷ []) $ join ! $ frame ! $
       nothing ! $ move ! (2 ∷ 0 ∷ []) $ fjoin ! $ move ! (1 ∷ 0 ∷ []) $ fjoin ! $
-      owned ! u64 (Is u64) (uint-makes 𝓤 H A W w64) (x .w) _ (refl, x .w-fits) $ fjoin ! $ frame ! $ done !
+      owned ! O.the-row (Is O.the-row) (LL.makes O.the-type O′.the-plain 𝓤 H A) (x .g) _ (x .is-opening) $ fjoin ! $ frame ! $ done !
 
   -- ---- what each callee's triple binds outside, and that the caller has what it asks
 
   abbrev pub to-begin : Begin 𝓤 H A mem run .Ghost
-  to-begin = ((tt, tt, tt, (x .w, (n, tt)), (vint w64 (x .w) ∷ [], (vint w64 n ∷ [], tt))), tt)
+  to-begin = ((tt, tt, tt, (x .g, (n, tt)), (openingVal (x .g) ∷ [], (vint w64 n ∷ [], tt))), tt)
 
   pub asks-begin : ent 𝓤 (emp 𝓤) (Begin 𝓤 H A mem run .pre to-begin)
   asks-begin =
       qed W [] ∵ nothing ! $ owned ! usize (Is usize) (uint-makes 𝓤 H A W w64) n _ (refl, x .room .0) $ fjoin ! $
-      owned ! u64 (Is u64) (uint-makes 𝓤 H A W w64) (x .w) _ (refl, x .w-fits) $ fjoin ! $
+      owned ! O.the-row (Is O.the-row) (LL.makes O.the-type O′.the-plain 𝓤 H A) (x .g) _ (x .is-opening) $ fjoin ! $
       nothing ! $ join ! $ frame ! $ done !
 
   module _ (c : Course) where

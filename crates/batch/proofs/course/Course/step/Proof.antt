@@ -15,19 +15,19 @@ add-next c = search needs
 returns : tie.Need-returns
 returns c =
     let a = c .before .before .before .before .add in
-    record { answer = a .result; answered = a .ensures; follows = stops-at _ _ _ (c .if1 .taken) }
+    record { answer = a .result; answered = a .ensures; follows = stops-at _ _ _ _ (c .if1 .taken) }
 
 returns-2 : tie.Need-returns-2
 returns-2 c =
     let b = c .before .before .before .before in
     let a = b .add in
-    let p = b .before .args .self .place in
+    let s = b .before .args .self in
     record {
       answer = a .result;
       answered = a .ensures;
       follows =
-          (λ i. record { number = sym (c .if1 .left) i; sheet = a .result .sheet; place = p + 1 })
-          ∙ goes-on (a .result) p (p + 1) (c .if1 .left);
+          (λ i. record { number = sym (c .if1 .left) i; sheet = a .result .sheet; place = s .place + 1; edition = s .edition })
+          ∙ goes-on (s .edition) (a .result) (s .place) (s .place + 1) (c .if1 .left);
     }
 
 pub step-spec : {M : Type 1} → statement M
