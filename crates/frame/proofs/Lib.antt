@@ -1,3 +1,4 @@
+pub mod Editions
 pub mod Fields
 pub mod Fit
 pub mod Lines

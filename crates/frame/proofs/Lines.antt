@@ -9,6 +9,7 @@ use borrow.Author.Tests.{ne-eqb}
 use lib.Dec.{eqb}
 use lib.ListN.{drop, getD, length, length-append, set}
 use lib.Seq.{drop-cons, getD-drop, length-sets, sets}
+use Rattle.word.specs.declared.Edition.{Edition}
 use Rattle.verdict.specs.declared.Kept.{Kept}
 use Rattle.hex.specs.Hex.{Written, hex}
 use Rattle.hex.proofs.Digits.{and-then, length-hex}
@@ -16,6 +17,7 @@ use Rattle.frame.specs.declared.Field.{Field}
 use Rattle.frame.specs.Answers.{ACCEPTED, LINE, NEWLINE, REFUSED, SHORT, answerBytes, keptLine, lineBytes, linkLine, linkLines, numberLine}
 use Rattle.frame.specs.Fields.{Line, byte, digitsIn, field}
 use Rattle.frame.specs.Statements.{PutAt}
+use Rattle.word.proofs.Editions.{digits-held}
 use Rattle.frame.proofs.Fields.{length-digits, shape, total}
 
 -- the numbers from one on: that number, and those after it
@@ -93,29 +95,31 @@ length-number n = go (eqb n 0)
     go true = rw length-line (omega arith)
     go false = rw length-line (omega arith)
 
-pub length-kept : (k : Kept) → length (lineBytes (keptLine k)) ≡ LINE
-unfolding total
-length-kept k = length-line (keptLine k)
+module _ (d : Edition) where
+  pub length-kept : (k : Kept) → length (lineBytes (keptLine d k)) ≤ LINE
+  unfolding total
+  length-kept k = rw (length-line (keptLine d k)) (omega (arith, digits-held d))
 
-pub length-link : (from to reason : ℕ) → length (lineBytes (linkLine from to reason)) ≡ LINE
-unfolding total
-length-link from to reason = length-line (linkLine from to reason)
+  pub length-link : (from to reason : ℕ) → length (lineBytes (linkLine d from to reason)) ≤ LINE
+  unfolding total
+  length-link from to reason = rw (length-line (linkLine d from to reason)) (omega (arith, digits-held d))
 
-pub length-links : (n : ℕ) (b : List ℕ) → length (answerBytes (linkLines n b)) ≡ LINE * n
-unfolding linkLines answerBytes
-length-links zero b = refl
-length-links (suc n) b =
-    rw (length-append (lineBytes (linkLine (getD b 0 0) (getD b 1 0) (getD b 2 0))) (answerBytes (linkLines n (drop 3 b))), length-link, length-links n (drop 3 b))
-    (omega arith)
+  pub length-links : (n : ℕ) (b : List ℕ) → length (answerBytes (linkLines d n b)) ≤ LINE * n
+  unfolding linkLines answerBytes
+  length-links zero b = omega arith
+  length-links (suc n) b =
+      let l : Line = linkLine d (getD b 0 0) (getD b 1 0) (getD b 2 0) in
+      rw (length-append (lineBytes l) (answerBytes (linkLines d n (drop 3 b))))
+      (omega (arith, length-link (getD b 0 0) (getD b 1 0) (getD b 2 0), length-links n (drop 3 b)))
 
--- one link more is the next three numbers of the buffer
-pub links-next : (n : ℕ) (b : List ℕ)
-    → answerBytes (linkLines (suc n) b) ≡ answerBytes (linkLines n b) ++ lineBytes (linkLine (getD b (3 * n) 0) (getD b (3 * n + 1) 0) (getD b (3 * n + 2) 0))
-unfolding linkLines answerBytes
-links-next zero b = append-nil _
-links-next (suc n) b =
-    let e : 3 + 3 * n ≡ 3 * suc n = omega arith in
-    let e₁ : 3 + (3 * n + 1) ≡ 3 * suc n + 1 = omega arith in
-    let e₂ : 3 + (3 * n + 2) ≡ 3 * suc n + 2 = omega arith in
-    rw (links-next n (drop 3 b), getD-drop 3 b (3 * n) 0, getD-drop 3 b (3 * n + 1) 0, getD-drop 3 b (3 * n + 2) 0, e, e₁, e₂)
-    (sym (append-assoc (lineBytes (linkLine (getD b 0 0) (getD b 1 0) (getD b 2 0))) (answerBytes (linkLines n (drop 3 b))) _))
+  -- one link more is the next three numbers of the buffer
+  pub links-next : (n : ℕ) (b : List ℕ)
+      → answerBytes (linkLines d (suc n) b) ≡ answerBytes (linkLines d n b) ++ lineBytes (linkLine d (getD b (3 * n) 0) (getD b (3 * n + 1) 0) (getD b (3 * n + 2) 0))
+  unfolding linkLines answerBytes
+  links-next zero b = append-nil _
+  links-next (suc n) b =
+      let e : 3 + 3 * n ≡ 3 * suc n = omega arith in
+      let e₁ : 3 + (3 * n + 1) ≡ 3 * suc n + 1 = omega arith in
+      let e₂ : 3 + (3 * n + 2) ≡ 3 * suc n + 2 = omega arith in
+      rw (links-next n (drop 3 b), getD-drop 3 b (3 * n) 0, getD-drop 3 b (3 * n + 1) 0, getD-drop 3 b (3 * n + 2) 0, e, e₁, e₂)
+      (sym (append-assoc (lineBytes (linkLine d (getD b 0 0) (getD b 1 0) (getD b 2 0))) (answerBytes (linkLines d n (drop 3 b))) _))

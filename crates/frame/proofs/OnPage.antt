@@ -1,11 +1,12 @@
 -- On the sheet that a page gives, a line gets the page's answer, and the sheet of the page after it. Assumes nothing.
-use mathlib.Core.Path.{_≡_, refl, sym, ap, ap₂, _∙_}
+use mathlib.Core.Path.{_≡_, refl, sym, ap, _∙_}
 use mathlib.Core.List.{List, [], _∷_, _++_}
 use Prim.Native.Nat.{ℕ}
 use native.Mathlib.Decide.{ℕ-discrete}
 use native.Mathlib.Omega.{arith}
 use borrow.Author.Tests.{eq-eqb, ne-eqb}
 use lib.ListN.{length}
+use Rattle.word.specs.declared.Edition.{Edition}
 use Rattle.rule.specs.Meaning.{RULES}
 use Rattle.chain.specs.declared.Link.{Link}
 use Rattle.chain.specs.Links.{chainRoom, numbersOf}
@@ -13,7 +14,7 @@ use Rattle.sheet.specs.declared.Answer.{Answer}
 use Rattle.sheet.specs.declared.Reply.{Reply}
 use Rattle.sheet.specs.declared.Sheet.{Sheet}
 use Rattle.page.specs.Calls.{ask, refusal}
-use Rattle.page.specs.Page.{Page, no-page, page}
+use Rattle.page.specs.Page.{Page, editionOf, no-page, page}
 use Rattle.sheet.specs.Record.{fresh}
 use Rattle.sheet.specs.Statements.{Asked, chainOn, overlaid, reply}
 use Rattle.page.specs.Reached.{Reached}
@@ -27,25 +28,31 @@ use Rattle.frame.specs.Pages.{answerTo, pageAfter}
 use Rattle.frame.specs.Statements.{Said, answered, asked, no-call}
 
 -- the lines of links that are laid at a buffer's start
-chain-lines : (ls : List Link) (b : List ℕ) → linkLines (length ls) (numbersOf ls ++ b) ≡ chainLines ls
+chain-lines : (d : Edition) (ls : List Link) (b : List ℕ) → linkLines d (length ls) (numbersOf ls ++ b) ≡ chainLines d ls
 unfolding linkLines numbersOf chainLines
-chain-lines [] b = refl
-chain-lines (l ∷ ls) b = ap (λ (o : List Line). linkLine (l .from) (l .to) (l .reason) ∷ o) (chain-lines ls b)
+chain-lines d [] b = refl
+chain-lines d (l ∷ ls) b = ap (λ (o : List Line). linkLine d (l .from) (l .to) (l .reason) ∷ o) (chain-lines d ls b)
 
 -- what is written of the page's reply
-reply-lines : (pg : Page) (m : ℕ) (b : List ℕ) → askLines (reply pg m) (overlaid (chainOn pg m) b) ≡ answerTo pg (asks m)
+reply-lines : (pg : Page) (m : ℕ) (b : List ℕ) → askLines (editionOf pg) (reply pg m) (overlaid (chainOn pg m) b) ≡ answerTo pg (asks m)
 unfolding askLines reply chainOn answerTo
 reply-lines pg m b = go (ℕ-discrete (refusal pg (ask m)) 0)
   where
-    go : Dec (refusal pg (ask m) ≡ 0) → askLines (reply pg m) (overlaid (chainOn pg m) b) ≡ answerTo pg (asks m)
+    go : Dec (refusal pg (ask m) ≡ 0) → askLines (editionOf pg) (reply pg m) (overlaid (chainOn pg m) b) ≡ answerTo pg (asks m)
     go (yes e) = rw (eq-eqb (refusal pg (ask m)) 0 e, chain-lines)
     go (no n) = rw (ne-eqb (refusal pg (ask m)) 0 n, ne-eqb (refusal pg (ask m)) 0 n)
 
+fresh-edition : (pg : Page) → fresh pg .edition ≡ editionOf pg
+unfolding fresh editionOf
+fresh-edition no-page = refl
+fresh-edition (page o) = refl
+
 module _ (pg : Page) (h : Reached pg) {s : Sheet} (e : s ≡ fresh pg) where
-  pub asked-lines : {m : ℕ} {b c : List ℕ} {r : Reply} → length b ≡ m → Asked s b c r → askLines r c ≡ answerTo pg (asks m)
+  pub asked-lines : {m : ℕ} {b c : List ℕ} {r : Reply} → length b ≡ m → Asked s b c r → askLines (s .edition) r c ≡ answerTo pg (asks m)
   asked-lines {m} {b} q a =
       let p = a .on-page pg h e in
-      ap₂ askLines (p .0) (p .1) ∙ ap (λ (k : ℕ). askLines (reply pg k) (overlaid (chainOn pg k) b)) q ∙ reply-lines pg m b
+      let d : s .edition ≡ editionOf pg = ap (λ (t : Sheet). t .edition) e ∙ fresh-edition pg in
+      (λ i. askLines (d i) (p .0 i) (p .1 i)) ∙ ap (λ (k : ℕ). askLines (editionOf pg) (reply pg k) (overlaid (chainOn pg k) b)) q ∙ reply-lines pg m b
 
   pub page-answers : {c : MadeCall} {t : Sheet} {ls : List Line} → Said s c t ls → (t ≡ fresh (pageAfter pg c)) × (ls ≡ answerTo pg c)
   unfolding answerTo pageAfter

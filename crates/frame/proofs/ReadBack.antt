@@ -8,14 +8,17 @@ use native.Mathlib.Omega.{arith}
 use borrow.Author.Tests.{ne-eqb}
 use lib.ListN.{getD, length, take}
 use lib.Seq.{take-all}
+use Rattle.word.specs.declared.Edition.{Edition}
+use Rattle.word.specs.Edition.{terms}
 use Rattle.rule.specs.Meaning.{rule}
+use Rattle.page.specs.Page.{at-width}
 use Rattle.hex.specs.Hex.{allDigits, number}
 use Rattle.frame.specs.declared.Frame.{Frame}
 use Rattle.frame.specs.declared.Frame.the-variants.{Add, Ask, Back, Forward, Mark, NoFrame, Open}
 use Rattle.frame.specs.Fields.{BYTE, InDigits, Line, WORD, byte, digitsIn}
-use Rattle.frame.specs.Frames.{IsFrame, LONGEST, OPENING, bare, fieldsOf, frameOf, ruleOf}
+use Rattle.frame.specs.Frames.{IsFrame, OPENING, adding, bare, codeEdition, fieldsOf, frameOf, numbered, ruleOf}
 use Rattle.frame.proofs.Fields.{digits-digits, fields-fit, fields-read, fields-written, fieldsAt, length-digits, total}
-use Rattle.frame.proofs.Rows.{add-row, bare-row, no-add, no-digits, no-open, open-row, other-length}
+use Rattle.frame.proofs.Rows.{add-row, adds-own, bare-row, no-add, no-digits, no-open, no-row, numbers-row, open-row, opens-own}
 
 -- ---- a line that is read as a frame is that frame
 
@@ -51,24 +54,34 @@ module _ (l : List ℕ) (some : frameOf l ≡ NoFrame → ⊥) (t : allDigits l 
       go (no a) (no b) (no c) (yes q) = as-read (BYTE ∷ []) (told 6 q) (code-is 6 [] q) (sym e)
       go (no a) (no b) (no c) (no d) = absurd (some (sym (bare-row l t e) ∙ rw (ne-eqb code 3 a, ne-eqb code 4 b, ne-eqb code 5 c, ne-eqb code 6 d)))
 
-  open-is : length l ≡ OPENING → Dec (code ≡ 1) → IsFrame l (frameOf l)
-  unfolding fieldsOf fieldsAt total
-  open-is e (yes k) = as-read (BYTE ∷ BYTE ∷ []) (open-row l t e k) (code-is 1 _ k) (sym e)
-  open-is e (no k) = absurd (some (sym (no-open l t e k)))
+  -- the edition of its code
+  abbrev d : Edition
+  d = codeEdition code
 
-  add-is : length l ≡ LONGEST → Dec (code ≡ 2) → IsFrame l (frameOf l)
-  unfolding fieldsOf fieldsAt total ruleOf
-  add-is e (yes k) = as-read (BYTE ∷ BYTE ∷ BYTE ∷ WORD ∷ WORD ∷ []) (add-row l t e k) (code-is 2 _ k) (sym e)
-  add-is e (no k) = absurd (some (sym (no-add l t e k)))
+  module _ (more : length l ≡ BYTE → ⊥) where
+    abbrev row : numbered d code l ≡ frameOf l
+    row = numbers-row l t more
+
+    open-is : length l ≡ OPENING → Dec (code ≡ terms d .opens) → IsFrame l (frameOf l)
+    unfolding fieldsOf fieldsAt total
+    open-is e (yes k) = as-read (BYTE ∷ BYTE ∷ []) (open-row d code l e k ∙ row) (code-is (terms d .opens) _ k) (sym e)
+    open-is e (no k) = absurd (some (sym (no-open d code l e k ∙ row)))
+
+    add-is : length l ≡ adding d → Dec (code ≡ terms d .adds) → IsFrame l (frameOf l)
+    unfolding fieldsOf fieldsAt total ruleOf
+    add-is e (yes k) = as-read (BYTE ∷ BYTE ∷ BYTE ∷ WORD d ∷ WORD d ∷ []) (add-row d code l e k ∙ row) (code-is (terms d .adds) _ k) (omega arith)
+    add-is e (no k) = absurd (some (sym (no-add d code l e k ∙ row)))
+
+    numbers-are : IsFrame l (frameOf l)
+    numbers-are = go (ℕ-discrete (length l) OPENING) (ℕ-discrete (length l) (adding d))
+      where
+        go : Dec (length l ≡ OPENING) → Dec (length l ≡ adding d) → IsFrame l (frameOf l)
+        go (yes e) c = open-is e (ℕ-discrete code (terms d .opens))
+        go (no b) (yes e) = add-is e (ℕ-discrete code (terms d .adds))
+        go (no b) (no c) = absurd (some (sym (no-row d code l b c ∙ row)))
 
   digits-are : IsFrame l (frameOf l)
-  digits-are = go (ℕ-discrete (length l) BYTE) (ℕ-discrete (length l) OPENING) (ℕ-discrete (length l) LONGEST)
-    where
-      go : Dec (length l ≡ BYTE) → Dec (length l ≡ OPENING) → Dec (length l ≡ LONGEST) → IsFrame l (frameOf l)
-      go (yes e) b c = bare-is e
-      go (no a) (yes e) c = open-is e (ℕ-discrete code 1)
-      go (no a) (no b) (yes e) = add-is e (ℕ-discrete code 2)
-      go (no a) (no b) (no c) = absurd (some (sym (other-length l a b c)))
+  digits-are = elim (ℕ-discrete (length l) BYTE) [ yes e ↦ bare-is e | no n ↦ numbers-are n ]
 
 read-is : (l : List ℕ) → (frameOf l ≡ NoFrame → ⊥) → IsFrame l (frameOf l)
 read-is l some = go (allDigits l) refl
@@ -88,17 +101,27 @@ bare-back k h =
     let l = byte k ∷ [] in
     sym (bare-row (digitsIn l) (digits-digits l) (length-digits l)) ∙ ap bare (ap (numberIn 0) (fields-read [] 0 l refl (h, tt)))
 
+-- digits with numbers after their code are read in the edition of the code
+numbered-back : (l : Line) (e : Edition) → BYTE < length (digitsIn l) → codeEdition (number (take BYTE (digitsIn l))) ≡ e
+    → frameOf (digitsIn l) ≡ numbered e (number (take BYTE (digitsIn l))) (digitsIn l)
+numbered-back l e h q =
+    sym (numbers-row (digitsIn l) (digits-digits l) (λ z. omega arith)) ∙ ap (λ (k : Edition). numbered k (number (take BYTE (digitsIn l))) (digitsIn l)) q
+
 written-back : (f : Frame) → (f ≡ NoFrame → ⊥) → InDigits (fieldsOf f) → frameOf (digitsIn (fieldsOf f)) ≡ f
 unfolding fieldsOf fieldsAt total bare ruleOf
-written-back (Open w) n h =
-    let l = fieldsOf (Open w) in
+written-back (Open g) n h =
+    let e : Edition = g .edition in
+    let l = fieldsOf (Open g) in
     let b = fields-read [] 0 l refl h in
-    sym (open-row (digitsIn l) (digits-digits l) (length-digits l) (ap (numberIn 0) b)) ∙ ap Open (ap (numberIn 1) b)
-written-back (Add r) n h =
-    let l = fieldsOf (Add r) in
+    numbered-back l e (omega (arith, length-digits l)) (ap codeEdition (ap (numberIn 0) b) ∙ opens-own e)
+    ∙ sym (open-row e _ (digitsIn l) (length-digits l) (ap (numberIn 0) b))
+    ∙ ap (λ (w : ℕ). Open (at-width w e)) (ap (numberIn 1) b)
+written-back (Add e r) n h =
+    let l = fieldsOf (Add e r) in
     let b = fields-read [] 0 l refl h in
-    sym (add-row (digitsIn l) (digits-digits l) (length-digits l) (ap (numberIn 0) b))
-    ∙ ap (λ (k : Line). Add (rule (numberIn 1 k) (numberIn 2 k) (numberIn 3 k) (numberIn 4 k))) b
+    numbered-back l e (omega (arith, length-digits l)) (ap codeEdition (ap (numberIn 0) b) ∙ adds-own e)
+    ∙ sym (add-row e _ (digitsIn l) (omega (arith, length-digits l)) (ap (numberIn 0) b))
+    ∙ ap (λ (k : Line). Add e (rule (numberIn 1 k) (numberIn 2 k) (numberIn 3 k) (numberIn 4 k))) b
 written-back Mark n h = bare-back 3 (omega arith)
 written-back Back n h = bare-back 4 (omega arith)
 written-back Ask n h = bare-back 5 (omega arith)
@@ -114,8 +137,8 @@ read-written l f = (
 
 -- "a line of the program's input is none of the frames": just where it is read so
 none-dec : (f : Frame) → Dec (f ≡ NoFrame)
-none-dec (Open w) = no (λ e. let z : _≡_ {A = ℕ} 0 1 = cc in omega arith)
-none-dec (Add r) = no (λ e. let z : _≡_ {A = ℕ} 0 1 = cc in omega arith)
+none-dec (Open g) = no (λ e. let z : _≡_ {A = ℕ} 0 1 = cc in omega arith)
+none-dec (Add e r) = no (λ e. let z : _≡_ {A = ℕ} 0 1 = cc in omega arith)
 none-dec Mark = no (λ e. let z : _≡_ {A = ℕ} 0 1 = cc in omega arith)
 none-dec Back = no (λ e. let z : _≡_ {A = ℕ} 0 1 = cc in omega arith)
 none-dec Ask = no (λ e. let z : _≡_ {A = ℕ} 0 1 = cc in omega arith)

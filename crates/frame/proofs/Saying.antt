@@ -74,19 +74,20 @@ module _ {s : Sheet} {c c′ : List ℕ} {r : Reply} (e : length c ≡ chainRoom
   unfolding askLines
   ask-refused n l =
       record {
-        lines = askLines r c′;
+        lines = askLines (s .edition) r c′;
         said = asked (chainRoom RULES) c c′ r e a;
         puts = rw (ne-eqb (r .number) 0 n) (one-line (numberLine (r .number)) l);
         fits = rw (ne-eqb (r .number) 0 n) (number-fits (r .number));
       }
 
   pub ask-answered : r .number ≡ 0 → r .links ≤ mostLinks RULES
-      → PutAt b at (lineBytes (keptLine (r .kept)) ++ answerBytes (linkLines (r .links) c′)) b′ end → AskPut s b at b′ end
+      → PutAt b at (lineBytes (keptLine (s .edition) (r .kept)) ++ answerBytes (linkLines (s .edition) (r .links) c′)) b′ end → AskPut s b at b′ end
   unfolding askLines answerBytes
   ask-answered n few l =
       record {
-        lines = askLines r c′;
+        lines = askLines (s .edition) r c′;
         said = asked (chainRoom RULES) c c′ r e a;
         puts = rw (eq-eqb (r .number) 0 n) l;
-        fits = rw (eq-eqb (r .number) 0 n, length-append (lineBytes (keptLine (r .kept))) _, length-kept, length-links) (omega arith);
+        fits = rw (eq-eqb (r .number) 0 n, length-append (lineBytes (keptLine (s .edition) (r .kept))) _)
+            (omega (arith, length-kept (s .edition) (r .kept), length-links (s .edition) (r .links) c′));
       }

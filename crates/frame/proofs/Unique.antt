@@ -23,15 +23,15 @@ same-answer e = (ap (λ (r : Answer). r .sheet) e, ap (λ (r : Answer). numberLi
 
 -- whatever the numbers lent hold, asking says the same
 same-asking : {s : Sheet} {m : ℕ} {b b′ c c′ : List ℕ} {r r′ : Reply} → length b ≡ m → length b′ ≡ m → Asked s b c r → Asked s b′ c′ r′
-    → askLines r c ≡ askLines r′ c′
+    → askLines (s .edition) r c ≡ askLines (s .edition) r′ c′
 unfolding askLines
 same-asking {s} {c} {c′} {r} {r′} q q′ a a′ = go (sheet-dec s)
   where
-    go : Dec (IsSheet s) → askLines r c ≡ askLines r′ c′
+    go : Dec (IsSheet s) → askLines (s .edition) r c ≡ askLines (s .edition) r′ c′
     go (yes h) =
         asked-lines (h .on) (h .reached) (h .gives) q a ∙ sym (asked-lines (h .on) (h .reached) (h .gives) q′ a′)
     go (no n) =
-        ap (λ (t : Reply). askLines t c) (a .no-sheet n .0) ∙ sym (ap (λ (t : Reply). askLines t c′) (a′ .no-sheet n .0))
+        ap (λ (t : Reply). askLines (s .edition) t c) (a .no-sheet n .0) ∙ sym (ap (λ (t : Reply). askLines (s .edition) t c′) (a′ .no-sheet n .0))
 
 pub said-unique : {s t t′ : Sheet} {c : MadeCall} {o o′ : List Line} → Said s c t o → Said s c t′ o′ → (t ≡ t′) × (o ≡ o′)
 said-unique {s} (answered c r a) (answered c′ r′ a′) = same-answer (outcome-unique s c a a′)

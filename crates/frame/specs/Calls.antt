@@ -4,7 +4,6 @@ use Prim.Native.Nat.{ℕ}
 use Rattle.rule.specs.Meaning.{RULES}
 use Rattle.chain.specs.Links.{chainRoom}
 use Rattle.page.specs.Calls.{Call, add, back, forward, mark, open-at}
-use Rattle.page.specs.Page.{at-width}
 use Rattle.frame.specs.declared.Frame.{Frame}
 use Rattle.frame.specs.declared.Frame.the-variants.{Add, Ask, Back, Forward, Mark, NoFrame, Open}
 use Rattle.frame.specs.Frames.{frameOf}
@@ -18,8 +17,8 @@ pub data MadeCall : Type 0 where
 -- "open", "add", "mark", "back", "ask", and "the program always lends enough for the chain"; forward; a line that is none of the
 -- frames: "no call is then made"
 unfoldable pub callOf : Frame → MadeCall
-callOf (Open w) = makes (open-at (at-width w))
-callOf (Add u) = makes (add u)
+callOf (Open g) = makes (open-at g)
+callOf (Add e u) = makes (add e u)
 callOf Mark = makes mark
 callOf Back = makes back
 callOf Ask = asks (chainRoom RULES)

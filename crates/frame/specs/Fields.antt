@@ -1,6 +1,8 @@
 -- What a line is made of: numbers in so many digits, one after another (01, "Lines of hexadecimal").
 use mathlib.Core.List.{List, [], _∷_, _++_}
 use Prim.Native.Nat.{ℕ, _<_, _^_}
+use Rattle.word.specs.declared.Edition.{Edition}
+use Rattle.word.specs.Edition.{terms}
 use Rattle.hex.specs.Hex.{hex}
 use Rattle.frame.specs.declared.Field.{Field}
 
@@ -8,9 +10,12 @@ use Rattle.frame.specs.declared.Field.{Field}
 abbrev pub BYTE : ℕ
 BYTE = 2
 
--- the digits of a word: "c1(8)", "smallest(8)", "from(8)"
-abbrev pub WORD : ℕ
-WORD = 8
+-- the digits of a word: "c1(8)", "smallest(8)", "from(8)", and in the new edition 16; and the most that it has in any edition
+abbrev pub WORD : Edition → ℕ
+WORD e = terms e .digits
+
+abbrev pub DIGITS : ℕ
+DIGITS = 16
 
 abbrev pub field : (digits number : ℕ) → Field
 field d x = record { digits = d; number = x }
@@ -18,8 +23,8 @@ field d x = record { digits = d; number = x }
 abbrev pub byte : ℕ → Field
 byte x = field BYTE x
 
-abbrev pub word : ℕ → Field
-word x = field WORD x
+abbrev pub word : Edition → ℕ → Field
+word e x = field (WORD e) x
 
 -- the numbers of a line
 abbrev pub Line : Type 0

@@ -4,18 +4,18 @@ use mathlib.Core.List.{List, [], _∷_}
 use lib.Dec.{eqb}
 use Rattle.chain.specs.Findings.{findings}
 use Rattle.page.specs.Calls.{after, ask, refusal, rulesOf}
-use Rattle.page.specs.Page.{Page, widthOf}
+use Rattle.page.specs.Page.{Page, editionOf, widthOf}
 use Rattle.frame.specs.Answers.{NO-FRAME, chainLines, keptLine, numberLine}
 use Rattle.frame.specs.Calls.{MadeCall, asks, makes, none}
 use Rattle.frame.specs.Fields.{Line}
 
--- a call is answered by its number, asking by what is found, and a line that makes no call by 10
+-- a call is answered by its number, asking by what is found, in the digits of the page's edition, and a line that makes no call by 10
 unfoldable pub answerTo : Page → MadeCall → List Line
 answerTo pg none = numberLine NO-FRAME ∷ []
 answerTo pg (makes c) = numberLine (refusal pg c) ∷ []
 answerTo pg (asks m) =
     cond (eqb (refusal pg (ask m)) 0)
-    (keptLine (findings (widthOf pg) (rulesOf pg) .kept) ∷ chainLines (findings (widthOf pg) (rulesOf pg) .chain))
+    (keptLine (editionOf pg) (findings (widthOf pg) (rulesOf pg) .kept) ∷ chainLines (editionOf pg) (findings (widthOf pg) (rulesOf pg) .chain))
     (numberLine (refusal pg (ask m)) ∷ [])
 
 -- the page after a line: where it makes no call, and after asking, as it was

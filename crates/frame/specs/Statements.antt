@@ -26,7 +26,7 @@ pub record PutAt (b : List ℕ) (at : ℕ) (bytes b′ : List ℕ) (end : ℕ) :
 -- promises, asking with as many numbers lent as it says; where it makes none, the answer is refusal 10.
 pub data Said (s : Sheet) : MadeCall → Sheet → List Line → Type 0 where
   answered : (c : Call) (r : Answer) → Outcome s c r → Said s (makes c) (r .sheet) (numberLine (r .number) ∷ [])
-  asked : (m : ℕ) (b b′ : List ℕ) (r : Reply) → length b ≡ m → Asked s b b′ r → Said s (asks m) s (askLines r b′)
+  asked : (m : ℕ) (b b′ : List ℕ) (r : Reply) → length b ≡ m → Asked s b b′ r → Said s (asks m) s (askLines (s .edition) r b′)
   no-call : Said s none s (numberLine NO-FRAME ∷ [])
 
 -- an asking's answer, written

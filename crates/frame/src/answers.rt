@@ -11,6 +11,7 @@ use crate::Field;
 use crate::Frame;
 use sheet::Sheet;
 use verdict::Kept;
+use word::Edition;
 
 // What an answer's line begins with: accepted, refused, the verdict, a link.
 const ACCEPTED: u64 = 0x00;
@@ -41,36 +42,47 @@ pub fn put_number(out: &mut [u8], at: usize, number: u64) -> usize
 }
 
 // The verdict, with the smallest and the largest word.
-pub fn kept_line(kept: Kept) -> [Field; FIELDS]
-    ensures { λ r. ⌜ r ≡ keptLine kept ⌝ }
+pub fn kept_line(edition: Edition, kept: Kept) -> [Field; FIELDS]
+    ensures { λ r. ⌜ r ≡ keptLine edition kept ⌝ }
 {
     let verdict = byte(kept.verdict);
-    let smallest = word(kept.smallest);
-    let largest = word(kept.largest);
+    let smallest = word(edition, kept.smallest);
+    let largest = word(edition, kept.largest);
     [byte(TOLD), verdict, smallest, largest]
 }
 
 // The first n links of a chain, a line each.
-pub fn put_links(out: &mut [u8], at: usize, chain: &[u64; Sheet::LENT], n: usize) -> usize
+pub fn put_links(
+    out: &mut [u8],
+    at: usize,
+    edition: Edition,
+    chain: &[u64; Sheet::LENT],
+    n: usize,
+) -> usize
     requires { ⌜ at + LINE * n ≤ length (now out) ⌝ }
     requires { ⌜ n ≤ mostLinks RULES ⌝ }
-    ensures { λ r. ⌜ PutAt (now (out .entry)) at (answerBytes (linkLines n (now (chain .entry)))) (now (out .exit)) r ⌝ }
+    ensures { λ r. ⌜ PutAt (now (out .entry)) at (answerBytes (linkLines edition n (now (chain .entry)))) (now (out .exit)) r ⌝ }
 {
     let mut end = at;
     for i in 0..n {
         let from = chain[3 * i];
         let to = chain[3 * i + 1];
         let reason = chain[3 * i + 2];
-        end = put_line(&mut *out, end, link_line(from, to, reason));
+        end = put_line(&mut *out, end, link_line(edition, from, to, reason));
     }
     end
 }
 
 // A link: its first and its last word, and the reason.
-fn link_line(from: u64, to: u64, reason: u64) -> [Field; FIELDS]
-    ensures { λ r. ⌜ r ≡ linkLine from to reason ⌝ }
+fn link_line(edition: Edition, from: u64, to: u64, reason: u64) -> [Field; FIELDS]
+    ensures { λ r. ⌜ r ≡ linkLine edition from to reason ⌝ }
 {
-    [byte(LINKED), word(from), word(to), byte(reason)]
+    [
+        byte(LINKED),
+        word(edition, from),
+        word(edition, to),
+        byte(reason),
+    ]
 }
 
 // A line: its numbers, one after the other, and a byte 10.
@@ -98,12 +110,10 @@ fn byte(x: u64) -> Field
     }
 }
 
-// A number in the digits of a word.
-fn word(x: u64) -> Field
-    ensures { λ r. ⌜ r ≡ word x ⌝ }
+// A number in the digits of an edition's word.
+fn word(edition: Edition, x: u64) -> Field
+    ensures { λ r. ⌜ r ≡ word edition x ⌝ }
 {
-    Field {
-        digits: Frame::WORD,
-        number: x,
-    }
+    let digits = edition.terms().digits;
+    Field { digits, number: x }
 }

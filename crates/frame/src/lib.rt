@@ -7,14 +7,16 @@ pub use answers::put_line;
 pub use answers::put_links;
 pub use answers::put_number;
 use chain::Link;
+use page::Opening;
 pub use reading::decode;
 use rule::Rule;
 use sheet::Sheet;
+use word::Edition;
 
-// What a line asks for.
+// What a line asks for. An opening and an add are frames of an edition.
 pub enum Frame {
-    Open(u64),
-    Add(Rule),
+    Open(Opening),
+    Add(Edition, Rule),
     Mark,
     Back,
     Ask,
@@ -41,14 +43,11 @@ impl Frame {
     // The digits of a code, and of every number that is no word.
     pub const BYTE: usize = 2;
 
-    // The digits of a word.
-    pub const WORD: usize = 8;
+    // The most digits that a frame has: those of an add, where words have the most.
+    pub const LONGEST: usize = 3 * Frame::BYTE + 2 * Edition::DIGITS;
 
-    // The most digits that a frame has: those of an add.
-    pub const LONGEST: usize = 3 * Frame::BYTE + 2 * Frame::WORD;
-
-    // The bytes of a line on the verdict or on a link.
-    pub const LINE: usize = 2 * Frame::BYTE + 2 * Frame::WORD + 1;
+    // The most bytes of a line on the verdict or on a link.
+    pub const LINE: usize = 2 * Frame::BYTE + 2 * Edition::DIGITS + 1;
 
     // How long an answer can be: a line on the verdict, and one for each link.
     pub const ROOM: usize = Frame::LINE * (Link::MOST + 1);

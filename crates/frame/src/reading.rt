@@ -1,9 +1,13 @@
 // From the digits of a line to a frame.
 ghost use mathlib.Core.Path.{_≡_};
 ghost use lib.ListN.{length};
-ghost use Rattle.frame.specs.Frames.{LONGEST, bare, frameOf, ruleOf};
+ghost use Prim.Native.Nat.{_+_, _≤_};
+ghost use Rattle.frame.specs.Fields.{DIGITS};
+ghost use Rattle.frame.specs.Frames.{C1, bare, codeEdition, frameOf, numbered, ruleOf};
 use crate::Frame;
+use page::Opening;
 use rule::Rule;
+use word::Edition;
 
 // Where an opening ends, and where the numbers of an add begin.
 const OPENING: usize = 2 * Frame::BYTE;
@@ -13,8 +17,6 @@ const FORM: usize = Frame::BYTE;
 const SENSE: usize = FORM + Frame::BYTE;
 
 const C1: usize = SENSE + Frame::BYTE;
-
-const C2: usize = C1 + Frame::WORD;
 
 // The frame that a line is.
 pub fn decode(line: &[u8]) -> Frame
@@ -31,18 +33,7 @@ pub fn decode(line: &[u8]) -> Frame
     if n == Frame::BYTE {
         return bare(code);
     }
-    if n == OPENING {
-        if code == 1 {
-            return Frame::Open(hex::number(line, Frame::BYTE, OPENING));
-        }
-        return Frame::NoFrame;
-    }
-    if n == Frame::LONGEST {
-        if code == 2 {
-            return Frame::Add(rule_of(line));
-        }
-    }
-    Frame::NoFrame
+    numbered(line, code, edition_of(code))
 }
 
 // The frames that are a code and nothing more.
@@ -64,15 +55,56 @@ fn bare(code: u64) -> Frame
     Frame::NoFrame
 }
 
-// The rule that the digits after an add's code write.
-fn rule_of(line: &[u8]) -> Rule
-    requires { ⌜ length (now line) ≡ LONGEST ⌝ }
-    ensures { λ r. ⌜ r ≡ ruleOf (now (line .entry)) ⌝ }
+// The edition whose frames have a code; a code that has none is looked for among the old ones.
+fn edition_of(code: u64) -> Edition
+    ensures { λ r. ⌜ r ≡ codeEdition code ⌝ }
 {
+    let new = Edition::New.terms();
+    if code == new.opens {
+        return Edition::New;
+    }
+    if code == new.adds {
+        return Edition::New;
+    }
+    Edition::Old
+}
+
+// The frames of an edition that have numbers after their code.
+fn numbered(line: &[u8], code: u64, edition: Edition) -> Frame
+    ensures { λ r. ⌜ r ≡ numbered edition code (now (line .entry)) ⌝ }
+{
+    let n = line.len();
+    let terms = edition.terms();
+    let digits = terms.digits;
+    let adding = C1 + digits + digits;
+    if n == OPENING {
+        if code == terms.opens {
+            return Frame::Open(Opening {
+                width: hex::number(line, Frame::BYTE, OPENING),
+                edition,
+            });
+        }
+        return Frame::NoFrame;
+    }
+    if n == adding {
+        if code == terms.adds {
+            return Frame::Add(edition, rule_of(line, digits));
+        }
+    }
+    Frame::NoFrame
+}
+
+// The rule that the digits after an add's code write, where its constants have so many.
+fn rule_of(line: &[u8], digits: usize) -> Rule
+    requires { ⌜ (length (now line) ≡ C1 + digits + digits) × (digits ≤ DIGITS) ⌝ }
+    ensures { λ r. ⌜ r ≡ ruleOf digits (now (line .entry)) ⌝ }
+{
+    let c2 = C1 + digits;
+    let end = c2 + digits;
     Rule {
         form: hex::number(line, FORM, SENSE),
         sense: hex::number(line, SENSE, C1),
-        c1: hex::number(line, C1, C2),
-        c2: hex::number(line, C2, Frame::LONGEST),
+        c1: hex::number(line, C1, c2),
+        c2: hex::number(line, c2, end),
     }
 }

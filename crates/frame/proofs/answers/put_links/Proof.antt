@@ -1,22 +1,22 @@
 -- `put_links` meets its contract. The loop's invariant: the links passed are written. Assumes nothing.
-use mathlib.Core.Path.{_≡_, refl, sym, ap, _∙_}
-use Prim.Native.Nat.{ℕ, _+_, _-_, _*_, _≤_}
+use mathlib.Core.Path.{_≡_, refl, sym, _∙_}
+use Prim.Native.Nat.{_+_, _-_, _*_, _≤_}
 use native.Mathlib.Numerals.{add-one}
 use native.Mathlib.Omega.{arith}
 use borrow.Author.Needs.{needs}
 use lib.ListN.{length}
 use Rattle.frame.specs.Answers.{LINE, answerBytes, lineBytes, linkLines}
-use Rattle.frame.specs.Fields.{Line}
 use Rattle.frame.specs.Statements.{PutAt}
 use Rattle.frame.proofs.Lines.{put-none, put-on, length-link, links-next}
 use Rattle.frame.proofs.answers.put_links.Statement.{statement}
 use Rattle.frame.proofs.answers.put_links.Tie as tie
 
 abbrev Inv-loop : tie.InvT-loop
-Inv-loop out₀ at chain n end₀ i₀ out end i = (i ≤ n) × (end ≡ at + LINE * i) × (length out ≡ length out₀) × PutAt out₀ at (answerBytes (linkLines i chain)) out end
+Inv-loop out₀ at edition chain n end₀ i₀ out end i =
+    (i ≤ n) × (end ≤ at + LINE * i) × (length out ≡ length out₀) × PutAt out₀ at (answerBytes (linkLines edition i chain)) out end
 
 abbrev μ-loop : tie.MeasureT-loop
-μ-loop out₀ at chain n end₀ i₀ out end i = n - i
+μ-loop out₀ at edition chain n end₀ i₀ out end i = n - i
 
 loop-holds : tie.Need-loop-holds Inv-loop μ-loop
 unfolding linkLines answerBytes
@@ -58,10 +58,13 @@ element-copy-out-reason c = search needs
 link-line-requires : tie.Need-link-line-requires Inv-loop μ-loop
 link-line-requires c κs = search needs
 
+-- the line of a link is no longer than a line may be
+line-short : (c : tie.After-link-line Inv-loop μ-loop) → length (lineBytes (c .link-line .result)) ≤ LINE
+line-short c = rw (c .link-line .ensures) (length-link _ _ _ _)
+
 put-line-requires : tie.Need-put-line-requires Inv-loop μ-loop
 put-line-requires c κs =
-    let k : length (lineBytes (c .link-line .result)) ≡ LINE = ap (λ (l : Line). length (lineBytes l)) (c .link-line .ensures) ∙ length-link _ _ _ in
-    omega arith
+    omega (arith, line-short c)
 
 add-i : tie.Need-add-i Inv-loop μ-loop
 add-i c = search needs
@@ -77,9 +80,9 @@ loop-again c =
     let p = c .before .before .put-line in
     let put = rw (link .link-line .ensures) at (p .ensures) in (
       omega arith,
-      omega (arith, put .ends ∙ ap (λ (k : ℕ). l .loop .end + k) (length-link _ _ _)),
+      omega (arith, p .ensures .ends, line-short link),
       p .kept .0 ∙ l .loop .inv .2,
-      rw (add-one (l .loop .i), links-next (l .loop .i)) (put-on (l .loop .inv .3) put),
+      rw (add-one (l .loop .i), links-next _ (l .loop .i)) (put-on (l .loop .inv .3) put),
     )
 
 same-length : tie.Need-same-length Inv-loop μ-loop

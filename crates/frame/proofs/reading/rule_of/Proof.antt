@@ -4,6 +4,12 @@ use Rattle.frame.specs.Frames.{ruleOf}
 use Rattle.frame.proofs.reading.rule_of.Statement.{statement}
 use Rattle.frame.proofs.reading.rule_of.Tie as tie
 
+add-c2 : tie.Need-add-c2
+add-c2 c = search needs
+
+add-end : tie.Need-add-end
+add-end c = search needs
+
 number-requires : tie.Need-number-requires
 number-requires c κs = search needs
 
@@ -23,4 +29,4 @@ returns c = cc
 pub rule-of-spec : {M : Type 1} → statement M
 rule-of-spec =
     tie.close
-    (tie.spec number-requires number-requires-2 number-requires-3 number-requires-4 returns)
+    (tie.spec add-c2 add-end number-requires number-requires-2 number-requires-3 number-requires-4 returns)
