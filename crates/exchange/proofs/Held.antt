@@ -12,7 +12,7 @@ use lib.ListN.{drop, getD, length, length-append, length-set, length-take, set, 
 use lib.Seq.{drop-cons, length-take-le, take-all, take-at, take-suc-set}
 use Rattle.frame.specs.Calls.{callOf, lineCall}
 use Rattle.frame.specs.Frames.{frameOf}
-use Rattle.frame.proofs.Rows.{other-length}
+use Rattle.frame.proofs.Rows.{too-long}
 use Rattle.exchange.specs.declared.Begun.{Begun}
 use Rattle.exchange.specs.Begun.{HELD, begins, begunLine, joined, put}
 
@@ -92,8 +92,7 @@ cut-frame l = go (ltb (length l) HELD) refl
     long : HELD ≤ length l → frameOf (take HELD l) ≡ frameOf l
     long h =
         let k = length-take-le HELD l h in
-        sym (other-length (take HELD l) (λ e. omega arith) (λ e. omega arith) (λ e. omega arith))
-        ∙ other-length l (λ e. omega arith) (λ e. omega arith) (λ e. omega arith)
+        sym (too-long (take HELD l) (omega arith)) ∙ too-long l (omega arith)
 
     go : (t : Bool) → ltb (length l) HELD ≡ t → frameOf (take HELD l) ≡ frameOf l
     go true e = ap frameOf (take-all HELD l (omega (arith, ltb-true (length l) HELD e)))

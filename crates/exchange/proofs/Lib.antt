@@ -1,3 +1,4 @@
+pub mod Before
 pub mod Cut
 pub mod Held
 pub mod Parts

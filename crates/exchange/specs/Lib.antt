@@ -1,3 +1,4 @@
+pub mod Before
 pub mod Begun
 pub mod Exchange
 pub mod Lines
