@@ -8,8 +8,9 @@ use Rattle.exchange.specs.declared.Begun.{Begun}
 use Rattle.exchange.specs.declared.Desk.{Desk}
 use Rattle.exchange.specs.Begun.{desk}
 use Rattle.exchange.specs.Statements.{Turned, WholeAnswered}
-use Rattle.sheet.specs.declared.Head.{Head}
-use Rattle.sheet.specs.Held.{Held, packed}
+use Rattle.lent_head.specs.declared.Head.{Head}
+use Rattle.lent_head.specs.Held.{Held}
+use Rattle.sheet.specs.Held.{packed}
 use Rattle.lent_frame.specs.Statements.{after}
 
 pub record LaidWhole (s : Sheet) (g : Begun) (line b : List ℕ) (at : ℕ) (b′ : List ℕ) (h : Head) (rules marks from to : List ℕ) (side : List Bool) (end : ℕ) : Type 0 where

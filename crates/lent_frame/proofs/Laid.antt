@@ -11,8 +11,9 @@ use Rattle.frame.specs.Calls.{MadeCall, callOf, makes}
 use Rattle.frame.specs.Frames.{frameOf}
 use Rattle.frame.specs.Statements.{PutAt, Said, answered}
 use Rattle.frame.proofs.Saying.{number-answered}
-use Rattle.sheet.specs.declared.Head.{Head}
-use Rattle.sheet.specs.Held.{Held, packed}
+use Rattle.lent_head.specs.declared.Head.{Head}
+use Rattle.lent_head.specs.Held.{Held}
+use Rattle.sheet.specs.Held.{packed}
 use Rattle.sheet.specs.Laid.{After}
 use Rattle.lent_frame.specs.Statements.{LaidAnswered}
 

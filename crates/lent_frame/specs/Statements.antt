@@ -5,8 +5,9 @@ use Prim.Native.Nat.{ℕ}
 use Rattle.sheet.specs.declared.Sheet.{Sheet}
 use Rattle.frame.specs.declared.AfterLine.{AfterLine}
 use Rattle.frame.specs.Statements.{LineAnswered}
-use Rattle.sheet.specs.declared.Head.{Head}
-use Rattle.sheet.specs.Held.{Held, packed}
+use Rattle.lent_head.specs.declared.Head.{Head}
+use Rattle.lent_head.specs.Held.{Held}
+use Rattle.sheet.specs.Held.{packed}
 
 abbrev pub after : Sheet → ℕ → AfterLine
 after s end = record { sheet = s; end = end }

@@ -6,7 +6,8 @@ ghost use Rattle.rule.specs.Meaning.{RULES};
 ghost use Rattle.chain.specs.Links.{chainRoom};
 ghost use Rattle.frame.specs.Answers.{ROOM, SHORT, lineBytes, numberLine};
 ghost use Rattle.frame.specs.Statements.{AskPut, PutAt};
-ghost use Rattle.sheet.specs.Held.{Held, packed};
+ghost use Rattle.lent_head.specs.Held.{Held};
+ghost use Rattle.sheet.specs.Held.{packed};
 ghost use Rattle.lent_frame.specs.Statements.{LaidAnswered};
 use frame::Frame;
 use frame::kept_line;
@@ -49,11 +50,19 @@ pub fn answer(
 {
     let frame = frame::decode(line);
     match frame {
-        Frame::Open(width) => {
-            let said = laid::open(head, &mut *rules, &mut *marks, &*from, &*to, &*side, width);
+        Frame::Open(opening) => {
+            let said = laid::open(
+                head,
+                &mut *rules,
+                &mut *marks,
+                &*from,
+                &*to,
+                &*side,
+                opening,
+            );
             told(said, &mut *out, at)
         }
-        Frame::Add(rule) => {
+        Frame::Add(edition, rule) => {
             let said = laid::add(
                 head,
                 &mut *rules,
@@ -61,6 +70,7 @@ pub fn answer(
                 &mut *from,
                 &mut *to,
                 &mut *side,
+                edition,
                 rule,
             );
             told(said, &mut *out, at)
@@ -132,6 +142,7 @@ fn asked(
         return put_number(&mut *out, at, reply.number);
     }
     let kept = reply.kept;
-    let end = put_line(&mut *out, at, kept_line(kept));
-    put_links(&mut *out, end, &*chain, reply.links)
+    let edition = head.edition;
+    let end = put_line(&mut *out, at, kept_line(edition, kept));
+    put_links(&mut *out, end, edition, &*chain, reply.links)
 }

@@ -16,7 +16,8 @@ use Rattle.exchange.specs.declared.Desk.{Desk}
 use Rattle.exchange.specs.Begun.{desk}
 use Rattle.exchange.proofs.Parts.{Midway, fed-all, fed-full, midway-on, midway-start}
 use Rattle.exchange.proofs.Taking.{end-fits, end-some}
-use Rattle.sheet.specs.Held.{Held, packed}
+use Rattle.lent_head.specs.Held.{Held}
+use Rattle.sheet.specs.Held.{packed}
 use Rattle.lent_exchange.proofs.feed.Statement.{statement}
 use Rattle.lent_exchange.proofs.feed.Tie as tie
 

@@ -3,10 +3,14 @@ use mathlib.Core.Path.{refl, sym, _∙_}
 use Prim.Native.Nat.{_-_}
 use borrow.Author.Needs.{needs}
 use Rattle.page.specs.Calls.{add, back, forward, mark, open-at}
-use Rattle.page.specs.Page.{at-width}
 use Rattle.frame.specs.Calls.{callOf}
 use Rattle.frame.specs.Statements.{no-call}
 use Rattle.frame.proofs.Saying.{line-answered, number-answered}
+use Rattle.sheet.proofs.Added.{add-after}
+use Rattle.sheet.proofs.Marked.{mark-after}
+use Rattle.sheet.proofs.Opened.{open-after}
+use Rattle.sheet.proofs.SteppedBack.{back-after}
+use Rattle.sheet.proofs.SteppedForward.{forward-after}
 use Rattle.lent_frame.proofs.Laid.{laid-number}
 use Rattle.lent_frame.proofs.answer.Statement.{statement}
 use Rattle.lent_frame.proofs.answer.Tie as tie
@@ -79,7 +83,7 @@ unfolding callOf
 returns c =
     let s = c .before .before .before .before .before .before .before .before .before .before .before .before .before .before .before .before in
     let e = sym (c .before .before .before .before .before .before .before .before .before .before .before .frame .given .1) ∙ c .before .before .before .before .before .before .before .before .before .before .before .before .before .decode .ensures in
-    (laid-number _ (open-at (at-width _)) e refl (c .before .before .before .before .open .ensures) (c .before .before .told .ensures .0) (c .before .before .told .ensures .1), s .pre .1 .0)
+    (laid-number _ (open-at _) e refl (open-after (s .pre .0) _ (c .before .before .before .before .open .ensures)) (c .before .before .told .ensures .0) (c .before .before .told .ensures .1), s .pre .1 .0)
 
 same-length-2 : tie.Need-same-length-2
 same-length-2 c = search needs
@@ -89,7 +93,7 @@ unfolding callOf
 returns-2 c =
     let s = c .before .before .before .before .before .before .before .before .before .before .before .before .before .before .before .before in
     let e = sym (c .before .before .before .before .before .before .before .before .before .before .before .frame2 .given .1) ∙ c .before .before .before .before .before .before .before .before .before .before .before .before .before .decode .ensures in
-    (laid-number _ (add _) e refl (c .before .before .before .before .add .ensures) (c .before .before .told2 .ensures .0) (c .before .before .told2 .ensures .1), s .pre .1 .0)
+    (laid-number _ (add _ _) e refl (add-after (s .pre .0) (c .before .before .before .before .add .ensures)) (c .before .before .told2 .ensures .0) (c .before .before .told2 .ensures .1), s .pre .1 .0)
 
 same-length-3 : tie.Need-same-length-3
 same-length-3 c = search needs
@@ -99,7 +103,7 @@ unfolding callOf
 returns-3 c =
     let s = c .before .before .before .before .before .before .before .before .before .before .before .before .before .before .before in
     let e = sym (c .before .before .before .before .before .before .before .before .before .before .enum-told .given .1) ∙ c .before .before .before .before .before .before .before .before .before .before .before .before .decode .ensures in
-    (laid-number _ mark e refl (c .before .before .before .before .mark .ensures) (c .before .before .told3 .ensures .0) (c .before .before .told3 .ensures .1), s .pre .1 .0)
+    (laid-number _ mark e refl (mark-after (s .pre .0) (c .before .before .before .before .mark .ensures)) (c .before .before .told3 .ensures .0) (c .before .before .told3 .ensures .1), s .pre .1 .0)
 
 same-length-4 : tie.Need-same-length-4
 same-length-4 c = search needs
@@ -109,7 +113,7 @@ unfolding callOf
 returns-4 c =
     let s = c .before .before .before .before .before .before .before .before .before .before .before .before .before .before .before in
     let e = sym (c .before .before .before .before .before .before .before .before .before .before .enum-told2 .given .1) ∙ c .before .before .before .before .before .before .before .before .before .before .before .before .decode .ensures in
-    (laid-number _ back e refl (c .before .before .before .before .back .ensures) (c .before .before .told4 .ensures .0) (c .before .before .told4 .ensures .1), s .pre .1 .0)
+    (laid-number _ back e refl (back-after (s .pre .0) (c .before .before .before .before .back .ensures)) (c .before .before .told4 .ensures .0) (c .before .before .told4 .ensures .1), s .pre .1 .0)
 
 same-length-5 : tie.Need-same-length-5
 same-length-5 c = search needs
@@ -130,7 +134,7 @@ unfolding callOf
 returns-6 c =
     let s = c .before .before .before .before .before .before .before .before .before .before .before .before .before .before .before in
     let e = sym (c .before .before .before .before .before .before .before .before .before .before .enum-told4 .given .1) ∙ c .before .before .before .before .before .before .before .before .before .before .before .before .decode .ensures in
-    (laid-number _ forward e refl (c .before .before .before .before .forward .ensures) (c .before .before .told5 .ensures .0) (c .before .before .told5 .ensures .1), s .pre .1 .0)
+    (laid-number _ forward e refl (forward-after (s .pre .0) (c .before .before .before .before .forward .ensures)) (c .before .before .told5 .ensures .0) (c .before .before .told5 .ensures .1), s .pre .1 .0)
 
 same-length-7 : tie.Need-same-length-7
 same-length-7 c = search needs

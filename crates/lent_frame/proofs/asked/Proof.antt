@@ -1,13 +1,13 @@
 -- `asked` meets its contract: the chain fits the numbers lent, so its links are few enough for the room. Assumes nothing.
-use mathlib.Core.Path.{_≡_, ap, _∙_}
-use Prim.Native.Nat.{_-_}
+use mathlib.Core.Path.{_≡_, _∙_}
+use Prim.Native.Nat.{_-_, _≤_}
 use native.Mathlib.Omega.{arith}
 use borrow.Author.Needs.{needs}
 use lib.ListN.{length}
 use Rattle.frame.specs.Answers.{LINE, lineBytes}
-use Rattle.frame.specs.Fields.{Line}
 use Rattle.frame.proofs.Lines.{length-kept, put-on}
 use Rattle.frame.proofs.Saying.{ask-answered, ask-refused, few-links}
+use Rattle.sheet.specs.Held.{packed}
 use Rattle.lent_frame.proofs.asked.Statement.{statement}
 use Rattle.lent_frame.proofs.asked.Tie as tie
 
@@ -21,6 +21,7 @@ same-length : tie.Need-same-length
 same-length c = search needs
 
 returns : tie.Need-returns
+unfolding packed
 returns c =
     let q = c .before .before .before .before .before .before in
     let s = q .before .before .before in (
@@ -33,7 +34,7 @@ kept-line-requires c κs = search needs
 
 put-line-requires : tie.Need-put-line-requires
 put-line-requires c κs =
-    let k : length (lineBytes (c .kept-line .result)) ≡ LINE = ap (λ (l : Line). length (lineBytes l)) (c .kept-line .ensures) ∙ length-kept _ in
+    let k : length (lineBytes (c .kept-line .result)) ≤ LINE = rw (c .kept-line .ensures) (length-kept _ _) in
     omega (arith, c .before .before .before .before .before .before .before .before .pre .1 .1)
 
 put-links-requires : tie.Need-put-links-requires
@@ -43,12 +44,13 @@ put-links-requires c κs =
     let s = q .before .before .before in
     let put = rw (p .before .kept-line .ensures) at (p .put-line .ensures) in
     let few = few-links (q .ask .ensures) (s .pre .1 .0) (q .ask .kept .1 .1 .1 .1 .1 .1 .0 ∙ s .pre .1 .0) in
-    (omega (arith, few, put .ends, length-kept (q .ask .result .kept), p .put-line .kept .0, s .pre .1 .1), few)
+    (omega (arith, few, put .ends, length-kept (s .args .head .edition) (q .ask .result .kept), p .put-line .kept .0, s .pre .1 .1), few)
 
 same-length-2 : tie.Need-same-length-2
 same-length-2 c = search needs
 
 returns-2 : tie.Need-returns-2
+unfolding packed
 returns-2 c =
     let p = c .before .before .before .before .before .before .before in
     let q = c .before .before .before .before .before .before .before .before .before .before .before .before .before in
