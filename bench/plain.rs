@@ -8,8 +8,8 @@ use std::time::Instant;
 
 const RULES: usize = limit(env!("RULES"));
 const MARKS: usize = limit(env!("MARKS"));
-const WIDEST: u64 = 32;
-const LONGEST: usize = 22;
+// The longest frame: an add with the new edition's words.
+const LONGEST: usize = 6 + 2 * Edition::New.terms().digits;
 const BITS: u64 = 255;
 
 const fn limit(digits: &str) -> usize {
@@ -20,6 +20,29 @@ const fn limit(digits: &str) -> usize {
         at += 1;
     }
     number
+}
+
+#[derive(Clone, Copy, PartialEq, Eq)]
+enum Edition {
+    Old,
+    New,
+}
+
+// What belongs to an edition: its widest width, the digits of a word, and the codes that open a sheet and add to it.
+struct Terms {
+    widest: u64,
+    digits: usize,
+    opens: &'static [u8],
+    adds: &'static [u8],
+}
+
+impl Edition {
+    const fn terms(self) -> Terms {
+        match self {
+            Edition::Old => Terms { widest: 32, digits: 8, opens: b"01", adds: b"02" },
+            Edition::New => Terms { widest: 64, digits: 16, opens: b"11", adds: b"12" },
+        }
+    }
 }
 
 #[derive(Clone, Copy, Default, PartialEq, Eq)]
@@ -54,6 +77,7 @@ struct Link {
 }
 
 struct Sheet {
+    edition: Edition,
     width: u64,
     rules: [Rule; RULES],
     count: usize,
@@ -65,6 +89,7 @@ struct Sheet {
     waiting: usize,
 }
 
+// At width 64 one more than this is no word.
 fn top(width: u64) -> u64 {
     u64::MAX >> (64 - width)
 }
@@ -264,6 +289,7 @@ fn chain(rules: &[Rule], width: u64, links: &mut Vec<Link>) {
 impl Sheet {
     fn blank() -> Sheet {
         Sheet {
+            edition: Edition::Old,
             width: 0,
             rules: [Rule::default(); RULES],
             count: 0,
@@ -276,7 +302,10 @@ impl Sheet {
     }
 
     fn is_sheet(&self) -> bool {
-        if self.given > RULES || self.marked > MARKS || self.waiting > MARKS - self.marked || self.width > WIDEST {
+        if self.given > RULES || self.marked > MARKS || self.waiting > MARKS - self.marked {
+            return false;
+        }
+        if self.width > self.edition.terms().widest {
             return false;
         }
         let (rules, free) = self.rules.split_at(self.given);
@@ -285,7 +314,8 @@ impl Sheet {
             return false;
         }
         if self.width == 0 {
-            return self.given == 0 && marks.is_empty() && self.count == 0 && self.kept == Kept::default();
+            let unused = self.given == 0 && marks.is_empty() && self.count == 0;
+            return self.edition == Edition::Old && unused && self.kept == Kept::default();
         }
         marks.is_sorted()
             && marks.last().is_none_or(|mark| *mark <= self.given)
@@ -319,20 +349,24 @@ impl Sheet {
         self.kept = solve(&self.rules[..self.count], self.width);
     }
 
-    fn open(&mut self, width: u64) -> u64 {
-        if width < 1 || width > WIDEST {
+    fn open(&mut self, edition: Edition, width: u64) -> u64 {
+        if width < 1 || width > edition.terms().widest {
             return 2;
         }
         *self = Sheet::blank();
+        self.edition = edition;
         self.width = width;
         self.solved();
         0
     }
 
-    fn add(&mut self, rule: Rule) -> u64 {
+    fn add(&mut self, edition: Edition, rule: Rule) -> u64 {
         let number = self.standing();
         if number != 0 {
             return number;
+        }
+        if edition != self.edition {
+            return 11;
         }
         let number = rule.refused(self.width);
         if number != 0 {
@@ -405,7 +439,7 @@ fn number(digits: &[u8]) -> Option<u64> {
     })
 }
 
-fn put(out: &mut Vec<u8>, digits: u32, x: u64) {
+fn put(out: &mut Vec<u8>, digits: usize, x: u64) {
     for k in (0..digits).rev() {
         out.push(b"0123456789abcdef"[(x >> (4 * k) & 15) as usize]);
     }
@@ -431,23 +465,24 @@ fn ask(sheet: &Sheet, links: &mut Vec<Link>, out: &mut Vec<u8>) {
     if sheet.kept.verdict == 0 {
         chain(&sheet.rules[..sheet.count], sheet.width, links);
     }
+    let digits = sheet.edition.terms().digits;
     out.extend_from_slice(b"a0");
     put(out, 2, sheet.kept.verdict);
-    put(out, 8, sheet.kept.smallest);
-    put(out, 8, sheet.kept.largest);
+    put(out, digits, sheet.kept.smallest);
+    put(out, digits, sheet.kept.largest);
     out.push(b'\n');
     for link in links.iter() {
         out.extend_from_slice(b"c0");
-        put(out, 8, link.from);
-        put(out, 8, link.to);
+        put(out, digits, link.from);
+        put(out, digits, link.to);
         put(out, 2, link.reason);
         out.push(b'\n');
     }
 }
 
 enum Frame {
-    Open(u64),
-    Add(Rule),
+    Open(Edition, u64),
+    Add(Edition, Rule),
     Mark,
     Back,
     Ask,
@@ -455,26 +490,32 @@ enum Frame {
 }
 
 fn frame(line: &[u8]) -> Option<Frame> {
-    match (line.get(..2)?, line.len()) {
-        (b"01", 4) => Some(Frame::Open(number(&line[2..])?)),
-        (b"02", 22) => Some(Frame::Add(Rule {
-            form: number(&line[2..4])?,
-            sense: number(&line[4..6])?,
-            c1: number(&line[6..14])?,
-            c2: number(&line[14..])?,
-        })),
-        (b"03", 2) => Some(Frame::Mark),
-        (b"04", 2) => Some(Frame::Back),
-        (b"05", 2) => Some(Frame::Ask),
-        (b"06", 2) => Some(Frame::Forward),
-        _ => None,
+    match line {
+        b"03" => return Some(Frame::Mark),
+        b"04" => return Some(Frame::Back),
+        b"05" => return Some(Frame::Ask),
+        b"06" => return Some(Frame::Forward),
+        _ => (),
     }
+    let (code, rest) = line.split_at_checked(2)?;
+    for edition in [Edition::Old, Edition::New] {
+        let terms = edition.terms();
+        if code == terms.opens && rest.len() == 2 {
+            return Some(Frame::Open(edition, number(rest)?));
+        }
+        if code == terms.adds && rest.len() == 4 + 2 * terms.digits {
+            let (c1, c2) = rest[4..].split_at(terms.digits);
+            let rule = Rule { form: number(&rest[..2])?, sense: number(&rest[2..4])?, c1: number(c1)?, c2: number(c2)? };
+            return Some(Frame::Add(edition, rule));
+        }
+    }
+    None
 }
 
 fn answer(sheet: &mut Sheet, line: &[u8], links: &mut Vec<Link>, out: &mut Vec<u8>) {
     let number = match frame(line) {
-        Some(Frame::Open(width)) => sheet.open(width),
-        Some(Frame::Add(rule)) => sheet.add(rule),
+        Some(Frame::Open(edition, width)) => sheet.open(edition, width),
+        Some(Frame::Add(edition, rule)) => sheet.add(edition, rule),
         Some(Frame::Mark) => sheet.mark(),
         Some(Frame::Back) => sheet.back(),
         Some(Frame::Ask) => return ask(sheet, links, out),
