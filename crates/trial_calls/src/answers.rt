@@ -79,6 +79,11 @@ pub fn same_sheet(a: Sheet, b: Sheet) -> bool {
     if a.waiting != b.waiting {
         return false;
     }
+    let edition = a.edition;
+    let edition_too = b.edition;
+    if !edition.same(edition_too) {
+        return false;
+    }
     same_kept_and_places(a, b)
 }
 

@@ -1,7 +1,9 @@
 // Sheets to try the calls on, and what calls leave of them.
+use page::Opening;
 use rule::Rule;
 use sheet::Sheet;
 use trial_direct::cases;
+use word::Edition;
 
 // The rules that leave one place free.
 const ALL_BUT_ONE: usize = Rule::LIMIT - 1;
@@ -12,15 +14,29 @@ pub fn case2() -> Rule {
     cases::rule_at(case.rules, 0)
 }
 
-// A sheet that is just opened.
+// The edition that is not the one.
+pub fn other(edition: Edition) -> Edition {
+    match edition {
+        Edition::Old => Edition::New,
+        Edition::New => Edition::Old,
+    }
+}
+
+// A sheet that is just opened, in the old edition.
 pub fn opened(width: u64) -> Sheet {
-    let answer = Sheet::blank().open(width);
+    opened_in(width, Edition::Old)
+}
+
+// The same in any edition.
+pub fn opened_in(width: u64, edition: Edition) -> Sheet {
+    let answer = Sheet::blank().open(Opening { width, edition });
     answer.sheet
 }
 
-// The sheet that is left by adding a rule.
+// The sheet that is left by adding a rule, in the edition that the sheet has.
 pub fn added(sheet: Sheet, rule: Rule) -> Sheet {
-    let answer = sheet.add(rule);
+    let edition = sheet.edition;
+    let answer = sheet.add(edition, rule);
     answer.sheet
 }
 
@@ -43,8 +59,8 @@ pub fn gone_forward(sheet: Sheet) -> Sheet {
 }
 
 // A sheet with one place free.
-pub fn all_but_one() -> Sheet {
-    let mut sheet = opened(4);
+pub fn all_but_one(edition: Edition) -> Sheet {
+    let mut sheet = opened_in(4, edition);
     for i in 0..ALL_BUT_ONE {
         sheet = added(sheet, case2());
     }
@@ -52,13 +68,13 @@ pub fn all_but_one() -> Sheet {
 }
 
 // A sheet with no place free.
-pub fn full() -> Sheet {
-    added(all_but_one(), case2())
+pub fn full(edition: Edition) -> Sheet {
+    added(all_but_one(edition), case2())
 }
 
 // A sheet on which no further mark may be set.
-pub fn all_marks() -> Sheet {
-    let mut sheet = opened(4);
+pub fn all_marks(edition: Edition) -> Sheet {
+    let mut sheet = opened_in(4, edition);
     for i in 0..Sheet::MARKS {
         sheet = marked(sheet);
     }

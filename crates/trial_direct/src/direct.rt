@@ -12,7 +12,7 @@ use word::Width;
 // The places of a table: 256 words for each rule.
 pub const TABLE: usize = 256 * Rule::LIMIT;
 
-// What a lent number is before the call. No word of a sheet and no reason is so large.
+// What a lent number is before the call. No word of fewer than 64 bits and no reason is so large.
 pub const UNTOUCHED: u64 = u64::MAX;
 
 // How many words there are.
