@@ -2,8 +2,8 @@
 use Prim.Native.Nat.{_-_}
 use Rattle.page.specs.Page.{MARKS}
 use borrow.Author.Needs.{needs}
-use Rattle.try_calls.proofs.case13.marking.Statement.{statement}
-use Rattle.try_calls.proofs.case13.marking.Tie as tie
+use Rattle.try_calls.proofs.marking.Statement.{statement}
+use Rattle.try_calls.proofs.marking.Tie as tie
 
 pub marking-spec : {M : Type 1} → statement M
 marking-spec =
@@ -12,4 +12,4 @@ marking-spec =
     (λ tally₀ sheet₀ i₀ tally sheet i. Unit)
     (λ tally₀ sheet₀ i₀ tally sheet i. MARKS - i)
     (search needs) (search needs) (search needs) (search needs) (search needs) (search needs) (search needs) (search needs)
-    (search needs) (search needs) (search needs) (search needs))
+    (search needs) (search needs) (search needs))

@@ -2,8 +2,8 @@
 use Prim.Native.Nat.{_-_}
 use Rattle.page.specs.Page.{MARKS}
 use borrow.Author.Needs.{needs}
-use Rattle.try_calls.proofs.case13.striking.Statement.{statement}
-use Rattle.try_calls.proofs.case13.striking.Tie as tie
+use Rattle.try_calls.proofs.striking.Statement.{statement}
+use Rattle.try_calls.proofs.striking.Tie as tie
 
 pub striking-spec : {M : Type 1} → statement M
 striking-spec =

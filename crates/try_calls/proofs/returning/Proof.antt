@@ -2,8 +2,8 @@
 use Prim.Native.Nat.{_-_}
 use Rattle.page.specs.Page.{MARKS}
 use borrow.Author.Needs.{needs}
-use Rattle.try_calls.proofs.case13.returning.Statement.{statement}
-use Rattle.try_calls.proofs.case13.returning.Tie as tie
+use Rattle.try_calls.proofs.returning.Statement.{statement}
+use Rattle.try_calls.proofs.returning.Tie as tie
 
 pub returning-spec : {M : Type 1} → statement M
 returning-spec =
