@@ -1,8 +1,10 @@
-// Tries the paper's whole exchange, as calls: cases 2 and 8.
+// Tries the paper's whole exchange, as calls, in both editions: cases 2 and 8.
 //
-// The counts. exchange: 9 lines, the 6 numbers of two links, and the numbers after them as one. known has wrong expectations, 1 + 6 + 1.
+// The counts. exchange: in each edition 9 lines, the 6 numbers of two links, and the numbers after them as one. known has wrong
+// expectations, 1 + 6 + 1.
 ghost use Prim.Native.Nat.{_≤_, _<_};
 ghost use Rattle.trial_direct.specs.Trial.{ROWS};
+use page::Opening;
 use rule::Rule;
 use sheet::Sheet;
 use trial_calls::answers::accepted;
@@ -15,27 +17,30 @@ use trial_calls::sheets::case2;
 use trial_calls::sheets::gone_back;
 use trial_calls::sheets::marked;
 use trial_calls::sheets::opened;
+use trial_calls::sheets::opened_in;
 use trial_direct::cases;
 use trial_direct::direct::UNTOUCHED;
 use trial_direct::tally::Tally;
+use word::Edition;
 
 // What asking wants of two rules.
 const LENT: usize = 3 * (4 * 2 + 1);
 
 fn main() {
-    all().print(b"exchange");
+    all(Edition::Old).plus(all(Edition::New)).print(b"exchange");
     known().print(b"known");
 }
 
-fn all() -> Tally {
-    let sheet = added(opened(4), case2());
+fn all(edition: Edition) -> Tally {
+    let none = opened_in(4, edition);
+    let sheet = added(none, case2());
     let two = added(marked(sheet), case8());
     let after = gone_back(two);
-    Tally::one(accepted(Sheet::blank().open(4)))
-        .plus(Tally::one(accepted(opened(4).add(case2()))))
+    Tally::one(accepted(Sheet::blank().open(Opening { width: 4, edition })))
+        .plus(Tally::one(accepted(none.add(edition, case2()))))
         .plus(asked(sheet, cases::CASE2))
         .plus(Tally::one(accepted(sheet.mark())))
-        .plus(Tally::one(accepted(marked(sheet).add(case8()))))
+        .plus(Tally::one(accepted(marked(sheet).add(edition, case8()))))
         .plus(asked(two, cases::CASE8))
         .plus(Tally::one(accepted(two.back())))
         .plus(Tally::one(refused(after.back(), 8, after)))

@@ -1,6 +1,8 @@
 // Tries what waits after steps back: what comes back of it, what empties it, and what leaves it.
 //
-// The counts. waiting: 9 of stretches in turn, 3 that empty them, and 8 + 8 + 3 that leave them. known has wrong expectations, 3.
+// The counts. waiting: in each edition 9 of stretches in turn, 4 that empty them, and 10 + 10 + 3 that leave them. known has wrong
+// expectations, 3.
+use page::Opening;
 use sheet::Answer;
 use sheet::Sheet;
 use trial_calls::answers::accepted;
@@ -12,16 +14,19 @@ use trial_calls::sheets::gone_back;
 use trial_calls::sheets::gone_forward;
 use trial_calls::sheets::marked;
 use trial_calls::sheets::opened;
+use trial_calls::sheets::opened_in;
+use trial_calls::sheets::other;
 use trial_direct::rules::rule;
 use trial_direct::tally::Tally;
+use word::Edition;
 
 fn main() {
-    all().print(b"waiting");
+    all(Edition::Old).plus(all(Edition::New)).print(b"waiting");
     known().print(b"known");
 }
 
-fn all() -> Tally {
-    let none = opened(4);
+fn all(edition: Edition) -> Tally {
+    let none = opened_in(4, edition);
     let one = added(marked(none), case2());
     let two = added(marked(one), rule(4, 0, 7, 0));
     let last = gone_back(two);
@@ -44,27 +49,34 @@ fn in_turn(none: Sheet, last: Sheet, two: Sheet) -> Tally {
         .plus(Tally::one(refused(gone_forward(last).forward(), 12, two)))
 }
 
-// An accepted add, mark or opening empties what waits.
+// An accepted add, mark or opening, in either edition, empties what waits.
 fn emptied(waits: Sheet) -> Tally {
-    let opening = waits.open(4);
-    let opened = opening.sheet;
     none_waits(added(waits, case2()))
         .plus(none_waits(marked(waits)))
-        .plus(none_waits(opened))
+        .plus(none_waits(reopened(waits, 4, Edition::Old)))
+        .plus(none_waits(reopened(waits, 4, Edition::New)))
+}
+
+// The sheet that is left by opening where another is open.
+fn reopened(sheet: Sheet, width: u64, edition: Edition) -> Sheet {
+    let answer = sheet.open(Opening { width, edition });
+    answer.sheet
 }
 
 fn none_waits(sheet: Sheet) -> Tally {
     Tally::one(refused(sheet.forward(), 12, sheet))
 }
 
-// Refused adds and a refused opening leave what waits, which comes back after them.
+// Refused adds, one of them in the other edition, and a refused opening leave what waits, which comes back after them.
 fn left(waits: Sheet, before: Sheet) -> Tally {
-    let opening = waits.open(33);
-    let kept = opening.sheet;
+    let edition = waits.edition;
+    let foreign = waits.add(other(edition), case2());
+    let kept = foreign.sheet;
     leaves(added(waits, rule(9, 0, 0, 0)).forward(), before)
         .plus(leaves(added(waits, rule(1, 2, 0, 0)).forward(), before))
         .plus(leaves(added(waits, rule(1, 0, 16, 0)).forward(), before))
         .plus(leaves(kept.forward(), before))
+        .plus(leaves(reopened(waits, 65, other(edition)).forward(), before))
 }
 
 // So does a step back where no mark is left.
