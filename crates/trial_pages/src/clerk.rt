@@ -1,33 +1,43 @@
-// The clerk's page: the width, what stands on it, in order, and beside it the pile of what was struck out and waits.
+// The clerk's page: how it was opened, what stands on it, in order, and beside it the pile of what was struck out and waits.
 use crate::lines::Line;
 use crate::lines::Lines;
 use crate::lines::MARK;
+use page::Opening;
 use rule::Rule;
 use sheet::Sheet;
-use trial_calls::sheets::opened;
+use trial_calls::sheets::opened_in;
+use word::Edition;
 
 // A call on a sheet. Asking changes no sheet, and no page.
 pub enum Call {
-    Open(u64),
-    Add(Rule),
+    Open(Opening),
+    Add(Edition, Rule),
     Mark,
     Back,
     Forward,
 }
 
-// The width, 0 before any opening; the lines that stand, the newest last; and those of the pile, the one next to come back last. A
-// stretch lies on the pile with its mark on top.
+// What it was opened with; the lines that stand, the newest last; and those of the pile, the one next to come back last. A stretch lies
+// on the pile with its mark on top.
 pub struct Page {
-    pub width: u64,
+    pub opening: Opening,
     stands: Lines,
     pile: Lines,
 }
 
 impl Page {
+    // The page before any opening: the blank sheet has width 0, and is of the old edition.
+    pub fn blank() -> Page {
+        Page::new(Opening {
+            width: 0,
+            edition: Edition::Old,
+        })
+    }
+
     // A page with nothing on it, and nothing beside it.
-    pub fn new(width: u64) -> Page {
+    pub fn new(opening: Opening) -> Page {
         Page {
-            width,
+            opening,
             stands: Lines::none(),
             pile: Lines::none(),
         }
@@ -36,8 +46,8 @@ impl Page {
     // The page after an accepted call.
     pub fn after(self, call: Call) -> Page {
         match call {
-            Call::Open(width) => Page::new(width),
-            Call::Add(rule) => self.with(Line { mark: false, rule }),
+            Call::Open(opening) => Page::new(opening),
+            Call::Add(_, rule) => self.with(Line { mark: false, rule }),
             Call::Mark => self.with(MARK),
             Call::Back => self.struck(),
             Call::Forward => self.written_back(),
@@ -52,9 +62,10 @@ impl Page {
 
     // One line more, and the pile cleared.
     fn with(self, line: Line) -> Page {
+        let opening = self.opening;
         let stands = self.stands;
         Page {
-            width: self.width,
+            opening,
             stands: stands.with(line),
             pile: Lines::none(),
         }
@@ -87,31 +98,35 @@ impl Page {
     }
 
     fn line_struck(self) -> Page {
+        let opening = self.opening;
         let stands = self.stands;
         let pile = self.pile;
         Page {
-            width: self.width,
+            opening,
             stands: stands.without_last(),
             pile: pile.with(stands.last()),
         }
     }
 
     fn line_written_back(self) -> Page {
+        let opening = self.opening;
         let stands = self.stands;
         let pile = self.pile;
         Page {
-            width: self.width,
+            opening,
             stands: stands.with(pile.last()),
             pile: pile.without_last(),
         }
     }
 
-    // A sheet opened afresh, given what stands on the page, then every stretch that waits, the one next to come back first, and then
-    // taken back once for each.
+    // A sheet opened afresh at the page's width and edition, given what stands on the page, then every stretch that waits, the one next to
+    // come back first, and then taken back once for each.
     pub fn fresh(self) -> Sheet {
+        let opening = self.opening;
+        let edition = opening.edition;
         let stands = self.stands;
         let pile = self.pile;
-        let sheet = stands.given(opened(self.width));
+        let sheet = stands.given(opened_in(opening.width, edition));
         pile.taken_back(pile.given_last_first(sheet))
     }
 }

@@ -2,13 +2,15 @@
 // call the desk's sheet is compared with the clerk's page, as in long sequences.
 use crate::long;
 use crate::long::Work;
+use page::Opening;
 use rule::Rule;
 use sheet::Sheet;
-use trial_calls::sheets::opened;
+use trial_calls::sheets::opened_in;
 use trial_direct::tally::Split;
 use trial_pages::clerk::Call;
 use trial_pages::clerk::Page;
 use trial_pages::draw;
+use word::Edition;
 
 const SHEETS: u64 = 10;
 
@@ -24,17 +26,20 @@ const UNMARKED: usize = GIVEN - MARKED;
 // Calls enough for it: of the rules that are drawn more than half are accepted.
 const DRAWN: usize = 2 * Rule::LIMIT + Sheet::MARKS;
 
-// A sheet of each width from 1 on.
+// A sheet of each width from 1 on in each edition, and of each from 64 down in the new one.
 pub fn all() -> Split {
     let mut calls = Split::none();
     for i in 0..SHEETS {
-        calls = calls.plus(sequence(i + 1));
+        calls = calls
+            .plus(sequence(i + 1, i + 1, Edition::Old))
+            .plus(sequence(SHEETS + i + 1, i + 1, Edition::New))
+            .plus(sequence(2 * SHEETS + i + 1, 64 - i, Edition::New));
     }
     calls
 }
 
-fn sequence(width: u64) -> Split {
-    let mut work = given(width);
+fn sequence(seed: u64, width: u64, edition: Edition) -> Split {
+    let mut work = given(seed, width, edition);
     for i in 0..CALLS {
         work = long::step(work);
     }
@@ -42,11 +47,11 @@ fn sequence(width: u64) -> Split {
 }
 
 // A desk and a clerk at work on a sheet that is all but full.
-fn given(width: u64) -> Work {
+fn given(seed: u64, width: u64, edition: Edition) -> Work {
     let mut work = Work {
-        seed: draw::further(width),
-        sheet: opened(width),
-        page: Page::new(width),
+        seed: draw::further(seed),
+        sheet: opened_in(width, edition),
+        page: Page::new(Opening { width, edition }),
         calls: Split::none(),
     };
     for i in 0..DRAWN {
@@ -58,14 +63,14 @@ fn given(width: u64) -> Work {
 // One call more, a drawn rule or a mark, until the sheet has what it is given. Nothing is compared.
 fn filled(work: Work) -> Work {
     let sheet = work.sheet;
-    let page = work.page;
     let count = sheet.count;
+    let edition = sheet.edition;
     if count < GIVEN {
         if marks_next(count, sheet.marked) {
             return called(work, Call::Mark);
         }
-        let rule = draw::rule(work.seed, draw::further(work.seed), page.width);
-        return called(work, Call::Add(rule));
+        let rule = draw::rule(work.seed, draw::further(work.seed), sheet.width);
+        return called(work, Call::Add(edition, rule));
     }
     work
 }

@@ -1,5 +1,6 @@
 // Long sequences of calls. After each call, accepted or refused, the desk's sheet is the one that a fresh sheet comes to
 // that is given what stands on the clerk's page and what waits beside it, and is taken back once for each stretch that waits.
+use page::Opening;
 use sheet::Answer;
 use sheet::Sheet;
 use trial_calls::answers::same_sheet;
@@ -8,12 +9,14 @@ use trial_calls::sheets::case2;
 use trial_calls::sheets::gone_back;
 use trial_calls::sheets::marked;
 use trial_calls::sheets::opened;
+use trial_calls::sheets::opened_in;
 use trial_direct::draw::next;
 use trial_direct::tally::Split;
 use trial_direct::tally::Tally;
 use trial_pages::clerk::Call;
 use trial_pages::clerk::Page;
 use trial_pages::draw;
+use word::Edition;
 
 const SEQUENCES: u64 = 100;
 
@@ -40,7 +43,7 @@ fn sequence(seed: u64) -> Split {
     let mut work = Work {
         seed,
         sheet: Sheet::blank(),
-        page: Page::new(0),
+        page: Page::blank(),
         calls: Split::none(),
     };
     for i in 0..CALLS {
@@ -54,7 +57,8 @@ pub fn step(work: Work) -> Work {
     let sheet = work.sheet;
     let page = work.page;
     let calls = work.calls;
-    let call = draw::drawn(work.seed, page.width, page.waits());
+    let opening = page.opening;
+    let call = draw::drawn(work.seed, opening, page.waits());
     let answer = made(sheet, call);
     let left = answer.sheet;
     let stands = standing(page, call, answer.number);
@@ -80,18 +84,22 @@ fn compared(number: u64, left: Sheet, stands: Page) -> Split {
     Split::one(kind, same_sheet(left, stands.fresh()))
 }
 
-// Wrong pages: the clerk missed an add; and the clerk missed a mark and a step back, so that the pile alone is wrong.
+// Wrong pages: the clerk missed an add; missed a mark and a step back, so that the pile alone is wrong; took the edition for the other.
 pub fn known() -> Tally {
-    let page = Page::new(4);
+    let page = Page::new(Opening {
+        width: 4,
+        edition: Edition::Old,
+    });
     compared(0, added(opened(4), case2()), page)
         .joined()
         .plus(compared(0, gone_back(marked(opened(4))), page).joined())
+        .plus(compared(0, opened_in(4, Edition::New), page).joined())
 }
 
 pub fn made(sheet: Sheet, call: Call) -> Answer {
     match call {
-        Call::Open(width) => sheet.open(width),
-        Call::Add(rule) => sheet.add(rule),
+        Call::Open(opening) => sheet.open(opening),
+        Call::Add(edition, rule) => sheet.add(edition, rule),
         Call::Mark => sheet.mark(),
         Call::Back => sheet.back(),
         Call::Forward => sheet.forward(),

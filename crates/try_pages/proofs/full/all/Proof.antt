@@ -11,4 +11,5 @@ all-spec =
     (λ calls₀ i₀ calls i. Unit)
     (λ calls₀ i₀ calls i. 10 - i)
     (search needs) (search needs) (search needs) (search needs) (search needs) (search needs) (search needs) (search needs)
-    (search needs))
+    (search needs) (search needs) (search needs) (search needs) (search needs) (search needs) (search needs) (search needs)
+    (search needs) (search needs) (search needs) (search needs) (search needs))

@@ -10,7 +10,7 @@ pub given-spec : {M : Type 1} → statement M
 given-spec =
     tie.close
     (tie.spec
-    (λ width work₀ i₀ work i. Unit)
-    (λ width work₀ i₀ work i. 2 * RULES + MARKS - i)
+    (λ seed width work₀ i₀ work i. Unit)
+    (λ seed width work₀ i₀ work i. 2 * RULES + MARKS - i)
     (search needs) (search needs) (search needs) (search needs) (search needs) (search needs) (search needs) (search needs)
     (search needs) (search needs))

@@ -8,6 +8,6 @@ pub sequence-spec : {M : Type 1} → statement M
 sequence-spec =
     tie.close
     (tie.spec
-    (λ width work₀ i₀ work i. Unit)
-    (λ width work₀ i₀ work i. 30 - i)
+    (λ seed width work₀ i₀ work i. Unit)
+    (λ seed width work₀ i₀ work i. 30 - i)
     (search needs) (search needs) (search needs) (search needs) (search needs) (search needs) (search needs))

@@ -3,14 +3,14 @@ use Prim.Native.Nat.{_+_, _*_, _-_}
 use Rattle.rule.specs.Meaning.{RULES}
 use Rattle.page.specs.Page.{MARKS}
 use borrow.Author.Needs.{needs}
-use Rattle.try_pages.proofs.damaged.known.Statement.{statement}
-use Rattle.try_pages.proofs.damaged.known.Tie as tie
+use Rattle.try_records.proofs.known.Statement.{statement}
+use Rattle.try_records.proofs.known.Tie as tie
 
 pub known-spec : {M : Type 1} → statement M
 known-spec =
     tie.close
     (tie.spec
-    (λ tally₀ at₀ tally at. Unit)
-    (λ tally₀ at₀ tally at. 4 * RULES + MARKS + 8 - at)
+    (λ sheet tally₀ at₀ tally at. Unit)
+    (λ sheet tally₀ at₀ tally at. 4 * RULES + MARKS + 8 - at)
     (search needs) (search needs) (search needs) (search needs) (search needs) (search needs) (search needs) (search needs)
-    (search needs) (search needs) (search needs))
+    (search needs) (search needs) (search needs) (search needs) (search needs))

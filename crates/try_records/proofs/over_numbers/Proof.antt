@@ -3,8 +3,8 @@ use Prim.Native.Nat.{_+_, _*_, _-_}
 use Rattle.rule.specs.Meaning.{RULES}
 use Rattle.page.specs.Page.{MARKS}
 use borrow.Author.Needs.{needs}
-use Rattle.try_pages.proofs.damaged.over_numbers.Statement.{statement}
-use Rattle.try_pages.proofs.damaged.over_numbers.Tie as tie
+use Rattle.try_records.proofs.over_numbers.Statement.{statement}
+use Rattle.try_records.proofs.over_numbers.Tie as tie
 
 pub over-numbers-spec : {M : Type 1} → statement M
 over-numbers-spec =

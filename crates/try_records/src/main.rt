@@ -1,0 +1,228 @@
+// Tries what a record has to be to be a sheet: a sheet with one number of it raised, which no page of accepted calls gives; and a sheet
+// with the other edition, which is none where the old edition has no such width, and else is the sheet that the same calls give there.
+//
+// The sheets are such that no raised number gives another sheet. The two rules in force are fitted by four words below the top word, and
+// each of them by other words once one of its numbers is raised, or is then refused; and the mark is as high as a mark may be. What
+// waits is a mark and a rule, and then a mark alone: each number of the rule is as high as it may be, and so are the marks.
+//
+// The counts. damaged: 6 looks at each number of a record, four a rule, one a mark and 8 others, raised by each of 3 amounts, on 7
+// sheets: the blank one, and with something that waits and without one of the old edition and two of the new. edition: 6 looks at each of
+// 5 records that are no sheet, and 4 at each of 8 that are one. known: a sheet against itself with each number raised, and with the other
+// edition.
+use rule::Rule;
+use sheet::Sheet;
+use trial_calls::answers::accepted;
+use trial_calls::answers::ask_refused;
+use trial_calls::answers::refused;
+use trial_calls::answers::same_sheet;
+use trial_calls::sheets::added;
+use trial_calls::sheets::case2;
+use trial_calls::sheets::gone_back;
+use trial_calls::sheets::marked;
+use trial_calls::sheets::opened;
+use trial_calls::sheets::opened_in;
+use trial_calls::sheets::other;
+use trial_direct::rules::rule;
+use trial_direct::tally::Tally;
+use word::Edition;
+
+// Where the numbers of the rules end, those of the marks, and the eight others.
+const RULES: usize = 4 * Rule::LIMIT;
+
+const MARKS: usize = RULES + Sheet::MARKS;
+
+const NUMBERS: usize = MARKS + 8;
+
+// What is raised by it is far off: a count of rules or of marks passes its limit.
+const FAR: u64 = Rule::LIMIT as u64;
+
+// The top word of 63 bits, the widest that has numbers above it.
+const TOP: u64 = 0x7fff_ffff_ffff_ffff;
+
+fn main() {
+    all().print(b"damaged");
+    editions().print(b"edition");
+    known().print(b"known");
+}
+
+fn all() -> Tally {
+    damaged(stands(4, 15, Edition::Old), 15)
+        .plus(damaged(stands(4, 15, Edition::New), 15))
+        .plus(damaged(stands(63, TOP, Edition::New), TOP))
+        .plus(over_numbers(Sheet::blank()))
+}
+
+fn damaged(sheet: Sheet, top: u64) -> Tally {
+    over_numbers(sheet).plus(over_numbers(waited(sheet, top)))
+}
+
+// A sheet with two rules and a mark. The second rule, signed, has every word.
+fn stands(width: u64, top: u64, edition: Edition) -> Sheet {
+    let first = added(opened_in(width, edition), case2());
+    marked(added(first, rule(4, 0, top / 2, 0)))
+}
+
+// The sheet with two stretches that wait.
+fn waited(sheet: Sheet, top: u64) -> Sheet {
+    let one = added(marked(sheet), rule(8, 1, top, top));
+    gone_back(gone_back(marked(one)))
+}
+
+// Records with the other edition. The blank sheet is of the old one, and a sheet of more than 32 bits is of the new.
+fn editions() -> Tally {
+    let wide = stands(63, TOP, Edition::New);
+    looks(turned(Sheet::blank()))
+        .plus(looks(turned(wide)))
+        .plus(looks(turned(waited(wide, TOP))))
+        .plus(looks(turned(opened_in(33, Edition::New))))
+        .plus(looks(turned(opened_in(64, Edition::New))))
+        .plus(turned_to(Edition::Old))
+        .plus(turned_to(Edition::New))
+}
+
+// Sheets that are turned to an edition, where the same calls give them too.
+fn turned_to(edition: Edition) -> Tally {
+    let sheet = stands(4, 15, edition);
+    let from = stands(4, 15, other(edition));
+    same_page(turned(from), sheet)
+        .plus(same_page(turned(waited(from, 15)), waited(sheet, 15)))
+        .plus(same_page(turned(opened_in(1, other(edition))), opened_in(1, edition)))
+        .plus(same_page(
+            turned(opened_in(32, other(edition))),
+            opened_in(32, edition),
+        ))
+}
+
+// What is said of a record that is a sheet: it is the one that calls give, and its adds are those of the edition that it has.
+fn same_page(record: Sheet, sheet: Sheet) -> Tally {
+    let more = rule(3, 0, 0, 1);
+    let edition = sheet.edition;
+    Tally::one(record.is_sheet())
+        .plus(Tally::one(same_sheet(record, sheet)))
+        .plus(Tally::one(accepted(record.add(edition, more))))
+        .plus(Tally::one(refused(record.add(other(edition), more), 11, record)))
+}
+
+// The record with the other edition.
+fn turned(sheet: Sheet) -> Sheet {
+    let rules = sheet.rules;
+    let marks = sheet.marks;
+    let kept = sheet.kept;
+    let edition = sheet.edition;
+    Sheet {
+        width: sheet.width,
+        rules,
+        count: sheet.count,
+        marks,
+        marked: sheet.marked,
+        kept,
+        given: sheet.given,
+        waiting: sheet.waiting,
+        edition: other(edition),
+    }
+}
+
+// The sheet compared with itself, with the other edition and with each number raised.
+fn known() -> Tally {
+    let sheet = opened(4);
+    let mut tally = Tally::one(same_sheet(sheet, turned(sheet)));
+    for at in 0..NUMBERS {
+        tally = tally.plus(Tally::one(same_sheet(sheet, raised(sheet, at, 1))));
+    }
+    tally
+}
+
+fn over_numbers(sheet: Sheet) -> Tally {
+    let mut tally = Tally::none();
+    for at in 0..NUMBERS {
+        tally = tally.plus(over_amounts(sheet, at));
+    }
+    tally
+}
+
+// The next number, one that is far off, and one that is the same in its low half.
+fn over_amounts(sheet: Sheet, at: usize) -> Tally {
+    looks(raised(sheet, at, 1))
+        .plus(looks(raised(sheet, at, FAR)))
+        .plus(looks(raised(sheet, at, 0x1_0000_0000)))
+}
+
+// What is_sheet and each call but an opening say of a record that is no sheet.
+fn looks(sheet: Sheet) -> Tally {
+    let edition = sheet.edition;
+    Tally::one(!sheet.is_sheet())
+        .plus(Tally::one(refused(sheet.add(edition, rule(3, 0, 0, 1)), 17, sheet)))
+        .plus(Tally::one(refused(sheet.mark(), 17, sheet)))
+        .plus(Tally::one(refused(sheet.back(), 17, sheet)))
+        .plus(Tally::one(refused(sheet.forward(), 17, sheet)))
+        .plus(Tally::one(ask_refused(sheet, 17)))
+}
+
+// The record with one number raised.
+fn raised(sheet: Sheet, at: usize, by: u64) -> Sheet {
+    if at < RULES {
+        return raised_rule(sheet, at, by);
+    }
+    if at < MARKS {
+        return raised_mark(sheet, at, by);
+    }
+    raised_other(sheet, at - MARKS, by)
+}
+
+// One of the eight numbers that are neither a rule's nor a mark.
+fn raised_other(sheet: Sheet, at: usize, by: u64) -> Sheet {
+    let mut no_sheet = sheet;
+    match at {
+        0 => no_sheet.width = std::num::wrapping_add_u64(sheet.width, by),
+        1 => no_sheet.count = raised_size(sheet.count, by),
+        2 => no_sheet.marked = raised_size(sheet.marked, by),
+        3 => no_sheet.given = raised_size(sheet.given, by),
+        4 => no_sheet.waiting = raised_size(sheet.waiting, by),
+        _ => return raised_kept(sheet, at, by),
+    }
+    no_sheet
+}
+
+fn raised_rule(sheet: Sheet, at: usize, by: u64) -> Sheet {
+    let mut no_sheet = sheet;
+    let place = at / 4 % Rule::LIMIT;
+    let rules = sheet.rules;
+    no_sheet.rules[place] = raised_number(rules[place], at % 4, by);
+    no_sheet
+}
+
+fn raised_number(rule: Rule, at: usize, by: u64) -> Rule {
+    let mut raised = rule;
+    match at {
+        0 => raised.form = std::num::wrapping_add_u64(rule.form, by),
+        1 => raised.sense = std::num::wrapping_add_u64(rule.sense, by),
+        2 => raised.c1 = std::num::wrapping_add_u64(rule.c1, by),
+        _ => raised.c2 = std::num::wrapping_add_u64(rule.c2, by),
+    }
+    raised
+}
+
+fn raised_mark(sheet: Sheet, at: usize, by: u64) -> Sheet {
+    let mut no_sheet = sheet;
+    let place = at % Sheet::MARKS;
+    let marks = sheet.marks;
+    no_sheet.marks[place] = raised_size(marks[place], by);
+    no_sheet
+}
+
+fn raised_kept(sheet: Sheet, at: usize, by: u64) -> Sheet {
+    let kept = sheet.kept;
+    let mut raised = kept;
+    match at {
+        5 => raised.verdict = std::num::wrapping_add_u64(kept.verdict, by),
+        6 => raised.smallest = std::num::wrapping_add_u64(kept.smallest, by),
+        _ => raised.largest = std::num::wrapping_add_u64(kept.largest, by),
+    }
+    let mut no_sheet = sheet;
+    no_sheet.kept = raised;
+    no_sheet
+}
+
+fn raised_size(size: usize, by: u64) -> usize {
+    std::num::wrapping_add_usize(size, by as usize)
+}
