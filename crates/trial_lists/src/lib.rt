@@ -1,25 +1,25 @@
 // Lists of rules for the programs that try the batch call, and the calls one by one.
 use batch::Batch;
+use page::Opening;
 use rule::Rule;
 use sheet::Sheet;
 use trial_calls::sheets::case2;
 use trial_direct::rules::rule;
 
-// The top word of 32 bits, and a part of the wheel of these words, of which there are as many as a sheet takes rules.
+// The top word of 32 bits.
 const TOP: u64 = 0xffff_ffff;
 
-const PART: u64 = TOP / Rule::LIMIT as u64 + 1;
-
-// The calls one by one, up to the first refusal.
-pub fn calls(width: u64, rules: [Rule; Batch::MOST], count: usize, out: &mut [u64]) -> Batch {
-    let opened = Sheet::blank().open(width);
+// The calls one by one, up to the first refusal, all in one edition.
+pub fn calls(opening: Opening, rules: [Rule; Batch::MOST], count: usize, out: &mut [u64]) -> Batch {
+    let edition = opening.edition;
+    let opened = Sheet::blank().open(opening);
     if opened.number != 0 {
         return stopped(opened.number, count);
     }
     let mut sheet = opened.sheet;
     for i in 0..Batch::MOST {
         if i < count {
-            let answer = sheet.add(rules[i]);
+            let answer = sheet.add(edition, rules[i]);
             if answer.number != 0 {
                 return stopped(answer.number, i);
             }
@@ -48,11 +48,17 @@ pub fn alike() -> [Rule; Batch::MOST] {
 // Rules of which each fails on one part of the wheel, so that no word of 32 bits fits as many as a sheet takes. The chain
 // has a link for each part.
 pub fn parts() -> [Rule; Batch::MOST] {
+    parts_of(TOP)
+}
+
+// The same on the wheel of another top word. There are as many parts as a sheet takes rules.
+pub fn parts_of(top: u64) -> [Rule; Batch::MOST] {
+    let last = top / Rule::LIMIT as u64;
     let mut rules = alike();
     let mut c1: u64 = 0;
     for i in 0..Batch::MOST {
-        c1 = std::num::wrapping_add_u64(c1, PART) & TOP;
-        rules[i] = rule(3, 1, c1, PART - 1);
+        c1 = std::num::wrapping_add_u64(c1, last + 1) & top;
+        rules[i] = rule(3, 1, c1, last);
     }
     rules
 }

@@ -1,33 +1,36 @@
 // One case: the batch call and the calls one by one, on the same list with as many numbers lent.
 use batch::Batch;
+use page::Opening;
 use rule::Rule;
 use sheet::Reply;
 use sheet::Sheet;
 use trial_calls::answers::kept;
-use trial_direct::direct::UNTOUCHED;
 use trial_direct::tally::Tally;
 use trial_lists::alike;
 use trial_lists::calls;
 
+// What a lent number is before the call. Every number is a word of 64 bits; at this one no link of these lists begins or ends.
+const UNTOUCHED: u64 = 0x5a5a_5a5a_5a5a_5a5a;
+
 // With enough lent for any list: what is answered, and at which rule.
 pub fn lent_enough(
-    width: u64,
+    opening: Opening,
     rules: [Rule; Batch::MOST],
     count: usize,
     number: u64,
     place: usize,
 ) -> Tally {
-    compared(width, rules, count, Sheet::LENT, number, place)
+    compared(opening, rules, count, Sheet::LENT, number, place)
 }
 
 // With just enough lent for as many rules, which are all accepted, and with one number less.
-pub fn both_lent(width: u64, rules: [Rule; Batch::MOST], count: usize) -> Tally {
+pub fn both_lent(opening: Opening, rules: [Rule; Batch::MOST], count: usize) -> Tally {
     if Rule::LIMIT < count {
         return Tally::none();
     }
     let wanted = 3 * (4 * count + 1);
-    compared(width, rules, count, wanted, 0, count).plus(compared(
-        width,
+    compared(opening, rules, count, wanted, 0, count).plus(compared(
+        opening,
         rules,
         count,
         wanted - 1,
@@ -37,7 +40,7 @@ pub fn both_lent(width: u64, rules: [Rule; Batch::MOST], count: usize) -> Tally 
 }
 
 fn compared(
-    width: u64,
+    opening: Opening,
     rules: [Rule; Batch::MOST],
     count: usize,
     lent: usize,
@@ -48,9 +51,9 @@ fn compared(
         return Tally::none();
     }
     let mut out = [UNTOUCHED; Sheet::LENT];
-    let batch = batch::first(width, rules, count, &mut out[..lent]);
+    let batch = batch::first(opening, rules, count, &mut out[..lent]);
     let mut direct = [UNTOUCHED; Sheet::LENT];
-    let one_by_one = calls(width, rules, count, &mut direct[..lent]);
+    let one_by_one = calls(opening, rules, count, &mut direct[..lent]);
     said(batch, number, place).plus(same_answer(batch, one_by_one))
         .plus(same_numbers(&out, &direct))
 }
@@ -82,10 +85,10 @@ fn same_numbers(out: &[u64; Sheet::LENT], direct: &[u64; Sheet::LENT]) -> Tally 
     tally
 }
 
-// Wrong expectations: case 2 is answered with "many", 11 and 14, and leaves the buffer as it was.
-pub fn known() -> Tally {
+// Wrong expectations: at width 4 case 2 is answered with "many", 11 and 14, and leaves the buffer as it was.
+pub fn known(opening: Opening) -> Tally {
     let mut out = [UNTOUCHED; Sheet::LENT];
-    let batch = batch::first(4, alike(), 1, &mut out);
+    let batch = batch::first(opening, alike(), 1, &mut out);
     let reply = Reply {
         number: 9,
         kept: kept(1, 12, 13),

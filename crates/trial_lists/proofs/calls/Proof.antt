@@ -9,7 +9,7 @@ pub calls-spec : {M : Type 1} → statement M
 calls-spec =
     tie.close
     (tie.spec
-    (λ width count out rules sheet₀ i₀ sheet i. Unit)
-    (λ width count out rules sheet₀ i₀ sheet i. MOST - i)
+    (λ opening count out rules sheet₀ i₀ sheet i. Unit)
+    (λ opening count out rules sheet₀ i₀ sheet i. MOST - i)
     (search needs) (search needs) (search needs) (search needs) (search needs) (search needs) (search needs) (search needs)
     (search needs) (search needs) (search needs) (search needs) (search needs) (search needs) (search needs) (search needs))

@@ -8,6 +8,6 @@ pub rules-spec : {M : Type 1} → statement M
 rules-spec =
     tie.close
     (tie.spec
-    (λ tally₀ place₀ tally place. Unit)
-    (λ tally₀ place₀ tally place. 5 - place)
+    (λ opening tally₀ place₀ tally place. Unit)
+    (λ opening tally₀ place₀ tally place. 5 - place)
     (search needs) (search needs) (search needs) (search needs) (search needs) (search needs) (search needs) (search needs))
