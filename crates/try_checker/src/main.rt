@@ -1,12 +1,14 @@
-// Tries the check of chains: what asking writes for the sheets that try_chains tries, each chain changed in six ways at every place,
-// and lists of drawn numbers, all against a check that goes word by word.
+// Tries the check of chains: what asking writes for the sheets that try_chains tries, in both editions, each chain changed in six ways at
+// every place, and lists of drawn numbers, all against a check that goes word by word.
 //
-// The counts. sheets: single, pair, drawn and paper as in try_chains, those whose rules are accepted, by whether no word fits them.
+// The counts, of which each is even, as every list is tried on a sheet of either edition. sheets: single, pair, drawn and paper as in
+// try_chains, those whose rules are accepted, by whether no word fits them.
 // written: the chain of each that no word fits, and all get yes. raised, lowered, cut: each number of these chains raised or lowered
 // by one, and the list cut off before it. left out, doubled, moved: each link left out, doubled, and moved to the end. other: each
 // chain on the sheet without its last rule. no sheet: each chain on its sheet with another verdict kept, and all get no. fitting: a
 // drawn list on each sheet that a word fits, and all get no. known: the lists of case 8, whose chain has two links, with the wrong
-// answers expected: 1 written, 6 each raised, lowered and cut, 2 each left out, doubled and moved, 1 other and 1 on no sheet.
+// answers expected, in each edition: 1 written, 6 each raised, lowered and cut, 2 each left out, doubled and moved, 1 other and 1 on no
+// sheet.
 ghost use Prim.Native.Nat.{_≤_, _<_};
 ghost use Rattle.rule.specs.Meaning.{RULES};
 ghost use Rattle.trial_direct.specs.Trial.{Narrow, ROWS};
@@ -16,7 +18,6 @@ use trial_direct::direct;
 use trial_direct::draw;
 use trial_direct::rules;
 use trial_links::counts::Counts;
-use trial_links::tried;
 use trial_sheets::drawn;
 use word::Width;
 // How many sheets are drawn.
@@ -60,7 +61,7 @@ fn over_sheets(before: Counts, n: usize, count: u64, width: Width) -> Counts
         let mut rules = [rules::numbered(i >> bits, width); Rule::LIMIT];
         rules[0] = rules::numbered(i, width);
         let seed = draw::next(std::num::wrapping_add_u64(i, draw::SPREAD));
-        counts = tried::sheet(counts, rules, n, width, seed, false, &mut table);
+        counts = trial_checks::sheet(counts, rules, n, width, seed, false, &mut table);
     }
     counts
 }
@@ -80,7 +81,7 @@ fn drawn_sheets(before: Counts) -> Counts {
 fn drawn_sheet(counts: Counts, s: u64, table: &mut [u8; direct::TABLE]) -> Counts {
     let width = Width { bits: 1 + s % 8 };
     let n = drawn::count(s >> 8);
-    tried::sheet(
+    trial_checks::sheet(
         counts,
         drawn::rules(s, n, width),
         n,
@@ -114,7 +115,7 @@ fn at_row(counts: Counts, i: usize, wrong: bool, table: &mut [u8; direct::TABLE]
     if 8 < width.bits {
         return counts;
     }
-    tried::sheet(counts, rules, n, width, draw::SPREAD, wrong, &mut *table)
+    trial_checks::sheet(counts, rules, n, width, draw::SPREAD, wrong, &mut *table)
 }
 
 // Case 8, whose chain has two links, with the wrong answer expected of each list.

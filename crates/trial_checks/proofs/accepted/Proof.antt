@@ -3,8 +3,8 @@ use borrow.Author.Needs.{needs}
 use lib.Seq.{length-take-le}
 use mathlib.Core.Path.{sym}
 use native.Mathlib.Omega.{arith}
-use Rattle.trial_links.proofs.tried.accepted.Statement.{statement}
-use Rattle.trial_links.proofs.tried.accepted.Tie as tie
+use Rattle.trial_checks.proofs.accepted.Statement.{statement}
+use Rattle.trial_checks.proofs.accepted.Tie as tie
 
 slice-aggregate-accepts : tie.Need-slice-aggregate-accepts
 slice-aggregate-accepts c = sym (length-take-le _ _ (omega arith))

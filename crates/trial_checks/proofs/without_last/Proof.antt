@@ -2,8 +2,8 @@
 use borrow.Author.Needs.{needs}
 use borrow.Author.Tests.{not-false}
 use native.Mathlib.Omega.{arith}
-use Rattle.trial_links.proofs.tried.without_last.Statement.{statement}
-use Rattle.trial_links.proofs.tried.without_last.Tie as tie
+use Rattle.trial_checks.proofs.without_last.Statement.{statement}
+use Rattle.trial_checks.proofs.without_last.Tie as tie
 
 record-requires : tie.Need-record-requires
 record-requires c κs =

@@ -1,8 +1,8 @@
 -- `at_all_places` is safe and ends: the measure is the places left. Assumes nothing.
 use Prim.Native.Nat.{_-_}
 use borrow.Author.Needs.{needs}
-use Rattle.trial_links.proofs.tried.at_all_places.Statement.{statement}
-use Rattle.trial_links.proofs.tried.at_all_places.Tie as tie
+use Rattle.trial_checks.proofs.at_all_places.Statement.{statement}
+use Rattle.trial_checks.proofs.at_all_places.Tie as tie
 
 pub at-all-places-spec : {M : Type 1} → statement M
 at-all-places-spec =

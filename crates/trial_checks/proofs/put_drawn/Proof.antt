@@ -1,8 +1,8 @@
 -- `put_drawn` is safe and ends: the measure is the numbers left. Assumes nothing.
 use Prim.Native.Nat.{_-_}
 use borrow.Author.Needs.{needs}
-use Rattle.trial_links.proofs.tried.put_drawn.Statement.{statement}
-use Rattle.trial_links.proofs.tried.put_drawn.Tie as tie
+use Rattle.trial_checks.proofs.put_drawn.Statement.{statement}
+use Rattle.trial_checks.proofs.put_drawn.Tie as tie
 
 pub put-drawn-spec : {M : Type 1} → statement M
 put-drawn-spec =

@@ -5,11 +5,6 @@ ghost use Rattle.word.specs.Word.{IsWidth};
 ghost use Rattle.rule.specs.Meaning.{AllLawful, RULES};
 ghost use Rattle.chain.specs.Links.{mostLinks};
 ghost use Rattle.trial_direct.specs.Trial.{Narrow};
-use crate::by_words;
-use crate::changed;
-use crate::changed::ROOM;
-use crate::counts;
-use crate::counts::Counts;
 use chain::Link;
 use rule::Rule;
 use sheet::Sheet;
@@ -17,9 +12,16 @@ use trial_direct::direct;
 use trial_direct::draw;
 use trial_direct::rules;
 use trial_direct::tally::Split;
+use trial_links::by_words;
+use trial_links::changed;
+use trial_links::changed::ROOM;
+use trial_links::counts;
+use trial_links::counts::Counts;
+use word::Edition;
 use word::Width;
 
-// The lists of one sheet, or nothing where its rules are not accepted; with the right answers expected, or the wrong ones.
+// The lists of one sheet in both editions, or nothing where its rules are not accepted; with the right answers expected, or the wrong
+// ones.
 pub fn sheet(
     counts: Counts,
     rules: [Rule; Rule::LIMIT],
@@ -35,12 +37,30 @@ pub fn sheet(
     if !rules::all_lawful(rules, n, width) {
         return counts;
     }
-    let sheet = record(rules, n, width);
+    direct::fill(rules, n, width, &mut *table);
+    let old = in_edition(counts, rules, n, width, Edition::Old, seed, wrong, &*table);
+    in_edition(old, rules, n, width, Edition::New, seed, wrong, &*table)
+}
+
+// The same in one edition, where the rules are in the table.
+fn in_edition(
+    counts: Counts,
+    rules: [Rule; Rule::LIMIT],
+    n: usize,
+    width: Width,
+    edition: Edition,
+    seed: u64,
+    wrong: bool,
+    table: &[u8; direct::TABLE],
+) -> Counts
+    requires { ⌜ Narrow (width .bits) ⌝ }
+    requires { ⌜ (n ≤ RULES) × AllLawful (width .bits) (take n rules) ⌝ }
+{
+    let sheet = record(rules, n, width, edition);
     if !sheet.is_sheet() {
         return counts;
     }
-    direct::fill(rules, n, width, &mut *table);
-    lists(counts, sheet, rules, n, width, seed, wrong, &*table)
+    lists(counts, sheet, rules, n, width, seed, wrong, table)
 }
 
 // The lists of a sheet, of which the rules are in the table: a drawn one where a word fits, and else the chain.
@@ -68,7 +88,8 @@ fn lists(
         return counted.list(counts::FITTING, one);
     }
     let numbers = 3 * links;
-    let fewer = without_last(rules, n, width, table, &list, numbers, wrong);
+    let edition = sheet.edition;
+    let fewer = without_last(rules, n, width, edition, table, &list, numbers, wrong);
     let spoilt = on_no_sheet(sheet, &list, numbers, wrong);
     let others = counted
         .list(counts::OTHER, fewer)
@@ -77,22 +98,28 @@ fn lists(
 }
 
 // The record of a sheet with the first n rules, and no mark.
-fn record(rules: [Rule; Rule::LIMIT], n: usize, width: Width) -> Sheet
+fn record(rules: [Rule; Rule::LIMIT], n: usize, width: Width, edition: Edition) -> Sheet
     requires { ⌜ IsWidth (width .bits) ⌝ }
     requires { ⌜ (n ≤ RULES) × AllLawful (width .bits) (take n rules) ⌝ }
 {
     let kept = verdict::solve(rules, n, width);
-    let mut sheet = Sheet::blank();
-    let mut laid = sheet.rules;
+    let blank = Sheet::blank();
+    let marks = blank.marks;
+    let mut laid = blank.rules;
     for i in 0..n {
         laid[i] = used(rules[i]);
     }
-    sheet.width = width.bits;
-    sheet.rules = laid;
-    sheet.count = n;
-    sheet.given = n;
-    sheet.kept = kept;
-    sheet
+    Sheet {
+        width: width.bits,
+        rules: laid,
+        count: n,
+        marks,
+        marked: 0,
+        kept,
+        given: n,
+        waiting: 0,
+        edition,
+    }
 }
 
 // The rule without the constant that it does not use: forms 4, 5 and 6 use c1 only, and are accepted where c2 is 0.
@@ -130,6 +157,7 @@ fn without_last(
     rules: [Rule; Rule::LIMIT],
     n: usize,
     width: Width,
+    edition: Edition,
     table: &[u8; direct::TABLE],
     list: &[u64; ROOM],
     numbers: usize,
@@ -144,7 +172,7 @@ fn without_last(
     if !rules::all_lawful(rules, n - 1, width) {
         return Split::none();
     }
-    let sheet = record(rules, n - 1, width);
+    let sheet = record(rules, n - 1, width, edition);
     compared(
         sheet,
         table,
