@@ -1,16 +1,18 @@
-// Work to take the time of. With no argument one full sheet of the widest words is asked again and again; with the argument
+// Work to take the time of. With no argument, or with `ask`, one full sheet of 32 bits is asked again and again; with the argument
 // `batch` it is made and asked by the batch call, again and again, and with `calls` by the calls one by one; with `bits` the next
-// word that has given bits is looked for, at width 64.
+// word that has given bits is looked for, at width 64. A second argument `64` has the sheet be one of 64 bits, in the new edition.
 mod look;
 
 use batch::Batch;
+use page::Opening;
 use rule::Rule;
 use sheet::Sheet;
 use trial_calls::sheets::added;
-use trial_calls::sheets::opened;
+use trial_calls::sheets::opened_in;
 use trial_lists::calls;
 use trial_lists::parts;
-use word::Width;
+use trial_lists::parts_of;
+use word::Edition;
 
 const ASKED: u64 = 10_000;
 
@@ -26,10 +28,13 @@ enum Way {
 fn main() {
     let mut word = [0u8; 8];
     os::arg(1, &mut word);
+    let mut bits = [0u8; 8];
+    os::arg(2, &mut bits);
+    let wide = bits[0] == b'6';
     match chosen(word) {
-        Way::Ask => print(answered(Way::Ask, ASKED, full(parts()), parts())),
-        Way::Batch => print(answered(Way::Batch, MADE, full(parts()), parts())),
-        Way::Calls => print(answered(Way::Calls, MADE, full(parts()), parts())),
+        Way::Ask => print(answered(Way::Ask, ASKED, opening(wide), rules(wide))),
+        Way::Batch => print(answered(Way::Batch, MADE, opening(wide), rules(wide))),
+        Way::Calls => print(answered(Way::Calls, MADE, opening(wide), rules(wide))),
         Way::Bits => look::all(),
     }
 }
@@ -55,8 +60,31 @@ fn print(right: u64) {
     io::write_all(1, b" links\n");
 }
 
-fn full(rules: [Rule; Batch::MOST]) -> Sheet {
-    let mut sheet = opened(Width::LIMIT);
+// The widest sheet of the new edition, or of the old one.
+fn opening(wide: bool) -> Opening {
+    if wide {
+        return Opening {
+            width: 64,
+            edition: Edition::New,
+        };
+    }
+    Opening {
+        width: 32,
+        edition: Edition::Old,
+    }
+}
+
+// As many as a sheet takes, each of which fails on one part of the words.
+fn rules(wide: bool) -> [Rule; Batch::MOST] {
+    if wide {
+        return parts_of(u64::MAX);
+    }
+    parts()
+}
+
+fn full(opening: Opening, rules: [Rule; Batch::MOST]) -> Sheet {
+    let edition = opening.edition;
+    let mut sheet = opened_in(opening.width, edition);
     for i in 0..Rule::LIMIT {
         sheet = added(sheet, rules[i]);
     }
@@ -64,24 +92,25 @@ fn full(rules: [Rule; Batch::MOST]) -> Sheet {
 }
 
 // How many of the answers have a link for each part of the wheel.
-fn answered(way: Way, times: u64, sheet: Sheet, rules: [Rule; Batch::MOST]) -> u64 {
+fn answered(way: Way, times: u64, opening: Opening, rules: [Rule; Batch::MOST]) -> u64 {
+    let sheet = full(opening, rules);
     let mut right: u64 = 0;
     for i in 0..times {
-        if links(way, sheet, rules) == Rule::LIMIT {
+        if links(way, opening, sheet, rules) == Rule::LIMIT {
             right = std::num::wrapping_add_u64(right, 1);
         }
     }
     right
 }
 
-fn links(way: Way, sheet: Sheet, rules: [Rule; Batch::MOST]) -> usize {
+fn links(way: Way, opening: Opening, sheet: Sheet, rules: [Rule; Batch::MOST]) -> usize {
     let mut out = [0; Sheet::LENT];
     if let Way::Batch = way {
-        let made = batch::first(Width::LIMIT, rules, Rule::LIMIT, &mut out);
+        let made = batch::first(opening, rules, Rule::LIMIT, &mut out);
         return made.reply.links;
     }
     if let Way::Calls = way {
-        let made = calls(Width::LIMIT, rules, Rule::LIMIT, &mut out);
+        let made = calls(opening, rules, Rule::LIMIT, &mut out);
         return made.reply.links;
     }
     let reply = sheet.ask(&mut out);

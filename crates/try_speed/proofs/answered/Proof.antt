@@ -8,6 +8,6 @@ pub answered-spec : {M : Type 1} → statement M
 answered-spec =
     tie.close
     (tie.spec
-    (λ way times sheet rules right₀ i₀ right i. Unit)
-    (λ way times sheet rules right₀ i₀ right i. times - i)
-    (search needs) (search needs) (search needs) (search needs) (search needs) (search needs) (search needs))
+    (λ way times opening rules sheet right₀ i₀ right i. Unit)
+    (λ way times opening rules sheet right₀ i₀ right i. times - i)
+    (search needs) (search needs) (search needs) (search needs) (search needs) (search needs) (search needs) (search needs))
