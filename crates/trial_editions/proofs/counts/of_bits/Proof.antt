@@ -1,0 +1,15 @@
+-- `counts::of_bits` is safe and ends: the measure is the links left. Assumes nothing.
+use Prim.Native.Nat.{_+_, _*_, _-_}
+use Rattle.rule.specs.Meaning.{RULES}
+use borrow.Author.Needs.{needs}
+use Rattle.trial_editions.proofs.counts.of_bits.Statement.{statement}
+use Rattle.trial_editions.proofs.counts.of_bits.Tie as tie
+
+pub of-bits-spec : {M : Type 1} → statement M
+of-bits-spec =
+    tie.close
+    (tie.spec
+    (λ buffer links count₀ i₀ count i. Unit)
+    (λ buffer links count₀ i₀ count i. 4 * RULES + 1 - i)
+    (search needs) (search needs) (search needs) (search needs) (search needs) (search needs) (search needs) (search needs)
+    (search needs) (search needs))

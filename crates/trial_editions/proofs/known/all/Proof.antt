@@ -1,0 +1,14 @@
+-- `known::all` is safe and ends: the measure is the wrong expectations left. Assumes nothing.
+use Prim.Native.Nat.{_-_}
+use borrow.Author.Needs.{needs}
+use Rattle.trial_editions.proofs.known.all.Statement.{statement}
+use Rattle.trial_editions.proofs.known.all.Tie as tie
+
+pub all-spec : {M : Type 1} → statement M
+all-spec =
+    tie.close
+    (tie.spec
+    (λ tally₀ wrong₀ tally wrong. Unit)
+    (λ tally₀ wrong₀ tally wrong. 7 - wrong)
+    (search needs) (search needs) (search needs) (search needs) (search needs) (search needs) (search needs) (search needs)
+    (search needs) (search needs))

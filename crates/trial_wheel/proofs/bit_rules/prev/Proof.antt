@@ -1,0 +1,14 @@
+-- `bit_rules::prev` is safe and ends: the measure is the bits left. Assumes nothing.
+use Prim.Native.Nat.{_-_}
+use borrow.Author.Needs.{needs}
+use Rattle.trial_wheel.proofs.bit_rules.prev.Statement.{statement}
+use Rattle.trial_wheel.proofs.bit_rules.prev.Tie as tie
+
+pub prev-spec : {M : Type 1} → statement M
+prev-spec =
+    tie.close
+    (tie.spec
+    (λ p join x₀ k₀ x k. Unit)
+    (λ p join x₀ k₀ x k. 64 - k)
+    (search needs) (search needs) (search needs) (search needs) (search needs) (search needs) (search needs) (search needs)
+    (search needs) (search needs) (search needs) (search needs))

@@ -1,0 +1,14 @@
+-- `turns::reach` is safe and ends: the measure is the turns left. Assumes nothing.
+use Prim.Native.Nat.{_-_}
+use borrow.Author.Needs.{needs}
+use Rattle.trial_wheel.proofs.turns.reach.Statement.{statement}
+use Rattle.trial_wheel.proofs.turns.reach.Tie as tie
+
+pub reach-spec : {M : Type 1} → statement M
+reach-spec =
+    tie.close
+    (tie.spec
+    (λ wheel rule p top end₀ counter₀ end counter. Unit)
+    (λ wheel rule p top end₀ counter₀ end counter. 16 - counter)
+    (search needs) (search needs) (search needs) (search needs) (search needs) (search needs) (search needs) (search needs)
+    (search needs) (search needs) (search needs) (search needs))

@@ -1,0 +1,16 @@
+-- `search::chain` is safe and ends: the measure is the links left. Assumes nothing.
+use Prim.Native.Nat.{_+_, _*_, _-_}
+use Rattle.rule.specs.Meaning.{RULES}
+use borrow.Author.Needs.{needs}
+use Rattle.trial_wide.proofs.search.chain.Statement.{statement}
+use Rattle.trial_wide.proofs.search.chain.Tie as tie
+
+pub chain-spec : {M : Type 1} → statement M
+chain-spec =
+    tie.close
+    (tie.spec
+    (λ rules wheel out₀ top links₀ p₀ out links p. Unit)
+    (λ rules wheel out₀ top links₀ p₀ out links p. 4 * RULES + 1 - links)
+    (search needs) (search needs) (search needs) (search needs) (search needs) (search needs) (search needs) (search needs)
+    (search needs) (search needs) (search needs) (search needs) (search needs) (search needs) (search needs) (search needs)
+    (search needs) (search needs) (search needs))

@@ -1,0 +1,14 @@
+-- `search::holds` is safe and ends: the measure is the rules left. Assumes nothing.
+use Prim.Native.Nat.{_-_}
+use borrow.Author.Needs.{needs}
+use Rattle.trial_wide.proofs.search.holds.Statement.{statement}
+use Rattle.trial_wide.proofs.search.holds.Tie as tie
+
+pub holds-spec : {M : Type 1} → statement M
+holds-spec =
+    tie.close
+    (tie.spec
+    (λ wheel x rules i₀ i. Unit)
+    (λ wheel x rules i₀ i. 6 - i)
+    (search needs) (search needs) (search needs) (search needs) (search needs) (search needs) (search needs) (search needs)
+    (search needs))

@@ -1,0 +1,14 @@
+-- `search::link_at` is safe and ends: the measure is the rules left. Assumes nothing.
+use Prim.Native.Nat.{_-_}
+use borrow.Author.Needs.{needs}
+use Rattle.trial_wide.proofs.search.link_at.Statement.{statement}
+use Rattle.trial_wide.proofs.search.link_at.Tie as tie
+
+pub link-at-spec : {M : Type 1} → statement M
+link-at-spec =
+    tie.close
+    (tie.spec
+    (λ wheel p rules link₀ i₀ link i. Unit)
+    (λ wheel p rules link₀ i₀ link i. 6 - i)
+    (search needs) (search needs) (search needs) (search needs) (search needs) (search needs) (search needs) (search needs)
+    (search needs) (search needs) (search needs) (search needs))

@@ -1,0 +1,3 @@
+// What is to be answered to a sheet of few rules at any width, apart from the desk's code; and sheets that are drawn.
+pub mod search;
+pub mod sheets;

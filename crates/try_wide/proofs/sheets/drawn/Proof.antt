@@ -1,0 +1,14 @@
+-- `sheets::drawn` is safe and ends: the measure is the sheets left. Assumes nothing.
+use Prim.Native.Nat.{_-_}
+use borrow.Author.Needs.{needs}
+use Rattle.try_wide.proofs.sheets.drawn.Statement.{statement}
+use Rattle.try_wide.proofs.sheets.drawn.Tie as tie
+
+pub drawn-spec : {M : Type 1} → statement M
+drawn-spec =
+    tie.close
+    (tie.spec
+    (λ from both₀ seed₀ counter₀ both seed counter. Unit)
+    (λ from both₀ seed₀ counter₀ both seed counter. 4000 - counter)
+    (search needs) (search needs) (search needs) (search needs) (search needs) (search needs) (search needs) (search needs)
+    (search needs) (search needs) (search needs) (search needs))
