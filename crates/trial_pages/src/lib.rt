@@ -1,4 +1,3 @@
-// The clerk's page, and calls that are drawn for a sheet and a page.
+// The clerk's page.
 pub mod clerk;
-pub mod draw;
 mod lines;

@@ -13,9 +13,9 @@ use trial_calls::sheets::opened_in;
 use trial_direct::draw::next;
 use trial_direct::tally::Split;
 use trial_direct::tally::Tally;
+use trial_draws::draw;
 use trial_pages::clerk::Call;
 use trial_pages::clerk::Page;
-use trial_pages::draw;
 use word::Edition;
 
 const SEQUENCES: u64 = 100;

@@ -1,9 +1,9 @@
 // Calls drawn from a fixed seed, so that every run makes the same ones.
-use crate::clerk::Call;
 use page::Opening;
 use rule::Rule;
 use trial_calls::sheets::other;
 use trial_direct::draw::next;
+use trial_pages::clerk::Call;
 use word::Edition;
 
 // The seed of the call after: a call draws on four numbers at most.
