@@ -1,11 +1,12 @@
 // A plain Rust desk, for comparison: the same frames and answers, written as one would without proofs, with every refusal
 // tested on every line, 17 among them. `plain` answers standard input; `plain talk COMMAND FILE` holds a conversation with
-// a command, one line of the file at a time, and says how many microseconds it took. The two limits are those of the desk that
-// it is compared with: they are handed to the compiler (`compare`).
+// a command, one line of the file at a time, and says how many microseconds it took. The three limits are those of the desk
+// that it is compared with: they are handed to the compiler (`compare`).
 use std::io::{BufRead, BufReader, Read, Write};
 use std::process::{Command, Stdio};
 use std::time::Instant;
 
+const FORMS: u64 = limit(env!("FORMS")) as u64;
 const RULES: usize = limit(env!("RULES"));
 const MARKS: usize = limit(env!("MARKS"));
 // The longest frame: an add with the new edition's words.
@@ -96,7 +97,7 @@ fn top(width: u64) -> u64 {
 
 impl Rule {
     fn refused(&self, width: u64) -> u64 {
-        if self.form < 1 || self.form > 8 {
+        if self.form < 1 || self.form > FORMS {
             return 3;
         }
         if self.sense > 1 || self.sense == 1 && self.form == 7 {

@@ -6,11 +6,12 @@ use lib.Bits.{bitAnd}
 use lib.Dec.{eqb, leb, ltb}
 use Rattle.word.specs.Word.{top}
 use Rattle.rule.specs.declared.Rule.{Rule}
+use Rattle.rule.specs.Meaning.{FORMS}
 use Rattle.accept.specs.Grounds.{Ground, firstThatApplies, ground}
 
 -- "form outside 1 to 8"
 unfoldable pub badForm : Rule → Bool
-badForm r = not (leb 1 (r .form) && leb (r .form) 8)
+badForm r = not (leb 1 (r .form) && leb (r .form) FORMS)
 
 -- "sense above 1, or sense 1 with form 7"
 unfoldable pub badSense : Rule → Bool

@@ -25,7 +25,7 @@ pub fn refusal_of(rule: Rule, width: Width) -> u64
     0
 }
 
-// A form outside 1 to 8.
+// A form outside the table: 0, or past the last.
 fn bad_form(rule: Rule) -> bool
     ensures { λ r. ⌜ r ≡ badForm rule ⌝ }
 {
@@ -33,7 +33,7 @@ fn bad_form(rule: Rule) -> bool
     if form < 1 {
         return true;
     }
-    8 < form
+    Rule::FORMS < form
 }
 
 // A sense above 1, or sense 1 with form 7.

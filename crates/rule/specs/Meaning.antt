@@ -19,7 +19,7 @@ rule form sense c1 c2 = record { form = form; sense = sense; c1 = c1; c2 = c2 }
 abbrev pub settled : (w c1 c2 x : ℕ) → Bool
 settled w c1 c2 x = leb c2 (minus w x c1) && ltb (minus w x c1) (half w)
 
--- The table, a row for each form from 1 to 8: what it says of the word x. (0 is no form.)
+-- The table, a row for each form from 1 on: what it says of the word x. (0 is no form.)
 unfoldable pub rows : (w c1 c2 x : ℕ) → List Bool
 rows w c1 c2 x =
     true
@@ -77,6 +77,10 @@ pub record Lawful (w : ℕ) (r : Rule) : Type 0 where
 unfoldable pub AllLawful : ℕ → List Rule → Type 0
 AllLawful w [] = Unit {0}
 AllLawful w (r ∷ rs) = Lawful w r × AllLawful w rs
+
+-- how many forms there are: the table's rows but the first
+abbrev pub FORMS : ℕ
+FORMS = 8
 
 -- the most "rules in force" (01, raised by K6)
 abbrev pub RULES : ℕ

@@ -5,7 +5,7 @@ ghost use Rattle.word.specs.Word.{IsWidth, top};
 ghost use Rattle.rule.specs.Meaning.{meets, settled, written};
 use word::Width;
 
-// A form of 1 to 8, a sense (0 as written, 1 negated) and two constants.
+// A form, a sense (0 as written, 1 negated) and two constants.
 pub struct Rule {
     pub form: u64,
     pub sense: u64,
@@ -14,6 +14,9 @@ pub struct Rule {
 }
 
 impl Rule {
+    // The forms are the numbers from 1 to this.
+    pub const FORMS: u64 = 8;
+
     // The most rules that may be in force on a sheet.
     pub const LIMIT: usize = 200;
 

@@ -54,6 +54,7 @@ pub fn meets(rule: Rule, width: Width, x: u64) -> bool
     if rule.sense == 1 { !holds } else { holds }
 }
 
+// A number that is no form forbids nothing.
 fn written(rule: Rule, width: Width, x: u64) -> bool
     requires { ⌜ Narrow (width .bits) ⌝ }
     requires { ⌜ Lawful (width .bits) rule ⌝ }
@@ -71,7 +72,8 @@ fn written(rule: Rule, width: Width, x: u64) -> bool
         5 => signed(n, c1) <= signed(n, x),
         6 => x == c1,
         7 => x & c1 == c2,
-        _ => settled(n, c1, c2, x),
+        8 => settled(n, c1, c2, x),
+        _ => true,
     }
 }
 

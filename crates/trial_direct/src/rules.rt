@@ -10,6 +10,12 @@ use crate::direct;
 use rule::Rule;
 use word::Width;
 
+// The least number past the forms.
+pub const NO_FORM: u64 = Rule::FORMS + 1;
+
+// Each form in each of two senses.
+pub const KINDS: u64 = 2 * Rule::FORMS;
+
 pub fn rule(form: u64, sense: u64, c1: u64, c2: u64) -> Rule {
     Rule {
         form,
@@ -19,11 +25,11 @@ pub fn rule(form: u64, sense: u64, c1: u64, c2: u64) -> Rule {
     }
 }
 
-// How many numbered rules there are: eight forms in two senses, with two words.
+// How many numbered rules there are: a kind, with two words.
 pub fn count(width: Width) -> u64
     requires { ⌜ Narrow (width .bits) ⌝ }
 {
-    16 << (2 * width.bits)
+    KINDS << (2 * width.bits)
 }
 
 // The rule of a number: of those below the count, each form in each sense with each two words is the rule of one.
@@ -31,7 +37,12 @@ pub fn numbered(i: u64, width: Width) -> Rule
     requires { ⌜ Narrow (width .bits) ⌝ }
 {
     let n = direct::size(width);
-    rule(1 + i % 8, i / 8 % 2, i / 16 % n, i / 16 / n % n)
+    rule(
+        1 + i % Rule::FORMS,
+        i / Rule::FORMS % 2,
+        i / KINDS % n,
+        i / KINDS / n % n,
+    )
 }
 
 // The rule with the other sense.

@@ -6,6 +6,9 @@ use trial_direct::draw::next;
 use trial_pages::clerk::Call;
 use word::Edition;
 
+// Of so many numbers from 0 on, about half are forms.
+const ANY: u64 = 2 * Rule::FORMS;
+
 // The seed of the call after: a call draws on four numbers at most.
 pub fn further(seed: u64) -> u64 {
     next(next(next(next(seed))))
@@ -96,9 +99,9 @@ pub fn rule(seed: u64, more: u64, width: u64) -> Rule {
 
 fn form(seed: u64) -> u64 {
     if seed % 16 == 0 {
-        return seed / 16 % 16;
+        return seed / 16 % ANY;
     }
-    1 + seed / 16 % 8
+    1 + seed / 16 % Rule::FORMS
 }
 
 // Form 7 is mostly not negated.

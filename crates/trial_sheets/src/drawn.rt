@@ -43,7 +43,7 @@ fn drawn(s: u64, width: Width, x: u64) -> Rule
     requires { ⌜ x ≤ top (width .bits) ⌝ }
 {
     let size = direct::size(width);
-    let form = 1 + s % 8;
+    let form = 1 + s % Rule::FORMS;
     let c1 = (s >> 8) % size;
     let c2 = (s >> 20) % size;
     let free = s >> 60 == 0;

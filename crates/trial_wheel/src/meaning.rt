@@ -8,7 +8,7 @@ pub fn meets(wheel: Wheel, rule: Rule, x: u64) -> bool {
     if rule.sense == 1 { !holds } else { holds }
 }
 
-// Whether x meets it as written, by the table of forms.
+// Whether x meets it as written, by the table of forms. A number that is no form forbids nothing.
 fn written(wheel: Wheel, rule: Rule, x: u64) -> bool {
     let form = rule.form;
     let c1 = rule.c1;
@@ -21,7 +21,8 @@ fn written(wheel: Wheel, rule: Rule, x: u64) -> bool {
         5 => wheel.in_signed_order(c1, x),
         6 => x == c1,
         7 => x & c1 == c2,
-        _ => settled(wheel, c1, c2, x),
+        8 => settled(wheel, c1, c2, x),
+        _ => true,
     }
 }
 

@@ -36,7 +36,7 @@ pub fn drawn(seed: u64, wheel: Wheel) -> [Rule; Rule::LIMIT] {
         s = next(s);
         let c1 = word(wheel, s >> 8);
         let c2 = word(wheel, s >> 32);
-        rules[i] = taken(rule(1 + s % 8, s >> 4 & 1, c1, c2));
+        rules[i] = taken(rule(1 + s % Rule::FORMS, s >> 4 & 1, c1, c2));
     }
     rules
 }

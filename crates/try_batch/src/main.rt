@@ -10,6 +10,7 @@ mod case;
 use batch::Batch;
 use page::Opening;
 use rule::Rule;
+use trial_direct::rules::NO_FORM;
 use trial_direct::rules::rule;
 use trial_direct::tally::Tally;
 use trial_lists::alike;
@@ -89,7 +90,7 @@ fn rules(opening: Opening) -> Tally {
 // A rule that is refused with 3, one with 4, and two with 5; a stray bit of form 7, the lowest, a middle one and the top bit;
 // and a value that is its mask.
 fn each(opening: Opening, place: usize) -> Tally {
-    refused(opening, place, rule(9, 0, 0, 0), 3)
+    refused(opening, place, rule(NO_FORM, 0, 0, 0), 3)
         .plus(refused(opening, place, rule(7, 1, 0, 0), 4))
         .plus(refused(opening, place, rule(1, 0, 16, 0), 5))
         .plus(refused(opening, place, rule(6, 0, 0, 1), 5))

@@ -23,6 +23,7 @@ use trial_calls::sheets::marked;
 use trial_calls::sheets::opened;
 use trial_calls::sheets::opened_in;
 use trial_direct::direct::UNTOUCHED;
+use trial_direct::rules::NO_FORM;
 use trial_direct::rules::rule;
 use trial_direct::tally::Tally;
 use word::Edition;
@@ -79,7 +80,7 @@ fn adds(sheet: Sheet, rule: Rule) -> Answer {
 
 // At width 4.
 fn rules(sheet: Sheet) -> Tally {
-    Tally::one(refused(adds(sheet, rule(9, 0, 0, 0)), 3, sheet))
+    Tally::one(refused(adds(sheet, rule(NO_FORM, 0, 0, 0)), 3, sheet))
         .plus(Tally::one(refused(adds(sheet, rule(1, 0, 16, 0)), 5, sheet)))
         .plus(Tally::one(refused(adds(sheet, rule(1, 0, 0, 16)), 5, sheet)))
         .plus(Tally::one(accepted(adds(sheet, rule(1, 0, 15, 0)))))

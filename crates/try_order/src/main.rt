@@ -17,6 +17,7 @@ use trial_calls::sheets::full;
 use trial_calls::sheets::opened_in;
 use trial_calls::sheets::other;
 use trial_direct::direct::UNTOUCHED;
+use trial_direct::rules::NO_FORM;
 use trial_direct::rules::rule;
 use trial_direct::tally::Tally;
 use word::Edition;
@@ -67,7 +68,7 @@ fn adds_in(sheet: Sheet, edition: Edition, rule: Rule, number: u64) -> Tally {
 // 17 before 3, 4, 5, 11, 8, 9 and 12.
 fn no_sheet(sheet: Sheet, one_rule: Sheet) -> Tally {
     let edition = sheet.edition;
-    adds(sheet, rule(9, 0, 0, 0), 17).plus(adds(sheet, rule(1, 2, 0, 0), 17))
+    adds(sheet, rule(NO_FORM, 0, 0, 0), 17).plus(adds(sheet, rule(1, 2, 0, 0), 17))
         .plus(adds(sheet, rule(1, 0, 16, 0), 17))
         .plus(adds_in(sheet, other(edition), case2(), 17))
         .plus(Tally::one(refused(sheet.back(), 17, sheet)))
@@ -91,7 +92,7 @@ fn no_room(full: Sheet, all_marks: Sheet) -> Tally {
 // 1 before 11, 3, 4, 5, 8, 9 and 12. No width has a second constant in form 4, and the blank sheet is of the old edition.
 fn blank(blank: Sheet) -> Tally {
     adds_in(blank, Edition::New, case2(), 1)
-        .plus(adds(blank, rule(9, 0, 0, 0), 1))
+        .plus(adds(blank, rule(NO_FORM, 0, 0, 0), 1))
         .plus(adds(blank, rule(7, 1, 0, 0), 1))
         .plus(adds(blank, rule(4, 0, 0, 1), 1))
         .plus(Tally::one(refused(blank.back(), 1, blank)))
@@ -111,7 +112,7 @@ fn short(blank: Sheet) -> bool {
 
 // 11 before 3, 4, 5 and 6, and by itself.
 fn other_edition(sheet: Sheet, full: Sheet, edition: Edition) -> Tally {
-    adds_in(sheet, edition, rule(9, 0, 0, 0), 11)
+    adds_in(sheet, edition, rule(NO_FORM, 0, 0, 0), 11)
         .plus(adds_in(sheet, edition, rule(1, 2, 0, 0), 11))
         .plus(adds_in(sheet, edition, rule(1, 0, 16, 0), 11))
         .plus(adds_in(sheet, edition, rule(7, 0, 6, 1), 11))
@@ -121,7 +122,7 @@ fn other_edition(sheet: Sheet, full: Sheet, edition: Edition) -> Tally {
 
 // 3 before 4 and 5.
 fn form(sheet: Sheet) -> Tally {
-    adds(sheet, rule(9, 2, 0, 0), 3).plus(adds(sheet, rule(0, 0, 16, 0), 3))
+    adds(sheet, rule(NO_FORM, 2, 0, 0), 3).plus(adds(sheet, rule(0, 0, 16, 0), 3))
 }
 
 // 4 before 5.
@@ -131,7 +132,7 @@ fn sense(sheet: Sheet) -> Tally {
 
 // 3, 4 and 5 before 6.
 fn places(full: Sheet) -> Tally {
-    adds(full, rule(9, 0, 0, 0), 3).plus(adds(full, rule(1, 2, 0, 0), 4))
+    adds(full, rule(NO_FORM, 0, 0, 0), 3).plus(adds(full, rule(1, 2, 0, 0), 4))
         .plus(adds(full, rule(6, 0, 0, 1), 5))
         .plus(adds(full, rule(7, 0, 6, 1), 5))
 }
@@ -141,7 +142,7 @@ fn known() -> Tally {
     adds_in(
         opened_in(4, Edition::Old),
         Edition::New,
-        rule(9, 0, 0, 0),
+        rule(NO_FORM, 0, 0, 0),
         3,
     ).plus(adds_in(Sheet::blank(), Edition::New, case2(), 11))
 }

@@ -48,7 +48,7 @@ fn over_rules(look: Look, width: Width) -> Tally
 {
     let mut tally = Tally::none();
     let n = direct::size(width);
-    let count = 16 << (3 * width.bits);
+    let count = rules::count(width) << width.bits;
     for i in 0..count {
         let rule = rules::numbered(i / n, width);
         tally = tally.plus(at_word(look, rule, rule, width, i % n));

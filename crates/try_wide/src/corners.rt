@@ -1,18 +1,19 @@
 // Rules whose constants are corners, and sheets whose rules part the words among them, by number.
 use rule::Rule;
+use trial_direct::rules;
 use trial_direct::rules::rule;
 use trial_wheel::bit_rules::FEW;
 use trial_wheel::wheel::Wheel;
 use trial_wide::sheets;
 
-// How many numbers there are for rules with corners: eight forms in two senses, with two of six words.
-pub const CORNERS: u64 = 576;
+// How many numbers there are for rules with corners: each form in two senses, with two of six words.
+pub const CORNERS: u64 = 36 * rules::KINDS;
 
 // The rule of a number.
 pub fn cornered(wheel: Wheel, i: u64) -> Rule {
-    let c1 = wheel.corner(i / 16 % 6);
-    let c2 = wheel.corner(i / 96 % 6);
-    rule(1 + i % 8, i / 8 % 2, c1, c2)
+    let c1 = wheel.corner(i / rules::KINDS % 6);
+    let c2 = wheel.corner(i / rules::KINDS / 6 % 6);
+    rule(1 + i % Rule::FORMS, i / Rule::FORMS % 2, c1, c2)
 }
 
 // Whether it is a rule that a sheet takes, and none that another number has too.
