@@ -17,7 +17,7 @@ use Rattle.word.proofs.Sums.{minus-cases, minus-word, plus-word}
 use Rattle.word.proofs.Widths.{halves, half-pos}
 use Rattle.rule.specs.declared.Rule.{Rule}
 use Rattle.rule.specs.Meaning.{Lawful, ends, meets, reach, rows, runs, start, written}
-use Rattle.rule.proofs.Forms.{by-form}
+use Rattle.rule.proofs.Forms.{by-form, end, row}
 use Rattle.rule.proofs.Ends.{ends-below}
 use Rattle.rule.proofs.Rows.{at-row, past-rows}
 use Rattle.band.specs.declared.Band.{Band}
@@ -86,15 +86,14 @@ module _ (w : ℕ) (width : 1 ≤ w) (r : Rule) (lawful : Lawful w r) where
       let m = minus-word w in
       let h : half w ≤ top w = omega (arith, halves w width, half-pos w) in
       let t : 0 ≤ top w = omega arith in
-      by-form (λ (n : ℕ). r .form ≡ n → Words w (writtenBand w r)) (at 0 (t, le-refl (top w)))
-      (at 1 (m _ _, m _ _))
-      (at 2 (m _ _, m _ _))
-      (at 3 (m _ _, m _ _))
-      (at 4 (h, c))
-      (at 5 (c, omega arith))
-      (at 6 (c, c))
-      (at 7 (t, le-refl (top w)))
-      (at 8 (settled-words (leb (half w) (r .c2))))
+      by-form (λ (n : ℕ). r .form ≡ n → Words w (writtenBand w r))
+      (row (at 0 (t, le-refl (top w)))
+      (row (at 1 (m _ _, m _ _))
+      (row (at 2 (m _ _, m _ _))
+      (row (at 3 (m _ _, m _ _))
+      (row (at 4 (h, c))
+      (row (at 5 (c, omega arith))
+      (row (at 6 (c, c)) (row (at 7 (t, le-refl (top w))) (row (at 8 (settled-words (leb (half w) (r .c2)))) end)))))))))
       (λ n k e. subst (Words w) (sym (past-bands w r (rw e k))) (t, le-refl (top w))) (r .form) refl
     where
       settled-words : (t : Bool) → Words w (cond t (wheel (top w) true) (span (plus w (r .c1) (r .c2)) (plus w (r .c1) (half w - 1))))
@@ -112,7 +111,7 @@ module _ (w : ℕ) (width : 1 ≤ w) (r : Rule) (lawful : Lawful w r) where
     -- one row: what the form says is what its band says
     by-row : (k : ℕ) → getD (rows w (r .c1) (r .c2) x) k true ≡ holds (getD (writtenBands w (r .c1) (r .c2)) k (span 0 (top w))) x
         → r .form ≡ k → written w r x ≡ holds (writtenBand w r) x
-    by-row k row e = at-row w r x k e ∙ row ∙ ap (λ (b : Band). holds b x) (sym (at-band w r k e))
+    by-row k same e = at-row w r x k e ∙ same ∙ ap (λ (b : Band). holds b x) (sym (at-band w r k e))
 
     -- a word meets the rule as written exactly when it is on the holding side of its band as written
     pub written-law : (r .form ≡ 7 → ⊥) → written w r x ≡ holds (writtenBand w r) x
@@ -121,15 +120,13 @@ module _ (w : ℕ) (width : 1 ≤ w) (r : Rule) (lawful : Lawful w r) where
         let c = lawful .c1-word in
         let c′ = lawful .c2-word in
         by-form (λ (n : ℕ). r .form ≡ n → written w r x ≡ holds (writtenBand w r) x)
-        (by-row 0 (sym all-words))
-        (by-row 1 (form1 w width _ _ x c c′ word))
-        (by-row 2 (form2 w width _ _ x c c′ word))
-        (by-row 3 (form3 w width _ _ x c c′ word))
-        (by-row 4 (form4 w width _ _ x c c′ word))
-        (by-row 5 (form5 w width _ _ x c c′ word))
-        (by-row 6 (form6 w width _ _ x c c′ word))
-        (λ e. absurd (d e))
-        (by-row 8 (form8 w width _ _ x c c′ word))
+        (row (by-row 0 (sym all-words))
+        (row (by-row 1 (form1 w width _ _ x c c′ word))
+        (row (by-row 2 (form2 w width _ _ x c c′ word))
+        (row (by-row 3 (form3 w width _ _ x c c′ word))
+        (row (by-row 4 (form4 w width _ _ x c c′ word))
+        (row (by-row 5 (form5 w width _ _ x c c′ word))
+        (row (by-row 6 (form6 w width _ _ x c c′ word)) (row (λ e. absurd (d e)) (row (by-row 8 (form8 w width _ _ x c c′ word)) end)))))))))
         (λ n h e. past-rows w r x (rw e h) ∙ sym (ap (λ (b : Band). holds b x) (past-bands w r (rw e h)) ∙ all-words)) (r .form) refl
 
     -- the sense turns the side

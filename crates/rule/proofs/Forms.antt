@@ -1,16 +1,23 @@
--- A fact of every number, shown form by form: of 0, of the eight forms, and of what is past them. Assumes nothing.
-use Prim.Native.Nat.{ℕ, zero, suc, _≤_}
+-- A fact of every number, shown form by form: of 0 and of each form by a list of proofs, a row each, and of what is past them by one.
+-- Assumes nothing.
+use mathlib.Core.Path.{_≡_, sym, subst}
+use Prim.Native.Nat.{ℕ, suc, _≤_}
+use native.Mathlib.Decide.{ℕ-discrete}
 use native.Mathlib.Omega.{arith}
+use Rattle.rule.specs.Meaning.{FORMS}
 
-pub by-form : (P : ℕ → Type 0) → P 0 → P 1 → P 2 → P 3 → P 4 → P 5 → P 6 → P 7 → P 8 → ((n : ℕ) → 9 ≤ n → P n) → (n : ℕ) → P n
-by-form P p0 p1 p2 p3 p4 p5 p6 p7 p8 p zero = p0
-by-form P p0 p1 p2 p3 p4 p5 p6 p7 p8 p (suc zero) = p1
-by-form P p0 p1 p2 p3 p4 p5 p6 p7 p8 p (suc (suc zero)) = p2
-by-form P p0 p1 p2 p3 p4 p5 p6 p7 p8 p (suc (suc (suc zero))) = p3
-by-form P p0 p1 p2 p3 p4 p5 p6 p7 p8 p (suc (suc (suc (suc zero)))) = p4
-by-form P p0 p1 p2 p3 p4 p5 p6 p7 p8 p (suc (suc (suc (suc (suc zero))))) = p5
-by-form P p0 p1 p2 p3 p4 p5 p6 p7 p8 p (suc (suc (suc (suc (suc (suc zero)))))) = p6
-by-form P p0 p1 p2 p3 p4 p5 p6 p7 p8 p (suc (suc (suc (suc (suc (suc (suc zero))))))) = p7
-by-form P p0 p1 p2 p3 p4 p5 p6 p7 p8 p (suc (suc (suc (suc (suc (suc (suc (suc zero)))))))) = p8
-by-form P p0 p1 p2 p3 p4 p5 p6 p7 p8 p (suc (suc (suc (suc (suc (suc (suc (suc (suc n))))))))) =
-    p (suc (suc (suc (suc (suc (suc (suc (suc (suc n))))))))) (omega arith)
+-- a proof for each number from a up to below b
+pub data Rows (P : ℕ → Type 0) (b : ℕ) : ℕ → Type 0 where
+  end : Rows P b b
+  row : {a : ℕ} → P a → Rows P b (suc a) → Rows P b a
+
+from-rows : (P : ℕ → Type 0) (b : ℕ) {a : ℕ} → Rows P b a → ((n : ℕ) → b ≤ n → P n) → (n : ℕ) → a ≤ n → P n
+from-rows P b end past n h = past n h
+from-rows P b (row {a} p rows) past n h = go (ℕ-discrete n a) (from-rows P b rows past n)
+  where
+    go : Dec (n ≡ a) → (suc a ≤ n → P n) → P n
+    go (yes e) later = subst P (sym e) p
+    go (no d) later = later (omega arith)
+
+pub by-form : (P : ℕ → Type 0) → Rows P (suc FORMS) 0 → ((n : ℕ) → suc FORMS ≤ n → P n) → (n : ℕ) → P n
+by-form P rows past n = from-rows P (suc FORMS) rows past n (omega arith)

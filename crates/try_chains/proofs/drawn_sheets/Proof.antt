@@ -1,14 +1,18 @@
 -- `drawn_sheets` is safe and ends: the measure is the sheets left. Assumes nothing.
-use Prim.Native.Nat.{_-_}
+use Prim.Native.Nat.{ℕ, _-_}
 use borrow.Author.Needs.{needs}
 use Rattle.try_chains.proofs.drawn_sheets.Statement.{statement}
 use Rattle.try_chains.proofs.drawn_sheets.Tie as tie
+
+-- how many sheets are drawn
+abbrev SHEETS : ℕ
+SHEETS = 20000
 
 pub drawn-sheets-spec : {M : Type 1} → statement M
 drawn-sheets-spec =
     tie.close
     (tie.spec
     (λ split₀ seed₀ table₀ counter₀ split seed table counter. Unit)
-    (λ split₀ seed₀ table₀ counter₀ split seed table counter. 20000 - counter)
+    (λ split₀ seed₀ table₀ counter₀ split seed table counter. SHEETS - counter)
     (search needs) (search needs) (search needs) (search needs) (search needs) (search needs) (search needs) (search needs)
     (search needs) (search needs) (search needs))

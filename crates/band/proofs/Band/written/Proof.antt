@@ -5,6 +5,7 @@ use native.Mathlib.Omega.{arith}
 use borrow.Author.Needs.{needs}
 use Rattle.word.specs.Word.{minus, top}
 use Rattle.word.proofs.Widths.{half-pos}
+use Rattle.rule.proofs.Forms.{end, row}
 use Rattle.band.specs.Band.{span, writtenBands}
 use Rattle.band.proofs.Laying.{at-band, no-band}
 use Rattle.band.proofs.Band.written.Statement.{statement}
@@ -110,12 +111,19 @@ unfolding writtenBands
 returns-7 c = c .settled .ensures ∙ sym (at-band _ _ 8 (c .before .match .keys7))
 
 returns-8 : tie.Need-returns-8
+unfolding writtenBands
 returns-8 c =
     let d = c .before .match .rest in
     c .span7 .ensures
     ∙ ap₂ span refl (c .before .before .top .ensures)
     ∙ sym
-    (no-band _ _ (d .0 .0 .0 .0 .0 .0 .1) (d .0 .0 .0 .0 .0 .1) (d .0 .0 .0 .0 .1) (d .0 .0 .0 .1) (d .0 .0 .1) (d .0 .1) (d .1))
+    (no-band _ _
+    (row (λ e. absurd (d .0 .0 .0 .0 .0 .0 .1 e))
+    (row (λ e. absurd (d .0 .0 .0 .0 .0 .1 e))
+    (row (λ e. absurd (d .0 .0 .0 .0 .1 e))
+    (row (λ e. absurd (d .0 .0 .0 .1 e))
+    (row (λ e. absurd (d .0 .0 .1 e))
+    (row (λ e. absurd (d .0 .1 e)) (row (at-band _ _ 7) (row (λ e. absurd (d .1 e)) end)))))))))
 
 pub written-spec : {M : Type 1} → statement M
 written-spec =

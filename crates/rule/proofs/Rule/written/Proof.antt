@@ -7,6 +7,7 @@ use lib.Signed.{leZ}
 use mir.Syntax.{w64}
 use mir.ValLaws.{toZ-ofZ}
 use Rattle.rule.specs.Meaning.{rows}
+use Rattle.rule.proofs.Forms.{end, row}
 use Rattle.rule.proofs.Rows.{at-row, no-row}
 use Rattle.rule.proofs.Rule.written.Statement.{statement}
 use Rattle.rule.proofs.Rule.written.Tie as tie
@@ -84,8 +85,11 @@ returns-9 : tie.Need-returns-9
 returns-9 c =
     let d = c .match .rest in
     sym
-    (no-row _ _ _ (d .0 .0 .0 .0 .0 .0 .0 .1) (d .0 .0 .0 .0 .0 .0 .1) (d .0 .0 .0 .0 .0 .1) (d .0 .0 .0 .0 .1)
-    (d .0 .0 .0 .1) (d .0 .0 .1) (d .0 .1) (d .1))
+    (no-row _ _ _
+    (row (d .0 .0 .0 .0 .0 .0 .0 .1)
+    (row (d .0 .0 .0 .0 .0 .0 .1)
+    (row (d .0 .0 .0 .0 .0 .1)
+    (row (d .0 .0 .0 .0 .1) (row (d .0 .0 .0 .1) (row (d .0 .0 .1) (row (d .0 .1) (row (d .1) end)))))))))
 
 pub written-spec : {M : Type 1} → statement M
 written-spec =

@@ -1,5 +1,6 @@
 -- `turns::reach` is safe and ends: the measure is the turns left. Assumes nothing.
 use Prim.Native.Nat.{_-_}
+use Rattle.trial_wheel.specs.Limits.{TURNS}
 use borrow.Author.Needs.{needs}
 use Rattle.trial_wheel.proofs.turns.reach.Statement.{statement}
 use Rattle.trial_wheel.proofs.turns.reach.Tie as tie
@@ -9,6 +10,6 @@ reach-spec =
     tie.close
     (tie.spec
     (λ wheel rule p top end₀ counter₀ end counter. Unit)
-    (λ wheel rule p top end₀ counter₀ end counter. 16 - counter)
+    (λ wheel rule p top end₀ counter₀ end counter. TURNS - counter)
     (search needs) (search needs) (search needs) (search needs) (search needs) (search needs) (search needs) (search needs)
     (search needs) (search needs) (search needs) (search needs))

@@ -1,5 +1,6 @@
 -- `sheets::drawn` is safe and ends: the measure is the rules left. Assumes nothing.
 use Prim.Native.Nat.{_-_}
+use Rattle.trial_wheel.specs.Limits.{FEW}
 use borrow.Author.Needs.{needs}
 use Rattle.trial_wide.proofs.sheets.drawn.Statement.{statement}
 use Rattle.trial_wide.proofs.sheets.drawn.Tie as tie
@@ -9,6 +10,6 @@ drawn-spec =
     tie.close
     (tie.spec
     (λ seed wheel rules₀ s₀ i₀ rules s i. Unit)
-    (λ seed wheel rules₀ s₀ i₀ rules s i. 6 - i)
+    (λ seed wheel rules₀ s₀ i₀ rules s i. FEW - i)
     (search needs) (search needs) (search needs) (search needs) (search needs) (search needs) (search needs) (search needs)
     (search needs) (search needs) (search needs) (search needs) (search needs) (search needs))

@@ -1,5 +1,6 @@
 -- `sheets::few` is safe and ends: the measure is the places left. Assumes nothing.
 use Prim.Native.Nat.{_-_}
+use Rattle.trial_wheel.specs.Limits.{FEW}
 use borrow.Author.Needs.{needs}
 use Rattle.trial_wide.proofs.sheets.few.Statement.{statement}
 use Rattle.trial_wide.proofs.sheets.few.Tie as tie
@@ -9,6 +10,6 @@ few-spec =
     tie.close
     (tie.spec
     (λ n rules few₀ i₀ few i. Unit)
-    (λ n rules few₀ i₀ few i. 6 - i)
+    (λ n rules few₀ i₀ few i. FEW - i)
     (search needs) (search needs) (search needs) (search needs) (search needs) (search needs) (search needs) (search needs)
     (search needs) (search needs))

@@ -1,5 +1,6 @@
 -- `sheets::alone` is safe and ends: the measure is the rules left. Assumes nothing.
 use Prim.Native.Nat.{_-_}
+use Rattle.try_wide.proofs.Counts.{CORNERS}
 use borrow.Author.Needs.{needs}
 use Rattle.try_wide.proofs.sheets.alone.Statement.{statement}
 use Rattle.try_wide.proofs.sheets.alone.Tie as tie
@@ -9,5 +10,5 @@ alone-spec =
     tie.close
     (tie.spec
     (λ bits both₀ i₀ both i. Unit)
-    (λ bits both₀ i₀ both i. 576 - i)
+    (λ bits both₀ i₀ both i. CORNERS - i)
     (search needs) (search needs) (search needs) (search needs) (search needs) (search needs) (search needs) (search needs))

@@ -1,5 +1,6 @@
 -- `sheets::drawn` is safe and ends: the measure is the sheets left. Assumes nothing.
 use Prim.Native.Nat.{_-_}
+use Rattle.try_wide.proofs.Counts.{SHEETS}
 use borrow.Author.Needs.{needs}
 use Rattle.try_wide.proofs.sheets.drawn.Statement.{statement}
 use Rattle.try_wide.proofs.sheets.drawn.Tie as tie
@@ -9,6 +10,6 @@ drawn-spec =
     tie.close
     (tie.spec
     (λ from both₀ seed₀ counter₀ both seed counter. Unit)
-    (λ from both₀ seed₀ counter₀ both seed counter. 4000 - counter)
+    (λ from both₀ seed₀ counter₀ both seed counter. SHEETS - counter)
     (search needs) (search needs) (search needs) (search needs) (search needs) (search needs) (search needs) (search needs)
     (search needs) (search needs) (search needs) (search needs))
