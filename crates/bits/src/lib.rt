@@ -1,11 +1,9 @@
 // The bits that rules of form 7 fix, and the words that have them.
 ghost use mathlib.Core.Path.{_≡_};
 ghost use Prim.Native.Nat.{suc, _-_, _≤_};
-ghost use lib.ListN.{take};
-ghost use Rattle.rule.specs.Meaning.{RULES};
 ghost use Rattle.word.specs.Word.{IsWidth, top};
-ghost use Rattle.word.specs.Search.{first, last};
-ghost use Rattle.bits.specs.Fixed.{hasBits, joined, fixedBits, Tidy, Within, turnedBits};
+ghost use Rattle.word.specs.Search.{first};
+ghost use Rattle.bits.specs.Fixed.{hasBits, joined, Tidy, turnedBits};
 use rule::Rule;
 use word::Found;
 use word::Width;
@@ -17,18 +15,6 @@ pub enum Fixed {
 }
 
 impl Fixed {
-    // The bits that the first n of the rules fix.
-    pub fn of(rules: [Rule; Rule::LIMIT], n: usize) -> Fixed
-        requires { ⌜ n ≤ RULES ⌝ }
-        ensures { λ r. ⌜ r ≡ fixedBits (take n rules) ⌝ }
-    {
-        let mut fixed = Fixed::Bits { mask: 0, value: 0 };
-        for i in 0..n {
-            fixed = fixed.with(rules[i]);
-        }
-        fixed
-    }
-
     // These bits and, where the rule is of form 7, those that it fixes too.
     pub fn with(self, rule: Rule) -> Fixed
         ensures { λ r. ⌜ r ≡ joined self rule ⌝ }
@@ -98,19 +84,5 @@ impl Fixed {
             },
             Fixed::Clash => Fixed::Clash,
         }
-    }
-
-    // The largest word at or below p that has the bits: the next one on the wheel turned round.
-    pub fn prev(self, width: Width, p: u64) -> Found
-        requires { ⌜ IsWidth (width .bits) ⌝ }
-        requires { ⌜ p ≤ top (width .bits) ⌝ }
-        requires { ⌜ Tidy self × Within (width .bits) self ⌝ }
-        ensures { λ r. ⌜ r ≡ last (hasBits self) (suc p) ⌝ }
-    {
-        let top = width.top();
-        let Found::At(x) = self.turned().next(width, top - p) else {
-            return Found::Nothing;
-        };
-        Found::At(top - x)
     }
 }

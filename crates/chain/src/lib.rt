@@ -1,19 +1,14 @@
 // The chain of links from zero to the top word that shows why no word fits.
 ghost use mathlib.Core.Path.{_≡_};
-ghost use mathlib.Core.List.{_++_};
-ghost use Prim.Native.Nat.{_*_, _≤_};
-ghost use lib.ListN.{drop, length, take};
-ghost use Rattle.word.specs.Word.{IsWidth};
-ghost use Rattle.rule.specs.Meaning.{AllLawful, RULES};
-ghost use Rattle.verdict.specs.Kept.{kept};
-ghost use Rattle.chain.specs.Links.{chainRoom, numbersOf, links};
-use bits::Fixed;
-use rule::Rule;
-use word::Width;
+ghost use Prim.Native.Nat.{_≤_};
+ghost use Rattle.rule.specs.Meaning.{RULES};
+ghost use Rattle.chain.specs.Links.{chainRoom};
 
 pub mod laid;
 mod reach;
 mod step;
+
+use rule::Rule;
 
 // The furthest that a rule outside form 7 reaches from a word that fails it, and that rule's number.
 pub enum Far {
@@ -50,21 +45,4 @@ pub fn room(n: usize) -> usize
     ensures { λ r. ⌜ r ≡ chainRoom n ⌝ }
 {
     Link::NUMBERS * (Link::PER_RULE * n + 1)
-}
-
-// Writes the chain of the first n rules, which no word fits, three numbers a link, and says how many links it has.
-pub fn write(rules: [Rule; Rule::LIMIT], n: usize, width: Width, out: &mut [u64]) -> usize
-    requires { ⌜ IsWidth (width .bits) ⌝ }
-    requires { ⌜ (n ≤ RULES) × AllLawful (width .bits) (take n rules) ⌝ }
-    requires { ⌜ kept (width .bits) (take n rules) .verdict ≡ 0 ⌝ }
-    requires { ⌜ chainRoom n ≤ length (now out) ⌝ }
-    ensures { λ r. ⌜ r ≡ length (links (width .bits) (take n rules)) ⌝ }
-    ensures { λ r. ⌜ now (out .exit) ≡ numbersOf (links (width .bits) (take n rules)) ++ drop (3 * r) (now (out .entry)) ⌝ }
-{
-    let mut from = [0; Rule::LIMIT];
-    let mut to = [0; Rule::LIMIT];
-    let mut side = [false; Rule::LIMIT];
-    verdict::bands::lay(rules, n, width, &mut from, &mut to, &mut side);
-    let fixed = Fixed::of(rules, n);
-    laid::write(&from, &to, &side, n, fixed, width, &mut *out)
 }

@@ -1,7 +1,10 @@
 // Masks and values, each mask with each value that lies in it, against a search that goes one word at a time.
 ghost use Prim.Native.Nat.{_≤_, _<_};
 ghost use Rattle.word.specs.Word.{IsWidth};
+use crate::called;
 use bits::Fixed;
+use rule::Rule;
+use trial_direct::rules::rule;
 use trial_direct::tally::Tally;
 use word::Found;
 use word::Width;
@@ -47,7 +50,7 @@ fn over_numbers(way: Way, width: Width) -> Tally
 }
 
 // One answer compared, or none where it may not be looked for: a value has no bit outside its mask, p is a word, and looked
-// for downwards so is the mask.
+// for downwards, by calls, so is the mask.
 pub fn compared(way: Way, width: Width, sought: Sought, expected: Found) -> Tally
     requires { ⌜ IsWidth (width .bits) ⌝ }
 {
@@ -68,7 +71,8 @@ pub fn compared(way: Way, width: Width, sought: Sought, expected: Found) -> Tall
     if top < mask {
         return Tally::none();
     }
-    Tally::one(same(fixed.prev(width, p), expected))
+    let rules = [rule(7, 0, mask, value); Rule::LIMIT];
+    Tally::one(called::at_most(rules, 1, width, p, expected))
 }
 
 // Whether two searches found the same.

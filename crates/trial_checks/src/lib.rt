@@ -1,8 +1,6 @@
 // One sheet: its chain, the chain changed, or a drawn list where a word fits, each list checked both ways.
 ghost use Prim.Native.Nat.{_≤_};
-ghost use lib.ListN.{take};
-ghost use Rattle.word.specs.Word.{IsWidth};
-ghost use Rattle.rule.specs.Meaning.{AllLawful, RULES};
+ghost use Rattle.rule.specs.Meaning.{RULES};
 ghost use Rattle.chain.specs.Links.{mostLinks};
 ghost use Rattle.trial_direct.specs.Trial.{Narrow};
 use chain::Link;
@@ -12,11 +10,14 @@ use trial_direct::direct;
 use trial_direct::draw;
 use trial_direct::rules;
 use trial_direct::tally::Split;
+use trial_editions::asked;
 use trial_links::by_words;
 use trial_links::changed;
 use trial_links::changed::ROOM;
 use trial_links::counts;
 use trial_links::counts::Counts;
+use trial_sheets::expected::NUMBERS;
+use trial_sheets::walk;
 use word::Edition;
 use word::Width;
 
@@ -54,9 +55,9 @@ fn in_edition(
     table: &[u8; direct::TABLE],
 ) -> Counts
     requires { ⌜ Narrow (width .bits) ⌝ }
-    requires { ⌜ (n ≤ RULES) × AllLawful (width .bits) (take n rules) ⌝ }
+    requires { ⌜ n ≤ RULES ⌝ }
 {
-    let sheet = record(rules, n, width, edition);
+    let sheet = record(rules, n, width, edition, table);
     if !sheet.is_sheet() {
         return counts;
     }
@@ -79,7 +80,7 @@ fn lists(
 {
     let mut list = [0; ROOM];
     let size = direct::size(width);
-    let links = asked(sheet, &mut list);
+    let links = written(sheet, &mut list);
     let counted = counts.sheet(links);
     if links == 0 {
         put_drawn(seed, n as u64, size, &mut list);
@@ -97,39 +98,20 @@ fn lists(
     at_all_places(others, sheet, table, n, width, &list, numbers as u64, wrong)
 }
 
-// The record of a sheet with the first n rules, and no mark.
-fn record(rules: [Rule; Rule::LIMIT], n: usize, width: Width, edition: Edition) -> Sheet
-    requires { ⌜ IsWidth (width .bits) ⌝ }
-    requires { ⌜ (n ≤ RULES) × AllLawful (width .bits) (take n rules) ⌝ }
+// The record of a sheet with the first n rules. What is kept of them is what the walk over all words finds.
+fn record(
+    rules: [Rule; Rule::LIMIT],
+    n: usize,
+    width: Width,
+    edition: Edition,
+    table: &[u8; direct::TABLE],
+) -> Sheet
+    requires { ⌜ Narrow (width .bits) ⌝ }
+    requires { ⌜ n ≤ RULES ⌝ }
 {
-    let kept = verdict::solve(rules, n, width);
-    let blank = Sheet::blank();
-    let marks = blank.marks;
-    let mut laid = blank.rules;
-    for i in 0..n {
-        laid[i] = used(rules[i]);
-    }
-    Sheet {
-        width: width.bits,
-        rules: laid,
-        count: n,
-        marks,
-        marked: 0,
-        kept,
-        given: n,
-        waiting: 0,
-        edition,
-    }
-}
-
-// The rule without the constant that it does not use: forms 4, 5 and 6 use c1 only, and are accepted where c2 is 0.
-fn used(rule: Rule) -> Rule {
-    let mut used = rule;
-    match rule.form {
-        4..=6 => used.c2 = 0,
-        _ => (),
-    }
-    used
+    let mut buffer = [0; NUMBERS];
+    let kept = walk::walked(table, n, direct::size(width) as usize, &mut buffer);
+    asked::record(edition, width.bits, rules, n, kept)
 }
 
 // The chain on the record with another verdict kept, which is no sheet's.
@@ -142,7 +124,7 @@ fn on_no_sheet(sheet: Sheet, list: &[u64; ROOM], numbers: usize, wrong: bool) ->
 }
 
 // The links that asking writes, or none where there are more than a chain has.
-fn asked(sheet: Sheet, list: &mut [u64; ROOM]) -> usize
+fn written(sheet: Sheet, list: &mut [u64; ROOM]) -> usize
     ensures { λ r. ⌜ r ≤ mostLinks RULES ⌝ }
 {
     let reply = sheet.ask(&mut *list);
@@ -169,10 +151,7 @@ fn without_last(
     if n == 0 {
         return Split::none();
     }
-    if !rules::all_lawful(rules, n - 1, width) {
-        return Split::none();
-    }
-    let sheet = record(rules, n - 1, width, edition);
+    let sheet = record(rules, n - 1, width, edition, table);
     compared(
         sheet,
         table,

@@ -50,6 +50,23 @@ pub fn negated(rule: Rule) -> Rule {
     crate::rules::rule(rule.form, rule.sense ^ 1, rule.c1, rule.c2)
 }
 
+// The rule without the constant that it does not use: forms 4, 5 and 6 use c1 only, and are accepted where c2 is 0.
+pub fn used(some: Rule) -> Rule {
+    let form = some.form;
+    match form {
+        4..=6 => rule(form, some.sense, some.c1, 0),
+        _ => some,
+    }
+}
+
+// Whether a bit rule's value has a bit outside its mask: no word meets it, and a sheet refuses it.
+pub fn strays(rule: Rule) -> bool {
+    if rule.form == 7 {
+        return rule.c2 & rule.c1 != rule.c2;
+    }
+    false
+}
+
 // Whether the leaves take the rule: its constants are words, and a bit rule is not negated.
 pub fn lawful(rule: Rule, width: Width) -> bool
     requires { ⌜ IsWidth (width .bits) ⌝ }

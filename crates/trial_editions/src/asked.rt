@@ -8,10 +8,12 @@ use rule::Rule;
 use sheet::Answer;
 use sheet::Reply;
 use sheet::Sheet;
+use trial_direct::rules;
 use trial_direct::tally::Tally;
 use trial_sheets::expected;
 use trial_sheets::expected::Expected;
 use trial_sheets::expected::NUMBERS;
+use verdict::Kept;
 use word::Edition;
 
 // What a lent number is before the call. The top word of 64 bits would not do: a chain has it.
@@ -103,6 +105,44 @@ fn added(answer: Answer, edition: Edition, rule: Rule) -> Answer {
     }
     let sheet = answer.sheet;
     sheet.add(edition, rule)
+}
+
+// The record of a sheet with the first n rules, each without the constant that it does not use, and no mark, of which so much is kept.
+pub fn record(
+    edition: Edition,
+    bits: u64,
+    rules: [Rule; Rule::LIMIT],
+    n: usize,
+    kept: Expected,
+) -> Sheet
+    requires { ⌜ n ≤ RULES ⌝ }
+{
+    let blank = Sheet::blank();
+    let marks = blank.marks;
+    let mut laid = blank.rules;
+    for i in 0..n {
+        laid[i] = rules::used(rules[i]);
+    }
+    Sheet {
+        width: bits,
+        rules: laid,
+        count: n,
+        marks,
+        marked: 0,
+        kept: Kept {
+            verdict: kept.verdict,
+            smallest: kept.smallest,
+            largest: kept.largest,
+        },
+        given: n,
+        waiting: 0,
+        edition,
+    }
+}
+
+// What a record answers when it is asked.
+pub fn told(sheet: Sheet, out: &mut [u64; NUMBERS]) -> Expected {
+    said(sheet.ask(&mut *out))
 }
 
 // What the reply says. A refusal says what is never expected.

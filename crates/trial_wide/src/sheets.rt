@@ -1,6 +1,7 @@
 // Sheets of few rules, as they are walked over from turn to turn, and sheets that are drawn.
 use rule::Rule;
 use trial_direct::draw::next;
+use trial_direct::rules;
 use trial_direct::rules::rule;
 use trial_wheel::bit_rules::FEW;
 use trial_wheel::wheel::Wheel;
@@ -10,11 +11,10 @@ use trial_wheel::wheel::Wheel;
 pub fn taken(some: Rule) -> Rule {
     let form = some.form;
     let c1 = some.c1;
-    match form {
-        4..=6 => rule(form, some.sense, c1, 0),
-        7 => rule(form, 0, c1, c1 & some.c2),
-        _ => some,
+    if form == 7 {
+        return rule(form, 0, c1, c1 & some.c2);
     }
+    rules::used(some)
 }
 
 // The first n rules. In the places after them stands a rule that every word meets.

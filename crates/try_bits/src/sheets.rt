@@ -1,11 +1,11 @@
 // The bits that form 7 rules fix, at every constant of the widths 1 to 4, against a plain search for a word that meets them.
 ghost use Prim.Native.Nat.{_≤_};
-ghost use Rattle.word.specs.Word.{top};
-ghost use Rattle.rule.specs.Meaning.{RULES};
-ghost use Rattle.bits.specs.Fixed.{Tidy, Within};
 ghost use Rattle.trial_direct.specs.Trial.{Narrow};
 use bits::Fixed;
 use rule::Rule;
+use trial_bits::called;
+use trial_bits::masks;
+use trial_bits::masks::Sought;
 use trial_bits::masks::Way;
 use trial_bits::masks::same;
 use trial_direct::direct;
@@ -50,50 +50,78 @@ fn bit_rule(i: u64, width: Width) -> Rule
     rules::rule(7, 0, i % n, i / n % n)
 }
 
-// The words found by the bits that the first k rules fix, which may clash. Rules that are not lawful differ.
+// The words found by the bits that the first k rules fix, which may clash. Looked for downwards, by calls, are only bits of rules that
+// a sheet takes. Rules that are not lawful differ.
 fn over_words(way: Way, rules: [Rule; Rule::LIMIT], k: usize, width: Width) -> Tally
     requires { ⌜ Narrow (width .bits) ⌝ }
-    requires { ⌜ k ≤ RULES ⌝ }
+    requires { ⌜ k ≤ 2 ⌝ }
 {
     if !rules::all_lawful(rules, k, width) {
         return Tally::one(false);
     }
-    let fixed = Fixed::of(rules, k);
     let mut table = [0; direct::TABLE];
     direct::fill(rules, k, width, &mut table);
-    let mut tally = Tally::none();
+    match way {
+        Way::Next => upwards(rules, k, width, &table),
+        Way::Prev => if taken(rules) {
+            downwards(rules, k, width, &table)
+        } else {
+            Tally::none()
+        },
+    }
+}
+
+// Whether neither of the first two rules has a bit that a sheet refuses.
+fn taken(rules: [Rule; Rule::LIMIT]) -> bool {
+    if rules::strays(rules[0]) {
+        return false;
+    }
+    !rules::strays(rules[1])
+}
+
+// From each word the next one that has the bits. (Of one rule, the second fixes none.)
+fn upwards(rules: [Rule; Rule::LIMIT], k: usize, width: Width, table: &[u8; direct::TABLE]) -> Tally
+    requires { ⌜ Narrow (width .bits) ⌝ }
+    requires { ⌜ k ≤ 2 ⌝ }
+{
+    let none = Fixed::Bits { mask: 0, value: 0 };
+    let fixed = none.with(rules[0]).with(rules[1]);
     let n = direct::size(width);
+    let mut tally = Tally::none();
     for p in 0..n {
-        tally = tally.plus(Tally::one(same_bits(way, fixed, &table, k, width, p)));
+        let walked = below(direct::up(table, 0, k, n as usize, p as usize), n as usize);
+        tally = tally.plus(next(fixed, width, p, walked));
     }
     tally
 }
 
-// Whether the word found from p is the one that a walk finds.
-fn same_bits(
-    way: Way,
-    fixed: Fixed,
-    table: &[u8; direct::TABLE],
+// One answer compared. Where rules clash, no word has their bits.
+fn next(fixed: Fixed, width: Width, p: u64, expected: Found) -> Tally
+    requires { ⌜ Narrow (width .bits) ⌝ }
+{
+    let Fixed::Bits { mask, value } = fixed else {
+        return Tally::one(same(Found::Nothing, expected));
+    };
+    masks::compared(Way::Next, width, Sought { mask, value, p }, expected)
+}
+
+// From each word the last one that has them, by calls.
+fn downwards(
+    rules: [Rule; Rule::LIMIT],
     k: usize,
     width: Width,
-    p: u64,
-) -> bool
+    table: &[u8; direct::TABLE],
+) -> Tally
     requires { ⌜ Narrow (width .bits) ⌝ }
-    requires { ⌜ k ≤ RULES ⌝ }
-    requires { ⌜ Tidy fixed × Within (width .bits) fixed ⌝ }
-    requires { ⌜ p ≤ top (width .bits) ⌝ }
+    requires { ⌜ k ≤ 2 ⌝ }
 {
-    let n = direct::size(width) as usize;
-    match way {
-        Way::Next => same(
-            fixed.next(width, p),
-            below(direct::up(&*table, 0, k, n, p as usize), n),
-        ),
-        Way::Prev => same(
-            fixed.prev(width, p),
-            one_below(direct::down(&*table, 0, k, p as usize)),
-        ),
+    let n = direct::size(width);
+    let mut tally = Tally::none();
+    for p in 0..n {
+        let walked = one_below(direct::down(table, 0, k, p as usize));
+        tally = tally.plus(Tally::one(called::at_most(rules, k, width, p, walked)));
     }
+    tally
 }
 
 // Where a walk up stopped, or none where that is at the end.

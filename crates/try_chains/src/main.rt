@@ -1,14 +1,15 @@
-// Tries the verdict and the chain on many sheets, against a plain search over all words, and on the paper's values.
+// Tries the verdict and the chain on many sheets, against a plain search over all words, and on the paper's values. A record with the
+// rules and with what is expected of them is asked: where other words fit it is no sheet, and asking is refused.
 //
-// The counts: at a width of N words there are 15 N^2 rules, as form 7 has one sense, so single has 15 (4 + 16 + 64 + 256)
-// = 5100 sheets, and pair has 60^2 + 240^2 = 61200. drawn has as many as its loop makes, 20000. paper has the cases 1 to
-// 12, of which 1 and 3 stand twice, and case 3 negated at width 32: 15, and by the paper 4 none, 3 one and 8 many. known has
-// six wrong expectations: of the verdict, its two words, the number of links, a number of a link, and one after the links.
+// The counts: at a width of N = 2^w words there are 14 N^2 rules outside form 7, and of form 7, which has one sense, 3^w that a sheet
+// takes, since each bit of the mask is free, 0 or 1. So single has 14 (4 + 16 + 64 + 256) + 3 + 9 + 27 + 81 = 4880 sheets, and pair
+// has (56 + 3)^2 + (224 + 9)^2 = 57770. (Forms 4, 5 and 6 do not use c2, so that their rules come N times each.) drawn has as many as
+// its loop makes, 20000. paper has the cases 1 to 12, of which 1 and 3 stand twice, and case 3 negated at width 32: 15, and by the
+// paper 4 none, 3 one and 8 many. known has six wrong expectations: of the verdict, its two words, the number of links, a number of a
+// link, and one after the links.
 
 ghost use Prim.Native.Nat.{_≤_, _<_};
-ghost use lib.ListN.{take};
-ghost use Rattle.word.specs.Word.{IsWidth};
-ghost use Rattle.rule.specs.Meaning.{AllLawful, RULES};
+ghost use Rattle.rule.specs.Meaning.{RULES};
 ghost use Rattle.trial_direct.specs.Trial.{Narrow, ROWS};
 use rule::Rule;
 use trial_direct::cases;
@@ -17,11 +18,13 @@ use trial_direct::direct::UNTOUCHED;
 use trial_direct::draw;
 use trial_direct::rules;
 use trial_direct::tally::Split;
+use trial_editions::asked;
 use trial_sheets::drawn;
 use trial_sheets::expected;
 use trial_sheets::expected::Expected;
 use trial_sheets::expected::NUMBERS;
 use trial_sheets::walk;
+use word::Edition;
 use word::Width;
 
 // How many sheets are drawn.
@@ -40,7 +43,7 @@ fn single() -> Split {
     let mut split = Split::none();
     for bits in 1..5 {
         let width = Width { bits };
-        split = split.plus(over_sheets(1, rules::count(width), width));
+        split = split.plus(over_firsts(1, rules::numbered(0, width), width));
     }
     split
 }
@@ -49,26 +52,48 @@ fn single() -> Split {
 fn pairs() -> Split {
     let mut split = Split::none();
     for bits in 1..3 {
-        let width = Width { bits };
-        split = split.plus(over_sheets(2, 1 << (4 * bits + 8), width));
+        split = split.plus(over_seconds(Width { bits }));
     }
     split
 }
 
-// The sheets of n rules, one or two, whose numbers are below the count: a number has that of each rule.
-fn over_sheets(n: usize, count: u64, width: Width) -> Split
+// Every two rules of a width.
+fn over_seconds(width: Width) -> Split
+    requires { ⌜ Narrow (width .bits) ⌝ }
+{
+    let mut split = Split::none();
+    let count = rules::count(width);
+    for i in 0..count {
+        split = split.plus(over_firsts(2, rules::numbered(i, width), width));
+    }
+    split
+}
+
+// The sheets of n rules, one or two, with any rule first and the second as given. Left out are those with a bit rule that a sheet
+// refuses.
+fn over_firsts(n: usize, second: Rule, width: Width) -> Split
     requires { ⌜ Narrow (width .bits) ⌝ }
     requires { ⌜ n ≤ RULES ⌝ }
 {
     let mut split = Split::none();
-    let bits = 2 * width.bits + 4;
     let mut table = [0; direct::TABLE];
+    let count = rules::count(width);
     for i in 0..count {
-        let mut rules = [rules::numbered(i >> bits, width); Rule::LIMIT];
+        let mut rules = [second; Rule::LIMIT];
         rules[0] = rules::numbered(i, width);
-        split = split.plus(sheet(rules, n, width, &mut table));
+        if taken(rules) {
+            split = split.plus(sheet(rules, n, width, &mut table));
+        }
     }
     split
+}
+
+// Whether neither of the first two rules has a bit that a sheet refuses.
+fn taken(rules: [Rule; Rule::LIMIT]) -> bool {
+    if rules::strays(rules[0]) {
+        return false;
+    }
+    !rules::strays(rules[1])
 }
 
 // Sheets drawn by a fixed rule, of the widths 1 to 8.
@@ -107,8 +132,8 @@ fn known() -> Split {
     split
 }
 
-// The desk's answer compared with the paper's, or nothing where a rule is not lawful. A number of what is expected is made
-// wrong: of what is said, of a link (5) or after the links (6), or none (0).
+// The desk's answer compared with the paper's. A number of what is expected is made wrong: of what is said, of a link (5) or after
+// the links (6), or none (0).
 fn at_row(i: usize, wrong: u64) -> Split
     requires { ⌜ i < ROWS ⌝ }
 {
@@ -123,15 +148,6 @@ fn at_row(i: usize, wrong: u64) -> Split
     }
     if wrong == 6 {
         buffer[NUMBERS - 1] = 0;
-    }
-    if width.bits == 0 {
-        return Split::none();
-    }
-    if Width::LIMIT < width.bits {
-        return Split::none();
-    }
-    if !rules::all_lawful(rules, n, width) {
-        return Split::none();
     }
     compared(rules, n, width, spoilt(expected, wrong), &buffer)
 }
@@ -168,7 +184,7 @@ fn sheet(
     compared(rules, n, width, walked, &buffer)
 }
 
-// The desk's answer compared with the one expected, in every number of the buffer and in the bound on the links too.
+// The answer of a record that keeps what is expected compared with that, in every number of the buffer and in the bound on the links too.
 fn compared(
     rules: [Rule; Rule::LIMIT],
     n: usize,
@@ -176,36 +192,14 @@ fn compared(
     expected: Expected,
     buffer: &[u64; NUMBERS],
 ) -> Split
-    requires { ⌜ IsWidth (width .bits) ⌝ }
-    requires { ⌜ (n ≤ RULES) × AllLawful (width .bits) (take n rules) ⌝ }
+    requires { ⌜ n ≤ RULES ⌝ }
 {
     let mut numbers = [UNTOUCHED; NUMBERS];
-    let answer = tried(rules, n, width, &mut numbers);
-    let mut same = expected::same_numbers(&numbers, &*buffer);
-    if !answer.same(expected) {
-        same = false;
-    }
+    let sheet = asked::record(Edition::Old, width.bits, rules, n, expected);
+    let answer = asked::told(sheet, &mut numbers);
+    let mut same = asked::same(answer, &numbers, expected, buffer);
     if 4 * n + 1 < answer.links {
         same = false;
     }
     Split::one(expected.verdict, same)
-}
-
-// The desk's answer.
-fn tried(rules: [Rule; Rule::LIMIT], n: usize, width: Width, out: &mut [u64; NUMBERS]) -> Expected
-    requires { ⌜ IsWidth (width .bits) ⌝ }
-    requires { ⌜ (n ≤ RULES) × AllLawful (width .bits) (take n rules) ⌝ }
-{
-    let kept = verdict::solve(rules, n, width);
-    let links = if kept.verdict == 0 {
-        chain::write(rules, n, width, &mut *out)
-    } else {
-        0
-    };
-    Expected {
-        verdict: kept.verdict,
-        smallest: kept.smallest,
-        largest: kept.largest,
-        links,
-    }
 }

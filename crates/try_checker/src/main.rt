@@ -34,7 +34,7 @@ fn single(before: Counts) -> Counts {
     let mut counts = before;
     for bits in 1..5 {
         let width = Width { bits };
-        counts = over_sheets(counts, 1, rules::count(width), width);
+        counts = over_firsts(counts, 1, rules::numbered(0, width), width, draw::SPREAD);
     }
     counts
 }
@@ -43,24 +43,36 @@ fn single(before: Counts) -> Counts {
 fn pairs(before: Counts) -> Counts {
     let mut counts = before;
     for bits in 1..3 {
-        let width = Width { bits };
-        counts = over_sheets(counts, 2, 1 << (4 * bits + 8), width);
+        counts = over_seconds(counts, Width { bits });
     }
     counts
 }
 
-// The sheets of n rules, one or two, whose numbers are below the count: a number has that of each rule.
-fn over_sheets(before: Counts, n: usize, count: u64, width: Width) -> Counts
+// Every two rules of a width.
+fn over_seconds(before: Counts, width: Width) -> Counts
+    requires { ⌜ Narrow (width .bits) ⌝ }
+{
+    let mut counts = before;
+    let count = rules::count(width);
+    for i in 0..count {
+        let seed = draw::next(std::num::wrapping_add_u64(i, draw::SPREAD));
+        counts = over_firsts(counts, 2, rules::numbered(i, width), width, seed);
+    }
+    counts
+}
+
+// The sheets of n rules, one or two, with any rule first and the second as given.
+fn over_firsts(before: Counts, n: usize, second: Rule, width: Width, from: u64) -> Counts
     requires { ⌜ Narrow (width .bits) ⌝ }
     requires { ⌜ n ≤ RULES ⌝ }
 {
     let mut counts = before;
-    let bits = 2 * width.bits + 4;
     let mut table = [0; direct::TABLE];
+    let count = rules::count(width);
     for i in 0..count {
-        let mut rules = [rules::numbered(i >> bits, width); Rule::LIMIT];
+        let mut rules = [second; Rule::LIMIT];
         rules[0] = rules::numbered(i, width);
-        let seed = draw::next(std::num::wrapping_add_u64(i, draw::SPREAD));
+        let seed = draw::next(std::num::wrapping_add_u64(i, from));
         counts = trial_checks::sheet(counts, rules, n, width, seed, false, &mut table);
     }
     counts

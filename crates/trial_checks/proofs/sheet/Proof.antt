@@ -11,24 +11,10 @@ fill-requires c κs =
     let s = a .before .before in
     (s .pre .0, (s .pre .1, a .before .all-lawful .ensures (not-false _ (a .if1 .left))))
 
-in-edition-requires : tie.Need-in-edition-requires
-in-edition-requires c κs =
-    let a = c .before .before .before in
-    let s = a .before .before in
-    (s .pre .0, (s .pre .1, a .before .all-lawful .ensures (not-false _ (a .if1 .left))))
-
-in-edition-requires-2 : tie.Need-in-edition-requires-2
-in-edition-requires-2 c κs =
-    let a = c .before .before .before .before .before in
-    let s = a .before .before in
-    (s .pre .0, (s .pre .1, a .before .all-lawful .ensures (not-false _ (a .if1 .left))))
-
 pub sheet-spec : {M : Type 1} → statement M
 sheet-spec =
     tie.close
     (tie.spec
     (search needs) (search needs)
     fill-requires
-    in-edition-requires
-    in-edition-requires-2
-    (search needs))
+    (search needs) (search needs) (search needs))

@@ -10,5 +10,4 @@ pairs-spec =
     (tie.spec
     (λ split₀ bits₀ split bits. 1 ≤ bits)
     (λ split₀ bits₀ split bits. 3 - bits)
-    (search needs) (search needs) (search needs) (search needs) (search needs) (search needs) (search needs) (search needs)
-    (search needs) (search needs) (search needs))
+    (search needs) (search needs) (search needs) (search needs) (search needs) (search needs) (search needs) (search needs))

@@ -1,5 +1,4 @@
 -- `sheet` is safe: only lawful rules are compared. Assumes nothing.
-use native.Mathlib.Omega.{arith}
 use borrow.Author.Tests.{not-false}
 use borrow.Author.Needs.{needs}
 use Rattle.try_chains.proofs.sheet.Statement.{statement}
@@ -10,18 +9,10 @@ fill-requires c κs =
     let a = c .before .before in
     (a .before .pre .0, (a .before .pre .1, a .all-lawful .ensures (not-false _ (c .before .if1 .left))))
 
-compared-requires : tie.Need-compared-requires
-compared-requires c κs =
-    let e = c .before .before .before .before .before .before .before in
-    let p = e .before .before .pre in
-    (record { low = p .0 .low; high = omega arith }, (p .1, e .before .all-lawful .ensures (not-false _ (e .if1 .left))))
-
 pub sheet-spec : {M : Type 1} → statement M
 sheet-spec =
     tie.close
     (tie.spec
     (search needs) (search needs) (search needs)
     fill-requires
-    (search needs) (search needs)
-    compared-requires
-    (search needs))
+    (search needs) (search needs) (search needs) (search needs))

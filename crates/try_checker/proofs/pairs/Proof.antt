@@ -10,5 +10,4 @@ pairs-spec =
     (tie.spec
     (λ counts₀ bits₀ counts bits. 1 ≤ bits)
     (λ counts₀ bits₀ counts bits. 3 - bits)
-    (search needs) (search needs) (search needs) (search needs) (search needs) (search needs) (search needs) (search needs)
-    (search needs))
+    (search needs) (search needs) (search needs) (search needs) (search needs) (search needs))

@@ -1,0 +1,14 @@
+-- `upwards` is safe and ends: the measure is the words left. Assumes nothing.
+use Prim.Native.Nat.{_-_}
+use borrow.Author.Needs.{needs}
+use Rattle.try_bits.proofs.sheets.upwards.Statement.{statement}
+use Rattle.try_bits.proofs.sheets.upwards.Tie as tie
+
+pub upwards-spec : {M : Type 1} → statement M
+upwards-spec =
+    tie.close
+    (tie.spec
+    (λ k width table fixed n tally₀ p₀ tally p. Unit)
+    (λ k width table fixed n tally₀ p₀ tally p. n - p)
+    (search needs) (search needs) (search needs) (search needs) (search needs) (search needs) (search needs) (search needs)
+    (search needs) (search needs) (search needs) (search needs) (search needs) (search needs) (search needs))
