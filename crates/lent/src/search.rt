@@ -7,7 +7,7 @@ ghost use Rattle.word.specs.Search.{first};
 ghost use Rattle.bits.specs.Fixed.{Tidy};
 ghost use Rattle.lent.specs.Bands.{passes};
 ghost use Rattle.lent.specs.Lent.{Lie, allSeen, zipped};
-use crate::places;
+use crate::band_places;
 use bits::Fixed;
 use rule::Rule;
 use word::Found;
@@ -47,7 +47,7 @@ pub fn sweep(
                 p = x;
                 break;
             }
-            let band = places::band_at(from, to, side, i, turned, top);
+            let band = band_places::band_at(from, to, side, i, turned, top);
             if !band.holds(p) {
                 let reach = band.run(top, p).to;
                 if reach == top {

@@ -1,8 +1,8 @@
 -- `lay` meets its contract: three stores are one in the list of bands. Assumes nothing.
 use borrow.Author.Needs.{needs}
 use Rattle.lent.proofs.Zipped.{zipped-set}
-use Rattle.lent.proofs.places.lay.Statement.{statement}
-use Rattle.lent.proofs.places.lay.Tie as tie
+use Rattle.lent.proofs.band_places.lay.Statement.{statement}
+use Rattle.lent.proofs.band_places.lay.Tie as tie
 
 mul-from : tie.Need-mul-from
 mul-from c = search needs

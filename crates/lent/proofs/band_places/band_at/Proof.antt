@@ -7,8 +7,8 @@ use Rattle.band.specs.Band.{Laid, turnedBand}
 use Rattle.lent.specs.Bands.{blankBand}
 use Rattle.lent.specs.Lent.{band, zipped}
 use Rattle.lent.proofs.Zipped.{seen-plain, seen-turned, zipped-at}
-use Rattle.lent.proofs.places.band_at.Statement.{statement}
-use Rattle.lent.proofs.places.band_at.Tie as tie
+use Rattle.lent.proofs.band_places.band_at.Statement.{statement}
+use Rattle.lent.proofs.band_places.band_at.Tie as tie
 
 -- what the three values come to
 read : (s : tie.Start) → getD (zipped (s .args .from .now) (s .args .to .now) (s .args .side .now)) (s .args .i) blankBand
