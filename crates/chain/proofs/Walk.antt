@@ -13,11 +13,11 @@ use Rattle.rule.specs.declared.Rule.{Rule}
 use Rattle.rule.specs.Meaning.{AllLawful, fits}
 use Rattle.band.specs.declared.Band.{Band}
 use Rattle.bits.specs.declared.Fixed.{Fixed}
+use Rattle.lent.specs.OfRules.{OfLawful}
 use Rattle.verdict.specs.Kept.{kept}
 use Rattle.verdict.proofs.Right.{kept-right}
 use Rattle.chain.specs.declared.Link.{Link}
 use Rattle.chain.specs.Links.{goOn, numbersOf, linkAt, links, linksFrom}
-use Rattle.chain.specs.OfRules.{OfRules}
 use Rattle.chain.specs.OnBands.{linkOn}
 use Rattle.chain.proofs.Bound.{chain-bound}
 use Rattle.chain.proofs.Lists.{Next, next-of, paste-on}
@@ -34,10 +34,10 @@ none-fits w rs e x h = go (fits w rs x) refl
     go false d = refl
 
 -- a step over the bands and the bits of rules is the paper's
-pub own-link : (bands : List Band) (fixed : Fixed) (w : ℕ) (rs : List Rule) → 1 ≤ w → OfRules w bands fixed rs → (p : ℕ) → p ≤ top w
+pub own-link : (bands : List Band) (fixed : Fixed) (w : ℕ) (rs : List Rule) → 1 ≤ w → OfLawful w bands fixed rs → (p : ℕ) → p ≤ top w
     → linkOn bands fixed (top w) p ≡ linkAt w rs p
 own-link bands fixed w rs width h p word =
-    ap₂ (λ (bs : List Band) (f : Fixed). linkOn bs f (top w) p) (h .own) (h .bits) ∙ link-law w width p word rs (h .lawful)
+    ap₂ (λ (bs : List Band) (f : Fixed). linkOn bs f (top w) p) (h .1 .own) (h .1 .bits) ∙ link-law w width p word rs (h .0)
 
 -- so many links are written, and the next is the one at p
 pub record Walked (w : ℕ) (rs : List Rule) (out₀ out : List ℕ) (count p : ℕ) : Type 0 where

@@ -6,8 +6,9 @@ ghost use lib.ListN.{drop, length, take};
 ghost use Rattle.word.specs.Word.{IsWidth, top};
 ghost use Rattle.rule.specs.declared.Rule.{Rule as RuleOf};
 ghost use Rattle.lent.specs.Lent.{Lie, zipped};
+ghost use Rattle.lent.specs.OfRules.{OfLawful};
+ghost use Rattle.verdict.specs.Kept.{kept};
 ghost use Rattle.chain.specs.Links.{chainRoom, links, numbersOf};
-ghost use Rattle.chain.specs.OfRules.{OfRules};
 use crate::Link;
 use crate::step;
 use bits::Fixed;
@@ -26,9 +27,9 @@ pub fn write(
 ) -> usize
     requires { ⌜ IsWidth (width .bits) ⌝ }
     requires { ⌜ Lie (top (width .bits)) n (zipped (now from) (now to) (now side)) ⌝ }
-    requires { ⌜ ((rs : List RuleOf) × OfRules (width .bits) (take n (zipped (now from) (now to) (now side))) fixed rs) ⌝ }
+    requires { ⌜ ((rs : List RuleOf) × OfLawful (width .bits) (take n (zipped (now from) (now to) (now side))) fixed rs × (kept (width .bits) rs .verdict ≡ 0)) ⌝ }
     requires { ⌜ chainRoom n ≤ length (now out) ⌝ }
-    ensures { λ r. ⌜ ((rs : List RuleOf) → OfRules (width .bits) (take n (zipped (now (from .entry)) (now (to .entry)) (now (side .entry)))) fixed rs → (r ≡ length (links (width .bits) rs)) × (now (out .exit) ≡ numbersOf (links (width .bits) rs) ++ drop (3 * r) (now (out .entry)))) ⌝ }
+    ensures { λ r. ⌜ ((rs : List RuleOf) → OfLawful (width .bits) (take n (zipped (now (from .entry)) (now (to .entry)) (now (side .entry)))) fixed rs → kept (width .bits) rs .verdict ≡ 0 → (r ≡ length (links (width .bits) rs)) × (now (out .exit) ≡ numbersOf (links (width .bits) rs) ++ drop (3 * r) (now (out .entry)))) ⌝ }
 {
     let top = width.top();
     let mut count = 0;

@@ -24,13 +24,13 @@ use Rattle.sheet.proofs.Holding.{packed-told}
 use Rattle.sheet.proofs.Stands.{has-page, has-width, known, rules-lawful, width-of}
 use Rattle.sheet.proofs.Tested.{passes-sheet}
 use Rattle.lent.specs.Lent.{Lie, zipped}
+use Rattle.lent.specs.OfRules.{OfLawful}
 use Rattle.places.specs.Places.{rulesIn}
 use Rattle.lent_head.specs.declared.Head.{Head}
 use Rattle.lent_head.specs.Held.{Held}
 use Rattle.sheet.specs.Held.{packed}
 use Rattle.checker.specs.Accepted.{Accepted}
 use Rattle.checker.specs.Check.{accepts, linksIn, shown, shownBy}
-use Rattle.checker.specs.Route.{OfRules}
 use Rattle.checker.proofs.Exactly.{accepted-yes, yes-accepted}
 
 -- what the call promises of its answer
@@ -79,12 +79,11 @@ module _ {h : Head} {rules marks from to : List ℕ} {side : List Bool} (held : 
     unfolding packed
     width-so = width-of standing
 
-    pub own-rules : OfRules (h .width) (take (h .count) (zipped from to side)) (h .fixed) own
+    pub own-rules : OfLawful (h .width) (take (h .count) (zipped from to side)) (h .fixed) own
     unfolding packed
     own-rules =
         let d = held .drawn e z in
-        let first = first-drawn (d .own) (h .count) (known standing .given-low) (d .bits) in
-        record { lawful = rules-lawful standing; own = first .own; bits = first .bits }
+        (rules-lawful standing, first-drawn (h .width) (h .given) (rulesIn rules) (zipped from to side) (d .own) (h .count) (known standing .given-low) (d .bits))
 
     pub lie-so : Lie (top (h .width)) (h .count) (zipped from to side)
     unfolding packed
@@ -93,11 +92,11 @@ module _ {h : Head} {rules marks from to : List ℕ} {side : List Bool} (held : 
         record {
           places = held .room .band-places;
           count = omega (arith, known standing .count, reached-lawful (standing .reached) .rules-fit);
-          laid = subst (AllLaid (top (h .width))) (sym (o .own)) (bands-laid (h .width) (width-so .low) own (o .lawful));
+          laid = subst (AllLaid (top (h .width))) (sym (o .1 .own)) (bands-laid (h .width) (width-so .low) own (o .0));
         }
 
     pub tidy-so : Tidy (h .fixed)
-    tidy-so = subst Tidy (sym (own-rules .bits)) (fixed-tidy own)
+    tidy-so = subst Tidy (sym (own-rules .1 .bits)) (fixed-tidy own)
 
     pub shown-so : (ns : List ℕ) → shownBy (h .width) own ns ≡ accepts s ns
     unfolding accepts packed

@@ -11,8 +11,9 @@ ghost use Rattle.band.specs.Band.{Laid, holds};
 ghost use Rattle.bits.specs.Fixed.{Tidy, hasBits};
 ghost use Rattle.chain.specs.Links.{link};
 ghost use Rattle.lent.specs.Lent.{Lie, zipped};
+ghost use Rattle.lent.specs.OfRules.{OfLawful};
 ghost use Rattle.checker.specs.Check.{everyWord, rightReason};
-ghost use Rattle.checker.specs.Route.{OfRules, covered};
+ghost use Rattle.checker.specs.Route.{covered};
 use band::Band;
 use bits::Fixed;
 use chain::Link;
@@ -73,7 +74,7 @@ pub fn shows(
     requires { ⌜ IsWidth (width .bits) ⌝ }
     requires { ⌜ Lie (top (width .bits)) n (zipped (now from) (now to) (now side)) ⌝ }
     requires { ⌜ Tidy fixed × (first ≤ last) × (last ≤ top (width .bits)) ⌝ }
-    ensures { λ r. ⌜ ((rs : List RuleOf) → OfRules (width .bits) (take n (zipped (now (from .entry)) (now (to .entry)) (now (side .entry)))) fixed rs → r ≡ rightReason (width .bits) rs (link first last reason)) ⌝ }
+    ensures { λ r. ⌜ ((rs : List RuleOf) → OfLawful (width .bits) (take n (zipped (now (from .entry)) (now (to .entry)) (now (side .entry)))) fixed rs → r ≡ rightReason (width .bits) rs (link first last reason)) ⌝ }
 {
     if reason < n as u64 {
         let top = width.top();

@@ -6,8 +6,8 @@ ghost use Rattle.word.specs.Word.{IsWidth, top};
 ghost use Rattle.rule.specs.declared.Rule.{Rule as RuleOf};
 ghost use Rattle.bits.specs.Fixed.{Tidy};
 ghost use Rattle.lent.specs.Lent.{Lie, zipped};
+ghost use Rattle.lent.specs.OfRules.{OfLawful};
 ghost use Rattle.checker.specs.Check.{shownBy};
-ghost use Rattle.checker.specs.Route.{OfRules};
 use crate::link;
 use bits::Fixed;
 use chain::Link;
@@ -28,7 +28,7 @@ pub fn covers(
     requires { ⌜ IsWidth (width .bits) ⌝ }
     requires { ⌜ Lie (top (width .bits)) n (zipped (now from) (now to) (now side)) ⌝ }
     requires { ⌜ Tidy fixed ⌝ }
-    ensures { λ r. ⌜ ((rs : List RuleOf) → OfRules (width .bits) (take n (zipped (now (from .entry)) (now (to .entry)) (now (side .entry)))) fixed rs → r ≡ shownBy (width .bits) rs (now (links .entry))) ⌝ }
+    ensures { λ r. ⌜ ((rs : List RuleOf) → OfLawful (width .bits) (take n (zipped (now (from .entry)) (now (to .entry)) (now (side .entry)))) fixed rs → r ≡ shownBy (width .bits) rs (now (links .entry))) ⌝ }
 {
     let top = width.top();
     let mut end = 0;

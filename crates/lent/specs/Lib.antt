@@ -1,2 +1,3 @@
 pub mod Bands
 pub mod Lent
+pub mod OfRules

@@ -33,7 +33,7 @@ module _ {h : Head} {rules marks from to : List ℕ} {side : List Bool} (held : 
 
   module _ (fixed : Fixed) (bits : fixed ≡ fixedBits (take n (rulesIn rules))) where
     pub moved-drawn : Drawn w n n (rulesIn rules) (zipped from to side) fixed
-    moved-drawn = first-drawn (all-drawn held e .own) n low bits
+    moved-drawn = first-drawn w (h .given) (rulesIn rules) (zipped from to side) (all-drawn held e .own) n low bits
 
     pub moved-swept : Swept w n from to side fixed
     moved-swept = swept w n from to side fixed (rulesIn rules) (width-so held e .low) moved-few (held .room .band-places) moved-lawful moved-drawn

@@ -64,9 +64,9 @@ take-map f (suc n) [] = refl
 take-map f (suc n) (x ∷ l) = ap (λ (m : List _). f x ∷ m) (take-map f n l)
 
 -- the first n bands are those of the first n rules
-pub first-drawn : {w given : ℕ} {rs : List Rule} {bands : List Band} → take given bands ≡ map (bandOf w) (take given rs)
+pub first-drawn : (w given : ℕ) (rs : List Rule) (bands : List Band) → take given bands ≡ map (bandOf w) (take given rs)
     → (n : ℕ) → n ≤ given → {f : Fixed} → f ≡ fixedBits (take n rs) → Drawn w n n rs bands f
-first-drawn {w} {given} {rs} {bands} own n low bits =
+first-drawn w given rs bands own n low bits =
     record {
       own = sym (take-take n given bands low) ∙ ap (take n) own ∙ take-map (bandOf w) n (take given rs) ∙ ap (map (bandOf w)) (take-take n given rs low);
       bits = bits;
@@ -121,7 +121,7 @@ module _ {h : Head} {rules marks from to : List ℕ} {side : List Bool} (held : 
   all-drawn = held .drawn stands-true open-sheet
 
   pub drawn-so : Drawn (h .width) (h .count) (h .count) rs (zipped from to side) (h .fixed)
-  drawn-so = first-drawn (all-drawn .own) (h .count) low-so (all-drawn .bits)
+  drawn-so = first-drawn (h .width) (h .given) rs (zipped from to side) (all-drawn .own) (h .count) low-so (all-drawn .bits)
 
   -- what is kept bounds what is kept with rules more
   pub bounds-so : (n : ℕ) (qs us : List Rule) (bands : List Band) (fixed : Fixed) → take n qs ≡ take (h .count) rs ++ us

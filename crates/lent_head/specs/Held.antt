@@ -2,17 +2,16 @@
 -- call must answer is said of the record that they stand for, where that record stands.
 use mathlib.Core.Path.{_≡_}
 use mathlib.Core.Bool.{Bool, true}
-use mathlib.Core.List.{List, map}
+use mathlib.Core.List.{List}
 use Prim.Native.Nat.{ℕ, _+_, _-_, _≤_}
 use lib.ListN.{drop, length, replicate, take}
 use Rattle.rule.specs.declared.Rule.{Rule}
 use Rattle.rule.specs.Meaning.{RULES}
 use Rattle.band.specs.declared.Band.{Band}
-use Rattle.band.specs.Band.{bandOf}
 use Rattle.bits.specs.declared.Fixed.{Fixed}
-use Rattle.bits.specs.Fixed.{fixedBits}
 use Rattle.page.specs.Page.{MARKS}
 use Rattle.lent.specs.Lent.{zipped}
+use Rattle.lent.specs.OfRules.{OfRules}
 use Rattle.places.specs.Places.{noRule, rulesIn}
 use Rattle.lent_head.specs.declared.Head.{Head}
 use Rattle.lent_head.specs.Shape.{standsSo}
@@ -24,9 +23,8 @@ pub record Room (rules marks from to : List ℕ) (side : List Bool) : Type 0 whe
   pub band-places : length (zipped from to side) ≡ RULES
 
 -- the first bands are those of all rules given, in force and waiting, and the bits are those of the rules in force
-pub record Drawn (w given count : ℕ) (rs : List Rule) (bands : List Band) (fixed : Fixed) : Type 0 where
-  pub own : take given bands ≡ map (bandOf w) (take given rs)
-  pub bits : fixed ≡ fixedBits (take count rs)
+abbrev pub Drawn : (w given count : ℕ) → List Rule → List Band → Fixed → Type 0
+Drawn w given count rs bands fixed = OfRules w (take given bands) fixed (take given rs) (take count rs)
 
 -- What is held between calls: the head says whether all this is a sheet and, where it is one that is not blank, the bands and
 -- the bits of its rules are drawn. The bands of rules that wait stay where they lie.

@@ -14,16 +14,16 @@ use Rattle.band.specs.Band.{bandOf}
 use Rattle.bits.specs.Fixed.{Tidy}
 use Rattle.bits.proofs.Joined.{fixed-tidy}
 use Rattle.chain.specs.Links.{linkAt}
-use Rattle.chain.proofs.Steps.{NoFit}
 use Rattle.chain.proofs.Walk.{Walked, link-order, none-fits, own-link, walk-end, walk-on, walk-room, walk-start}
 use Rattle.lent.specs.Lent.{zipped}
-use Rattle.chain.specs.OfRules.{OfRules}
+use Rattle.lent.specs.OfRules.{OfLawful}
+use Rattle.verdict.specs.Kept.{kept}
 use Rattle.chain.proofs.laid.write.Statement.{statement}
 use Rattle.chain.proofs.laid.write.Tie as tie
 
 abbrev Inv-loop : tie.InvT-loop
 Inv-loop from to side n fixed width out₀ t count₀ p₀ out count p =
-    (p ≤ t) × (length out ≡ length out₀) × ((rs : List Rule) → OfRules (width .bits) (take n (zipped from to side)) fixed rs → Walked (width .bits) rs out₀ out count p)
+    (p ≤ t) × (length out ≡ length out₀) × ((rs : List Rule) → OfLawful (width .bits) (take n (zipped from to side)) fixed rs → kept (width .bits) rs .verdict ≡ 0 → Walked (width .bits) rs out₀ out count p)
 
 abbrev μ-loop : tie.MeasureT-loop
 μ-loop from to side n fixed width out₀ t count₀ p₀ out count p = t - p
@@ -41,24 +41,24 @@ lying l = zipped (start l .args .from .now) (start l .args .to .now) (start l .a
 abbrev own : Loop → List Rule
 own l = start l .pre .1 .1 .0 .0
 
-of-own : (l : Loop) → OfRules (start l .args .width .bits) (take (start l .args .n) (lying l)) (start l .args .fixed) (own l)
+of-own : (l : Loop) → OfLawful (start l .args .width .bits) (take (start l .args .n) (lying l)) (start l .args .fixed) (own l)
 of-own l = start l .pre .1 .1 .0 .1
+
+none-own : (l : Loop) → kept (start l .args .width .bits) (own l) .verdict ≡ 0
+none-own l = start l .pre .1 .1 .0 .2
 
 count : (l : Loop) → length (own l) ≡ start l .args .n
 count l =
     let h = start l .pre .1 .0 in
     sym (length-map (own l) (bandOf (start l .args .width .bits)))
-    ∙ ap length (sym (of-own l .own))
+    ∙ ap length (sym (of-own l .1 .own))
     ∙ length-take-le (start l .args .n) (lying l) (omega (arith, h .places, h .count))
-
-no-fit : (l : Loop) (r : List Rule) → OfRules (start l .args .width .bits) (take (start l .args .n) (lying l)) (start l .args .fixed) r → NoFit (start l .args .width .bits) r
-no-fit l r h = none-fits _ r (h .none)
 
 top-requires : tie.Need-top-requires Inv-loop μ-loop
 top-requires c κs = search needs
 
 loop-holds : tie.Need-loop-holds Inv-loop μ-loop
-loop-holds c = (omega arith, refl, λ r h. walk-start _ r _)
+loop-holds c = (omega arith, refl, λ r h e. walk-start _ r _)
 
 word : (l : Loop) → l .loop .p ≤ top (start l .args .width .bits)
 word l = omega arith
@@ -66,14 +66,15 @@ word l = omega arith
 link-at-requires : tie.Need-link-at-requires Inv-loop μ-loop
 link-at-requires c κs =
     let s = start c in
-    (s .pre .0, (s .pre .1 .0, (subst Tidy (sym (of-own c .bits)) (fixed-tidy (own c)), word c)))
+    (s .pre .0, (s .pre .1 .0, (subst Tidy (sym (of-own c .1 .bits)) (fixed-tidy (own c)), word c)))
 
 -- there is room for one link more
 room : (l : Loop) → 3 * l .loop .count + 3 ≤ length (l .loop .out)
 room l =
     let s = start l in
     let h = of-own l in
-    let few = walk-room _ (own l) (no-fit l (own l) h) _ (word l) _ _ _ (l .loop .inv .2 (own l) h) (s .pre .0 .low) (h .lawful) in
+    let e = none-own l in
+    let few = walk-room _ (own l) (none-fits _ (own l) e) _ (word l) _ _ _ (l .loop .inv .2 (own l) h e) (s .pre .0 .low) (h .0) in
     omega (arith, count l, s .pre .1 .1 .1)
 
 mul-put : tie.Need-mul-put Inv-loop μ-loop
@@ -87,7 +88,7 @@ add-count c = omega (arith, room (c .before .before .before .before .before))
 
 -- the link is the one that the paper takes at p, whichever rules the bands and the bits are those of
 here : (a : tie.After-link-at Inv-loop μ-loop) (r : List Rule)
-    → OfRules (start (a .before) .args .width .bits) (take (start (a .before) .args .n) (lying (a .before))) (start (a .before) .args .fixed) r
+    → OfLawful (start (a .before) .args .width .bits) (take (start (a .before) .args .n) (lying (a .before))) (start (a .before) .args .fixed) r
     → a .link-at .result ≡ linkAt (start (a .before) .args .width .bits) r (a .before .loop .p)
 here a r h =
     let s = start (a .before) in
@@ -99,7 +100,7 @@ order : (a : tie.After-link-at Inv-loop μ-loop)
     → (a .before .loop .p ≤ a .link-at .result .to) × (a .link-at .result .to ≤ top (start (a .before) .args .width .bits))
 order a =
     let l = a .before in
-    link-order _ (own l) (no-fit l (own l) (of-own l)) _ (word l) _ (here a (own l) (of-own l))
+    link-order _ (own l) (none-fits _ (own l) (none-own l)) _ (word l) _ (here a (own l) (of-own l))
 
 add-p : tie.Need-add-p Inv-loop μ-loop
 add-p c = omega (arith, order (c .before .before .before .before .before .before .before))
@@ -115,7 +116,7 @@ loop-again c =
     let up : a .link-at .result .to < top (start l .args .width .bits) = omega (arith, order a) in (
       omega arith,
       u .put .kept .0 ∙ l .loop .inv .1,
-      λ r h. walk-on _ r (no-fit l r h) _ (word l) _ _ _ (l .loop .inv .2 r h) _ (here a r h) _ (u .put .ensures) up,
+      λ r h e. walk-on _ r (none-fits _ r e) _ (word l) _ _ _ (l .loop .inv .2 r h e) _ (here a r h) _ (u .put .ensures) up,
     )
 
 same-length : tie.Need-same-length Inv-loop μ-loop
@@ -128,7 +129,7 @@ returns c =
     let u = c .before .before .before .before in
     let a = u .before .before in
     let l = a .before in
-    λ r h. walk-end _ r (no-fit l r h) _ (word l) _ _ _ (l .loop .inv .2 r h) _ (here a r h) _ (u .put .ensures) (c .if1 .taken ∙ l .before .top .ensures)
+    λ r h e. walk-end _ r (none-fits _ r e) _ (word l) _ _ _ (l .loop .inv .2 r h e) _ (here a r h) _ (u .put .ensures) (c .if1 .taken ∙ l .before .top .ensures)
 
 pub write-spec : {M : Type 1} → statement M
 write-spec =

@@ -14,7 +14,7 @@ use Rattle.bits.specs.Fixed.{hasBits}
 use Rattle.lent.specs.Bands.{blankBand}
 use Rattle.lent.proofs.Steps.{laid-take}
 use Rattle.lent.specs.Lent.{seen, zipped}
-use Rattle.checker.specs.Route.{OfRules}
+use Rattle.lent.specs.OfRules.{OfLawful}
 use Rattle.checker.proofs.EveryWord.{misses}
 use Rattle.checker.proofs.Reasons.{band-of, bits-reason, no-reason, rule-reason, rules-count}
 use Rattle.checker.proofs.link.shows.Statement.{statement}
@@ -33,8 +33,8 @@ one-laid s h =
 abbrev order : (s : tie.Start) → (s .args .first ≤ s .args .last) × (s .args .last ≤ top (s .args .width .bits))
 order s = (s .pre .1 .1 .1, s .pre .1 .1 .2)
 
-count : (s : tie.Start) (rs : List Rule) → OfRules (s .args .width .bits) (take (s .args .n) (lying s)) (s .args .fixed) rs → length rs ≡ s .args .n
-count s rs h = rules-count _ _ (s .args .n) (lying s) rs (s .pre .1 .0) (h .own)
+count : (s : tie.Start) (rs : List Rule) → OfLawful (s .args .width .bits) (take (s .args .n) (lying s)) (s .args .fixed) rs → length rs ≡ s .args .n
+count s rs h = rules-count _ _ (s .args .n) (lying s) rs (s .pre .1 .0) (h .1 .own)
 
 top-requires : tie.Need-top-requires
 top-requires c κs = search needs
@@ -64,8 +64,8 @@ returns c rs h =
     let few = s .pre .1 .0 .count in
     let there : s .args .reason < s .args .n = omega (arith, b .before .before .if1 .taken) in
     c .fails .ensures
-    ∙ ap (λ (t : Band). misses (holds t) (s .args .first) (s .args .last)) (read b ∙ band-of _ _ (s .args .n) (lying s) rs (s .pre .1 .0) (h .own) _ blankBand there)
-    ∙ rule-reason _ (s .pre .0 .low) _ _ (order s .0) (order s .1) rs (h .lawful) _ (omega (arith, count s rs h)) (λ e. omega arith)
+    ∙ ap (λ (t : Band). misses (holds t) (s .args .first) (s .args .last)) (read b ∙ band-of _ _ (s .args .n) (lying s) rs (s .pre .1 .0) (h .1 .own) _ blankBand there)
+    ∙ rule-reason _ (s .pre .0 .low) _ _ (order s .0) (order s .1) rs (h .0) _ (omega (arith, count s rs h)) (λ e. omega arith)
 
 lacks-requires : tie.Need-lacks-requires
 lacks-requires c κs = search needs
@@ -74,13 +74,13 @@ returns-2 : tie.Need-returns-2
 returns-2 c rs h =
     let s = c .before .before .before in
     c .lacks .ensures
-    ∙ ap (λ (f : Fixed). misses (hasBits f) (s .args .first) (s .args .last)) (h .bits)
-    ∙ bits-reason _ (s .pre .0 .low) _ _ (order s .0) (order s .1) rs (h .lawful) _ (omega (arith, count s rs h, c .before .before .if1 .left)) (c .before .if2 .taken)
+    ∙ ap (λ (f : Fixed). misses (hasBits f) (s .args .first) (s .args .last)) (h .1 .bits)
+    ∙ bits-reason _ (s .pre .0 .low) _ _ (order s .0) (order s .1) rs (h .0) _ (omega (arith, count s rs h, c .before .before .if1 .left)) (c .before .if2 .taken)
 
 returns-3 : tie.Need-returns-3
 returns-3 c rs h =
     let s = c .before .before in
-    no-reason _ (s .pre .0 .low) _ _ (order s .0) (order s .1) rs (h .lawful) _ (omega (arith, count s rs h, c .before .if1 .left)) (c .if2 .left)
+    no-reason _ (s .pre .0 .low) _ _ (order s .0) (order s .1) rs (h .0) _ (omega (arith, count s rs h, c .before .if1 .left)) (c .if2 .left)
 
 pub shows-spec : {M : Type 1} → statement M
 shows-spec = tie.close (tie.spec top-requires band-at-requires fails-requires returns lacks-requires returns-2 returns-3)

@@ -106,14 +106,17 @@ begun b = b .before .before .before .before .before
 
 drawn : (b : tie.After-bits-of)
     → Drawn (start (begun b) .args .head .width) (start (begun b) .args .head .count) (start (begun b) .args .head .count) (rulesIn (start (begun b) .args .rules .now)) (zipped (b .before .draw .last .1 .0) (b .before .draw .last .1 .1 .0) (b .before .draw .last .1 .1 .1 .0)) (b .bits-of .result)
-drawn b = first-drawn (b .before .draw .ensures .0) _ (low (begun b)) (b .bits-of .ensures)
+drawn b =
+    let a = start (begun b) .args in
+    first-drawn (a .head .width) (a .head .given) (rulesIn (a .rules .now)) _ (b .before .draw .ensures .0) _ (low (begun b)) (b .bits-of .ensures)
 
 solve-requires : tie.Need-solve-requires
 solve-requires c κs =
     let b = c .before .before .before .before in
     let a = begun b in
     let w = start a .args .head .width in
-    let t = swept w _ _ _ _ _ _ (width a .low) (omega (arith, low a, few a)) (b .before .draw .ensures .1) (lawful a) (drawn b) in
+    let n = start a .args .head .count in
+    let t = swept w n _ _ _ _ (rulesIn (start a .args .rules .now)) (width a .low) (omega (arith, low a, few a)) (b .before .draw .ensures .1) (lawful a) (drawn b) in
     (width a, (t .lie, ((t .tidy, t .within), subst (Ends w _ _ 0) (sym (c .top .ensures)) (whole-wheel w _ _))))
 
 same-kept-requires : tie.Need-same-kept-requires
@@ -131,7 +134,7 @@ returns-3 c =
       record {
         room = record { rules-places = s .pre .rules-places; marks-places = s .pre .marks-places; band-places = d .draw .ensures .1 };
         tested = c .same-kept .ensures
-            ∙ ap (sameKept (s .args .head .kept)) (kept-found w _ _ _ _ (width a .low) (lawful a) (drawn b) (v .solve .ensures))
+            ∙ ap (sameKept (s .args .head .kept)) (kept-found w (s .args .head .count) (rulesIn (s .args .rules .now)) _ _ (width a .low) (lawful a) (drawn b) (v .solve .ensures))
             ∙ told-kept (s .args .head) _ _ (open-sheet a) (good a)
             ∙ sym (unread (s .args .head) _ _ _ _);
         drawn = λ e z. record { own = d .draw .ensures .0; bits = b .bits-of .ensures };

@@ -8,11 +8,12 @@ use lib.ListN.{take}
 use Rattle.rule.specs.declared.Rule.{Rule}
 use Rattle.rule.specs.Meaning.{RULES}
 use Rattle.verdict.specs.declared.Kept.{Kept}
+use Rattle.verdict.specs.Kept.{kept}
 use Rattle.sheet.specs.Stands.{Standing, Stands}
 use Rattle.sheet.specs.Statements.{Asked}
 use Rattle.sheet.proofs.WaysOfAsking.{chain-asking, kept-asking, refused-asking, short-asking}
-use Rattle.chain.specs.OfRules.{OfRules}
 use Rattle.lent.specs.Lent.{zipped}
+use Rattle.lent.specs.OfRules.{OfLawful}
 use Rattle.places.specs.Places.{rulesIn}
 use Rattle.lent_head.specs.Numbers.{before}
 use Rattle.sheet.specs.Held.{packed}
@@ -37,12 +38,12 @@ abbrev rs : tie.Else1 → List Rule
 rs a = take (start a .args .head .count) (rulesIn (start a .args .rules .now))
 
 -- the rules that the bands and the bits are those of
-of-rules : (a : tie.Else1) → start a .args .head .kept .verdict ≡ 0
-    → OfRules (start a .args .head .width) (take (start a .args .head .count) (zipped (start a .args .from .now) (start a .args .to .now) (start a .args .side .now))) (start a .args .head .fixed) (rs a)
-of-rules a e =
-    let h = start a .pre in
-    let d = drawn-so h (none a) in
-    record { lawful = lawful-so h (none a); own = d .own; bits = d .bits; none = sym (ap (λ (k : Kept). k .verdict) (kept-so h (none a))) ∙ e }
+of-rules : (a : tie.Else1)
+    → OfLawful (start a .args .head .width) (take (start a .args .head .count) (zipped (start a .args .from .now) (start a .args .to .now) (start a .args .side .now))) (start a .args .head .fixed) (rs a)
+of-rules a = let h = start a .pre in (lawful-so h (none a), drawn-so h (none a))
+
+no-word : (a : tie.Else1) → start a .args .head .kept .verdict ≡ 0 → kept (start a .args .head .width) (rs a) .verdict ≡ 0
+no-word a e = sym (ap (λ (k : Kept). k .verdict) (kept-so (start a .pre) (none a))) ∙ e
 
 standing-requires : tie.Need-standing-requires
 standing-requires c κs = search needs
@@ -79,8 +80,8 @@ write-requires c κs =
     let e = c .before .before .before in
     let a = e .before .before .before in
     let h = start a .pre in
-    let t = swept _ _ _ _ _ _ (rulesIn (start a .args .rules .now)) (width-so h (none a) .low) (few a) (h .room .band-places) (lawful-so h (none a)) (drawn-so h (none a)) in
-    (width-so h (none a), (t .lie, ((rs a, of-rules a (c .before .if3 .left)), omega (arith, e .before .room .ensures, e .if2 .left))))
+    let t = swept (start a .args .head .width) (start a .args .head .count) _ _ _ _ (rulesIn (start a .args .rules .now)) (width-so h (none a) .low) (few a) (h .room .band-places) (lawful-so h (none a)) (drawn-so h (none a)) in
+    (width-so h (none a), (t .lie, ((rs a, of-rules a, no-word a (c .before .if3 .left)), omega (arith, e .before .room .ensures, e .if2 .left))))
 
 same-length : tie.Need-same-length
 same-length c = search needs
@@ -91,7 +92,7 @@ returns-4 c =
     let v = c .before .before in
     let e = v .before .before .before .before in
     let a = e .before .before .before in
-    let d = v .write .ensures (rs a) (of-rules a (v .before .before .if3 .left)) in
+    let d = v .write .ensures (rs a) (of-rules a) (no-word a (v .before .before .if3 .left)) in
     chain-asking (on a) _ (omega (arith, e .before .room .ensures, e .if2 .left)) (v .before .before .if3 .left) (d .0) (d .1)
 
 pub ask-spec : {M : Type 1} → statement M
