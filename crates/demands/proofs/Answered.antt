@@ -1,26 +1,22 @@
 -- Demand 2 of asking: with room enough it is accepted, and answers what is kept of the rules in force, which is right; for
 -- "none" no word fits, so that the links are the chain. Assumes nothing.
 use mathlib.Core.Path.{_≡_, refl, sym, ap, _∙_}
-use mathlib.Core.Bool.{Bool, true, false}
 use mathlib.Core.List.{List}
 use Prim.Native.Nat.{ℕ, _≤_}
 use borrow.Author.Tests.{eq-eqb, ne-eqb}
 use lib.ListN.{length}
-use Rattle.word.specs.Word.{top}
 use Rattle.rule.specs.declared.Rule.{Rule}
-use Rattle.rule.specs.Meaning.{fits}
-use Rattle.verdict.specs.declared.Kept.{Kept}
 use Rattle.verdict.specs.Kept.{kept}
-use Rattle.verdict.specs.Demand.{Right}
 use Rattle.verdict.proofs.Right.{kept-right}
 use Rattle.chain.specs.declared.Link.{Link}
 use Rattle.chain.specs.Findings.{chainFor, findings}
 use Rattle.chain.specs.Links.{chainRoom, numbersOf}
 use Rattle.chain.proofs.Steps.{chain-is}
+use Rattle.chain.proofs.Walk.{none-fits}
 use Rattle.sheet.specs.declared.Reply.{Reply}
 use Rattle.sheet.specs.declared.Sheet.{Sheet}
 use Rattle.page.specs.Calls.{rulesOf}
-use Rattle.demands.specs.Demands.{AskedRight, ChainLaid}
+use Rattle.demands.specs.Demands.{AskedRight}
 use Rattle.page.specs.Page.{OpenPage, entriesOf, page, rulesOn, widthOf}
 use Rattle.sheet.specs.Record.{fresh}
 use Rattle.sheet.specs.Statements.{Asked, overlaid, replies}
@@ -29,14 +25,6 @@ use Rattle.sheet.proofs.WaysOfAsking.{accepted-reply, the-chain}
 use Rattle.page.proofs.Refusals.{ask-fits}
 
 module _ (w : ℕ) (rs : List Rule) where
-  -- for "none" no word fits
-  none-fits : kept w rs .verdict ≡ 0 → (x : ℕ) → x ≤ top w → fits w rs x ≡ false
-  none-fits z x h = go (fits w rs x) refl
-    where
-      go : (t : Bool) → fits w rs x ≡ t → t ≡ false
-      go true e = absurd (kept-right w rs .none .0 z x (record { word = h; meets = e }))
-      go false e = refl
-
   -- what is said of the rules is right, whatever buffer it is laid in
   said-right : (b : List ℕ) → AskedRight w rs b (overlaid (chainFor w rs (kept w rs)) b) (replies 0 (kept w rs) (length (chainFor w rs (kept w rs))))
   unfolding chainFor numbersOf
@@ -46,7 +34,7 @@ module _ (w : ℕ) (rs : List Rule) where
         right = kept-right w rs;
         none = λ z. record {
           chain = chainFor w rs (kept w rs);
-          is-chain = rw (eq-eqb (kept w rs .verdict) 0 z, chainFor) (chain-is w rs (none-fits z));
+          is-chain = rw (eq-eqb (kept w rs .verdict) 0 z, chainFor) (chain-is w rs (none-fits w rs z));
           counted = refl;
           laid = refl;
         };
