@@ -6,7 +6,7 @@ use lib.Bits.{bitAnd}
 use lib.Dec.{eqb, leb, ltb}
 use Rattle.word.specs.Word.{top}
 use Rattle.rule.specs.declared.Rule.{Rule}
-use Rattle.rule.specs.Meaning.{FORMS}
+use Rattle.rule.specs.Meaning.{FORMS, rule}
 use Rattle.accept.specs.Grounds.{Ground, firstThatApplies, ground}
 
 -- "form outside 1 to 8"
@@ -41,6 +41,10 @@ unfoldable pub acceptable : ℕ → Rule → Bool
 acceptable w r = eqb (refusalOf w r) 0
 
 -- a place that no rule has taken
+abbrev pub noRule : Rule
+noRule = rule 0 0 0 0
+
+-- and the test for it
 unfoldable pub isNoRule : Rule → Bool
 isNoRule r = eqb (r .form) 0 && (eqb (r .sense) 0 && (eqb (r .c1) 0 && eqb (r .c2) 0))
 

@@ -15,11 +15,12 @@ use lib.Seq.{drop-cons}
 use Rattle.word.proofs.Tests.{both-pass}
 use Rattle.word.specs.declared.Edition.{Edition}
 use Rattle.rule.specs.declared.Rule.{Rule}
+use Rattle.accept.specs.Accept.{noRule}
 use Rattle.chain.specs.Links.{numbersOf}
 use Rattle.sheet.specs.declared.Answer.{Answer}
 use Rattle.page.specs.Calls.{Call, add, after, open-at, refusal}
 use Rattle.page.specs.declared.Opening.{Opening}
-use Rattle.page.specs.Page.{Page, noRule, no-page}
+use Rattle.page.specs.Page.{Page, no-page}
 use Rattle.sheet.specs.Record.{fresh}
 use Rattle.sheet.specs.Statements.{Outcome, answers}
 use Rattle.page.specs.Reached.{Reached, start}

@@ -7,8 +7,9 @@ use native.Mathlib.Omega.{arith}
 use lib.ListN.{length, length-append, length-replicate, replicate, take}
 use lib.Seq.{length-take-le, take-at}
 use Rattle.rule.specs.Meaning.{RULES}
+use Rattle.accept.specs.Accept.{noRule}
 use Rattle.page.specs.Page.{MARKS}
-use Rattle.places.specs.Places.{noRule, rulesIn}
+use Rattle.places.specs.Places.{rulesIn}
 use Rattle.lent_head.specs.declared.Head.{Head}
 use Rattle.lent_head.specs.Held.{Held}
 use Rattle.lent_head.specs.Numbers.{before}

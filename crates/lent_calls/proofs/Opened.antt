@@ -7,6 +7,7 @@ use native.Mathlib.Omega.{arith}
 use lib.ListN.{drop, drop-of-length-le, length, replicate, take}
 use Rattle.rule.specs.declared.Rule.{Rule}
 use Rattle.rule.specs.Meaning.{AllLawful, RULES}
+use Rattle.accept.specs.Accept.{noRule}
 use Rattle.band.specs.declared.Band.{Band}
 use Rattle.bits.specs.declared.Fixed.the-variants.{Bits}
 use Rattle.bits.specs.Fixed.{fixedBits, fixedFrom}
@@ -15,7 +16,6 @@ use Rattle.verdict.specs.declared.Kept.{Kept}
 use Rattle.verdict.specs.Kept.{kept}
 use Rattle.verdict.specs.OnBands.{keptBy}
 use Rattle.verdict.proofs.Rules.{kept-is}
-use Rattle.places.specs.Places.{noRule}
 use Rattle.lent_head.specs.Held.{Drawn}
 use Rattle.lent_head.proofs.Holding.{Swept, swept}
 

@@ -10,6 +10,7 @@ use Rattle.word.specs.declared.Edition.{Edition}
 use Rattle.word.specs.Edition.{terms}
 use Rattle.rule.specs.declared.Rule.{Rule}
 use Rattle.rule.specs.Meaning.{RULES}
+use Rattle.accept.specs.Accept.{noRule}
 use Rattle.band.specs.Band.{bandOf}
 use Rattle.bits.specs.declared.Fixed.{Fixed}
 use Rattle.bits.specs.declared.Fixed.the-variants.{Bits}
@@ -19,7 +20,7 @@ use Rattle.verdict.specs.declared.Kept.{Kept}
 use Rattle.verdict.specs.Kept.{kept}
 use Rattle.page.specs.declared.Opening.{Opening}
 use Rattle.page.specs.Page.{MARKS}
-use Rattle.places.specs.Places.{noRule, rulesIn}
+use Rattle.places.specs.Places.{rulesIn}
 use Rattle.lent_head.specs.declared.Head.{Head}
 use Rattle.lent_head.specs.Numbers.{before, ruleNumber}
 use Rattle.lent_head.specs.Shape.{inForce}

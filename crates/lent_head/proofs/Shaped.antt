@@ -14,13 +14,12 @@ use lib.Seq.{getD-take, length-take-le, take-take}
 use Rattle.word.proofs.Tests.{both-pass}
 use Rattle.rule.specs.declared.Rule.{Rule}
 use Rattle.rule.specs.Meaning.{AllLawful, RULES}
-use Rattle.accept.specs.Accept.{acceptable, every, isNoRule}
+use Rattle.accept.specs.Accept.{acceptable, every, isNoRule, noRule}
 use Rattle.accept.proofs.Accepted.{all-lawful}
 use Rattle.accept.proofs.Every.{even-every, every-append}
 use Rattle.verdict.specs.declared.Kept.{Kept}
 use Rattle.page.specs.Page.{MARKS}
 use Rattle.page.specs.Shape.{isZero, marksShaped, rising, rulesShaped}
-use Rattle.places.specs.Places.{noRule}
 use Rattle.lent_head.specs.declared.Head.{Head}
 use Rattle.lent_head.specs.Shape.{inForce, sameKept, wellShaped}
 

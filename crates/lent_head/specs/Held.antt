@@ -7,12 +7,13 @@ use Prim.Native.Nat.{ℕ, _+_, _-_, _≤_}
 use lib.ListN.{drop, length, replicate, take}
 use Rattle.rule.specs.declared.Rule.{Rule}
 use Rattle.rule.specs.Meaning.{RULES}
+use Rattle.accept.specs.Accept.{noRule}
 use Rattle.band.specs.declared.Band.{Band}
 use Rattle.bits.specs.declared.Fixed.{Fixed}
 use Rattle.page.specs.Page.{MARKS}
 use Rattle.lent.specs.Lent.{zipped}
 use Rattle.lent.specs.OfRules.{OfRules}
-use Rattle.places.specs.Places.{noRule, rulesIn}
+use Rattle.places.specs.Places.{rulesIn}
 use Rattle.lent_head.specs.declared.Head.{Head}
 use Rattle.lent_head.specs.Shape.{standsSo}
 

@@ -5,7 +5,6 @@ use lib.ListN.{length, replicate}
 use Rattle.word.specs.declared.Edition.{Edition}
 use Rattle.word.specs.declared.Edition.the-variants.{Old}
 use Rattle.rule.specs.declared.Rule.{Rule}
-use Rattle.rule.specs.Meaning.{rule}
 use Rattle.page.specs.declared.Opening.{Opening}
 
 -- the most marks in force (01, raised by K6)
@@ -102,6 +101,3 @@ restored (s ∷ ss) es = restored ss (s ++ es)
 -- "Places not in use hold zeros."
 abbrev pub padded : {A : Type 0} → ℕ → A → List A → List A
 padded n z xs = xs ++ replicate (n - length xs) z
-
-abbrev pub noRule : Rule
-noRule = rule 0 0 0 0

@@ -9,7 +9,8 @@ use lib.ListN.{drop, drop-of-length-le, getD, length, length-append, length-repl
 use lib.Seq.{drop-cons, length-take-le, set-at, take-all, take-suc}
 use Rattle.rule.specs.declared.Rule.{Rule}
 use Rattle.rule.specs.Meaning.{rule}
-use Rattle.places.specs.Places.{noRule, rulesIn}
+use Rattle.accept.specs.Accept.{noRule}
+use Rattle.places.specs.Places.{rulesIn}
 
 -- past the first four numbers
 module _ (f s a b : ℕ) (xs : List ℕ) where

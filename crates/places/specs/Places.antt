@@ -11,7 +11,3 @@ rulesIn (f ∷ []) = []
 rulesIn (f ∷ s ∷ []) = []
 rulesIn (f ∷ s ∷ a ∷ []) = []
 rulesIn (f ∷ s ∷ a ∷ b ∷ xs) = rule f s a b ∷ rulesIn xs
-
--- a place that no rule has taken
-abbrev pub noRule : Rule
-noRule = rule 0 0 0 0

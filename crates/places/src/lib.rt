@@ -6,8 +6,8 @@ ghost use Prim.Native.Nat.{_-_, _≤_, _<_};
 ghost use lib.ListN.{drop, getD, length, replicate, set, take};
 ghost use Rattle.word.specs.Word.{IsWidth};
 ghost use Rattle.rule.specs.Meaning.{RULES};
-ghost use Rattle.accept.specs.Accept.{acceptable, every, isNoRule};
-ghost use Rattle.places.specs.Places.{noRule, rulesIn};
+ghost use Rattle.accept.specs.Accept.{acceptable, every, isNoRule, noRule};
+ghost use Rattle.places.specs.Places.{rulesIn};
 
 mod drawing;
 mod marks;

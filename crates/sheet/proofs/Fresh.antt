@@ -9,9 +9,10 @@ use lib.ListN.{getD, length, length-append, length-replicate, replicate, set, ta
 use lib.Seq.{append-snoc, getD-append-seam, getD-take, set-append-seam, take-append-seam, take-at}
 use Rattle.rule.specs.declared.Rule.{Rule}
 use Rattle.rule.specs.Meaning.{RULES}
+use Rattle.accept.specs.Accept.{noRule}
 use Rattle.verdict.specs.Kept.{kept}
 use Rattle.sheet.specs.declared.Sheet.{Sheet}
-use Rattle.page.specs.Page.{Entry, MARKS, OpenPage, a-mark, a-rule, laidAside, marksOn, noRule, padded, page, restored, rulesOn, stretch, struck, takenUp, withEntries, withPile}
+use Rattle.page.specs.Page.{Entry, MARKS, OpenPage, a-mark, a-rule, laidAside, marksOn, padded, page, restored, rulesOn, stretch, struck, takenUp, withEntries, withPile}
 use Rattle.sheet.specs.Record.{fresh}
 use Rattle.lent_head.specs.Shape.{inForce}
 use Rattle.lent_head.proofs.Shaped.{none-waits, some-wait}

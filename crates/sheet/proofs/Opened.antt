@@ -7,6 +7,7 @@ use native.Mathlib.Omega.{arith}
 use lib.ListN.{length, length-replicate, replicate}
 use Rattle.word.specs.Edition.{terms}
 use Rattle.rule.specs.Meaning.{RULES}
+use Rattle.accept.specs.Accept.{noRule}
 use Rattle.lent.specs.Lent.{zipped}
 use Rattle.verdict.specs.declared.Kept.{Kept}
 use Rattle.verdict.specs.Kept.{kept}
@@ -15,7 +16,7 @@ use Rattle.page.specs.declared.Opening.{Opening}
 use Rattle.page.specs.Page.{MARKS, marksOn, newPage, no-page, page, restored, rulesOn}
 use Rattle.page.specs.Reached.{start, step}
 use Rattle.page.proofs.Refusals.{open-fits, open-narrow, open-wide}
-use Rattle.places.specs.Places.{noRule, rulesIn}
+use Rattle.places.specs.Places.{rulesIn}
 use Rattle.lent_head.specs.declared.Head.{Head}
 use Rattle.lent_head.specs.Held.{Held}
 use Rattle.lent_calls.specs.Done.{Opens, newHead}

@@ -12,11 +12,11 @@ use lib.Seq.{drop-append-seam, drop-at, length-take-le, take-append-seam, take-a
 use Rattle.rule.specs.declared.Rule.{Rule}
 use Rattle.word.specs.declared.Edition.{Edition}
 use Rattle.rule.specs.Meaning.{RULES}
-use Rattle.accept.specs.Accept.{acceptable, every, isNoRule}
+use Rattle.accept.specs.Accept.{acceptable, every, isNoRule, noRule}
 use Rattle.accept.proofs.Every.{every-even}
 use Rattle.verdict.specs.declared.Kept.{Kept}
 use Rattle.sheet.specs.declared.Sheet.{Sheet}
-use Rattle.page.specs.Page.{MARKS, noRule, padded}
+use Rattle.page.specs.Page.{MARKS, padded}
 use Rattle.page.specs.Shape.{isZero, marksShaped, rising, rulesShaped}
 use Rattle.lent_head.specs.Shape.{inForce, wellShaped}
 use Rattle.lent_head.proofs.Shaped.{shaped-so}

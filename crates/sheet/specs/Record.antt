@@ -4,8 +4,9 @@ use lib.ListN.{length, replicate}
 use Rattle.word.specs.declared.Edition.the-variants.{Old}
 use Rattle.rule.specs.declared.Rule.{Rule}
 use Rattle.rule.specs.Meaning.{RULES}
+use Rattle.accept.specs.Accept.{noRule}
 use Rattle.verdict.specs.Kept.{keeps, kept}
-use Rattle.page.specs.Page.{Entry, MARKS, Page, marksOn, no-page, noRule, padded, page, restored, rulesOn}
+use Rattle.page.specs.Page.{Entry, MARKS, Page, marksOn, no-page, padded, page, restored, rulesOn}
 use Rattle.sheet.specs.declared.Sheet.{Sheet}
 
 -- "The blank sheet has width 0 and zeros everywhere." It is of the old edition.

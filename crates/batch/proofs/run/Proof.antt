@@ -50,7 +50,7 @@ use denote.Signature.{plain}
 use Rattle.rule.specs.declared.Rule.{Rule}
 use Rattle.rule.proofs.Rule as R
 use Rattle.rule.proofs.Rule.Laws as R′
-use Rattle.page.specs.Page.{noRule}
+use Rattle.accept.specs.Accept.{noRule}
 use Rattle.page.proofs.Opening as O
 use Rattle.page.proofs.Opening.Laws as O′
 use Rattle.batch.specs.declared.Batch.{Batch}

@@ -8,9 +8,9 @@ use borrow.Author.Needs.{needs}
 use borrow.Author.Tests.{eq-eqb, ne-eqb}
 use lib.ListN.{drop, take}
 use Rattle.rule.specs.declared.Rule.{Rule}
-use Rattle.accept.specs.Accept.{acceptable, every}
+use Rattle.accept.specs.Accept.{acceptable, every, noRule}
 use Rattle.accept.proofs.Every.{every-opens, front-ends, front-goes, front-stops}
-use Rattle.places.specs.Places.{noRule, rulesIn}
+use Rattle.places.specs.Places.{rulesIn}
 use Rattle.places.proofs.all_acceptable.Statement.{statement}
 use Rattle.places.proofs.all_acceptable.Tie as tie
 

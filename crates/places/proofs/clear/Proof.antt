@@ -7,7 +7,8 @@ use native.Mathlib.Omega.{arith}
 use lib.ListN.{take-append-drop, drop, length, replicate, set, take}
 use Rattle.rule.specs.declared.Rule.{Rule}
 use Rattle.rule.specs.Meaning.{RULES}
-use Rattle.places.specs.Places.{noRule, rulesIn}
+use Rattle.accept.specs.Accept.{noRule}
+use Rattle.places.specs.Places.{rulesIn}
 use Rattle.places.proofs.Lying.{as-long, cleared}
 use Rattle.places.proofs.clear.Statement.{statement}
 use Rattle.places.proofs.clear.Tie as tie

@@ -8,10 +8,10 @@ use borrow.Author.Needs.{needs}
 use lib.ListN.{drop}
 use Rattle.rule.specs.declared.Rule.{Rule}
 use Rattle.rule.specs.Meaning.{RULES}
-use Rattle.accept.specs.Accept.{every, isNoRule}
+use Rattle.accept.specs.Accept.{every, isNoRule, noRule}
 use Rattle.accept.proofs.Choices.{failed, passed}
 use Rattle.accept.proofs.Every.{ends, every-opens, goes, stops}
-use Rattle.places.specs.Places.{noRule, rulesIn}
+use Rattle.places.specs.Places.{rulesIn}
 use Rattle.places.proofs.none_from.Statement.{statement}
 use Rattle.places.proofs.none_from.Tie as tie
 

@@ -8,7 +8,8 @@ use borrow.Author.Needs.{needs}
 use lib.ListN.{length-replicate, drop, length, replicate, set, take}
 use Rattle.rule.specs.declared.Rule.{Rule}
 use Rattle.rule.specs.Meaning.{RULES}
-use Rattle.places.specs.Places.{noRule, rulesIn}
+use Rattle.accept.specs.Accept.{noRule}
+use Rattle.places.specs.Places.{rulesIn}
 use Rattle.places.proofs.Lying.{all-copied, copied}
 use Rattle.places.proofs.pack.Statement.{statement}
 use Rattle.places.proofs.pack.Tie as tie

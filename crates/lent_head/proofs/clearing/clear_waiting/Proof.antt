@@ -5,8 +5,9 @@ use Prim.Native.Nat.{ℕ, _+_, _-_, _≤_}
 use native.Mathlib.Omega.{arith}
 use lib.ListN.{drop, replicate, replicate-append-replicate, take}
 use Rattle.rule.specs.Meaning.{RULES}
+use Rattle.accept.specs.Accept.{noRule}
 use Rattle.page.specs.Page.{MARKS}
-use Rattle.places.specs.Places.{noRule, rulesIn}
+use Rattle.places.specs.Places.{rulesIn}
 use Rattle.lent_head.proofs.clearing.clear_waiting.Statement.{statement}
 use Rattle.lent_head.proofs.clearing.clear_waiting.Tie as tie
 

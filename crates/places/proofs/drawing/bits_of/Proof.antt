@@ -8,7 +8,8 @@ use borrow.Author.Needs.{needs}
 use lib.ListN.{take}
 use Rattle.bits.specs.Fixed.{fixedBits, fixedFrom, joined}
 use Rattle.bits.proofs.Joined.{fixed-suc}
-use Rattle.places.specs.Places.{noRule, rulesIn}
+use Rattle.accept.specs.Accept.{noRule}
+use Rattle.places.specs.Places.{rulesIn}
 use Rattle.places.proofs.drawing.bits_of.Statement.{statement}
 use Rattle.places.proofs.drawing.bits_of.Tie as tie
 

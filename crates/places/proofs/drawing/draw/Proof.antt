@@ -8,9 +8,10 @@ use native.Mathlib.Omega.{arith}
 use borrow.Author.Needs.{needs}
 use lib.ListN.{getD, length, set, take}
 use Rattle.rule.specs.Meaning.{RULES}
+use Rattle.accept.specs.Accept.{noRule}
 use Rattle.band.specs.Band.{bandOf}
 use Rattle.lent.specs.Lent.{zipped}
-use Rattle.places.specs.Places.{noRule, rulesIn}
+use Rattle.places.specs.Places.{rulesIn}
 use Rattle.places.proofs.Lying.{as-long}
 use Rattle.lent.proofs.OneMore.{map-suc}
 use Rattle.places.proofs.drawing.draw.Statement.{statement}
