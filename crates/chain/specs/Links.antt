@@ -87,3 +87,7 @@ chainRoom n = 3 * mostLinks n
 unfoldable pub numbersOf : List Link → List ℕ
 numbersOf [] = []
 numbersOf (l ∷ ls) = l .from ∷ l .to ∷ l .reason ∷ numbersOf ls
+
+-- the link whose numbers a buffer holds from place i on
+abbrev pub linkFrom : List ℕ → ℕ → Link
+linkFrom ns i = link (getD ns i 0) (getD ns (i + 1) 0) (getD ns (i + 2) 0)

@@ -9,6 +9,7 @@ mod reach;
 mod step;
 
 use rule::Rule;
+pub use step::link_from;
 
 // The furthest that a rule outside form 7 reaches from a word that fails it, and that rule's number.
 pub enum Far {

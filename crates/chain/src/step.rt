@@ -6,6 +6,7 @@ ghost use lib.ListN.{drop, length, take};
 ghost use Rattle.word.specs.Word.{IsWidth, top};
 ghost use Rattle.bits.specs.Fixed.{Tidy};
 ghost use Rattle.lent.specs.Lent.{Lie, zipped};
+ghost use Rattle.chain.specs.Links.{linkFrom};
 ghost use Rattle.chain.specs.OnBands.{gapOn, linkOn};
 use crate::Far;
 use crate::Link;
@@ -71,4 +72,16 @@ pub fn put(out: &mut [u64], at: usize, link: Link)
     out[at] = link.from;
     out[at + 1] = link.to;
     out[at + 2] = link.reason;
+}
+
+// The link whose three numbers stand at a place.
+pub fn link_from(numbers: &[u64], at: usize) -> Link
+    requires { ⌜ at + 3 ≤ length (now numbers) ⌝ }
+    ensures { λ r. ⌜ r ≡ linkFrom (now (numbers .entry)) at ⌝ }
+{
+    Link {
+        from: numbers[at],
+        to: numbers[at + 1],
+        reason: numbers[at + 2],
+    }
 }

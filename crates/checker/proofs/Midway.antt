@@ -16,7 +16,7 @@ use Rattle.rule.specs.declared.Rule.{Rule}
 use Rattle.chain.specs.declared.Link.{Link}
 use Rattle.chain.specs.Chain.{Covers, Shows}
 use Rattle.chain.specs.Chain.Covers.{end, on}
-use Rattle.chain.specs.Links.{link}
+use Rattle.chain.specs.Links.{linkFrom}
 use Rattle.checker.specs.Check.{linksIn, rightReason, shown, shownBy}
 use Rattle.checker.specs.Route.{covered}
 use Rattle.checker.proofs.Covering.{covers-shown, shown-covers, shows-is, shows-order, shows-reason}
@@ -40,9 +40,6 @@ covered-more i e q z = go (ℕ-discrete i 0)
     go (no d) = omega (arith, covered-some i e d, covered-some (i + 3) (max e q) (λ f. omega arith))
 
 -- ---- the link at a place
-
-abbrev pub linkFrom : List ℕ → ℕ → Link
-linkFrom ns i = link (getD ns i 0) (getD ns (i + 1) 0) (getD ns (i + 2) 0)
 
 next-link : (ns : List ℕ) (i : ℕ) → i + 3 ≤ length ns → linksIn (drop i ns) ≡ linkFrom ns i ∷ linksIn (drop (i + 3) ns)
 unfolding linksIn

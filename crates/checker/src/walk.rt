@@ -34,9 +34,10 @@ pub fn covers(
     let mut end = 0;
     let mut i = 0;
     while Link::NUMBERS <= links.len() - i {
-        let first = links[i];
-        let last = links[i + 1];
-        let reason = links[i + 2];
+        let read = chain::link_from(links, i);
+        let first = read.from;
+        let last = read.to;
+        let reason = read.reason;
         if !link::follows(i, end, first) {
             return false;
         }

@@ -9,6 +9,7 @@ ghost use Rattle.frame.specs.Fields.{byte, word};
 ghost use Rattle.frame.specs.Statements.{PutAt};
 use crate::Field;
 use crate::Frame;
+use chain::Link;
 use sheet::Sheet;
 use verdict::Kept;
 use word::Edition;
@@ -65,24 +66,20 @@ pub fn put_links(
 {
     let mut end = at;
     for i in 0..n {
-        let from = chain[3 * i];
-        let to = chain[3 * i + 1];
-        let reason = chain[3 * i + 2];
-        end = put_line(&mut *out, end, link_line(edition, from, to, reason));
+        let link = chain::link_from(chain, Link::NUMBERS * i);
+        end = put_line(&mut *out, end, link_line(edition, link));
     }
     end
 }
 
 // A link: its first and its last word, and the reason.
-fn link_line(edition: Edition, from: u64, to: u64, reason: u64) -> [Field; FIELDS]
-    ensures { λ r. ⌜ r ≡ linkLine edition from to reason ⌝ }
+fn link_line(edition: Edition, link: Link) -> [Field; FIELDS]
+    ensures { λ r. ⌜ r ≡ linkLine edition (link .from) (link .to) (link .reason) ⌝ }
 {
-    [
-        byte(LINKED),
-        word(edition, from),
-        word(edition, to),
-        byte(reason),
-    ]
+    let from = word(edition, link.from);
+    let to = word(edition, link.to);
+    let reason = byte(link.reason);
+    [byte(LINKED), from, to, reason]
 }
 
 // A line: its numbers, one after the other, and a byte 10.

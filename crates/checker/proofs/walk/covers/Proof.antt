@@ -16,8 +16,11 @@ use Rattle.rule.specs.declared.Rule.{Rule}
 use Rattle.accept.proofs.Choices.{failed, passed}
 use Rattle.lent.specs.Lent.{zipped}
 use Rattle.lent.specs.OfRules.{OfLawful}
+use Rattle.chain.specs.declared.Link.{Link}
+use Rattle.chain.specs.Links.{linkFrom}
+use Rattle.checker.specs.Check.{rightReason}
 use Rattle.checker.specs.Route.{covered}
-use Rattle.checker.proofs.Midway.{Midway, at-first, at-gap, at-last, at-next, linkFrom, no-threes, out-of-order, wrong-reason}
+use Rattle.checker.proofs.Midway.{Midway, at-first, at-gap, at-last, at-next, no-threes, out-of-order, wrong-reason}
 use Rattle.checker.proofs.walk.covers.Statement.{statement}
 use Rattle.checker.proofs.walk.covers.Tie as tie
 
@@ -57,7 +60,17 @@ mid l rs h = l .loop .inv .3 rs h
 
 -- where the link has been read, and may start as it does
 abbrev body : tie.After-follows Inv-loop μ-loop → Body
-body f = f .before .before .before .before
+body f = f .before .before
+
+-- the link that was read, and its ends
+read : (f : tie.After-follows Inv-loop μ-loop) → f .before .link-from .result ≡ linkFrom (numbers (body f .before)) (body f .before .loop .i)
+read f = f .before .link-from .ensures
+
+first : (f : tie.After-follows Inv-loop μ-loop) → f .before .link-from .result .from ≡ linkFrom (numbers (body f .before)) (body f .before .loop .i) .from
+first f = ap (λ (l : Link). l .from) (read f)
+
+last : (f : tie.After-follows Inv-loop μ-loop) → f .before .link-from .result .to ≡ linkFrom (numbers (body f .before)) (body f .before .loop .i) .to
+last f = ap (λ (l : Link). l .to) (read f)
 
 top-requires : tie.Need-top-requires Inv-loop μ-loop
 top-requires c κs = search needs
@@ -68,29 +81,8 @@ loop-holds c = (omega arith, refl, λ z. refl, λ rs h. at-first _ rs _)
 sub-loop : tie.Need-sub-loop Inv-loop μ-loop
 sub-loop c = search needs
 
-mul-first : tie.Need-mul-first Inv-loop μ-loop
-mul-first c = search needs
-
-shared-slice-read-first : tie.Need-shared-slice-read-first Inv-loop μ-loop
-shared-slice-read-first c = omega (arith, room (c .before))
-
-add-last : tie.Need-add-last Inv-loop μ-loop
-add-last c = omega (arith, room (c .before))
-
-mul-last : tie.Need-mul-last Inv-loop μ-loop
-mul-last c = search needs
-
-shared-slice-read-last : tie.Need-shared-slice-read-last Inv-loop μ-loop
-shared-slice-read-last c = omega (arith, room (c .before .before))
-
-add-reason : tie.Need-add-reason Inv-loop μ-loop
-add-reason c = omega (arith, room (c .before .before))
-
-mul-reason : tie.Need-mul-reason Inv-loop μ-loop
-mul-reason c = search needs
-
-shared-slice-read-reason : tie.Need-shared-slice-read-reason Inv-loop μ-loop
-shared-slice-read-reason c = omega (arith, room (c .before .before .before))
+link-from-requires : tie.Need-link-from-requires Inv-loop μ-loop
+link-from-requires c κs = room c
 
 follows-requires : tie.Need-follows-requires Inv-loop μ-loop
 follows-requires c κs = search needs
@@ -100,23 +92,23 @@ returns c rs h =
     let b = body (c .before) in
     let l = b .before in
     at-gap _ rs _ _ _ (mid l rs h) (room b)
-    (λ a. omega (arith, leb-false (linkFrom (numbers l) (l .loop .i) .from) (covered (l .loop .i) (l .loop .end)) (failed (c .before .follows .ensures) (c .if1 .taken))))
+    (λ a. omega (arith, first (c .before), leb-false _ (covered (l .loop .i) (l .loop .end)) (failed (c .before .follows .ensures) (c .if1 .taken))))
 
 returns-2 : tie.Need-returns-2 Inv-loop μ-loop
 returns-2 c rs h =
     let b = body (c .before .before) in
     let l = b .before in
-    out-of-order _ rs _ _ _ (mid l rs h) (room b) (λ o. omega (arith, o .0, c .if2 .taken))
+    out-of-order _ rs _ _ _ (mid l rs h) (room b) (λ o. omega (arith, o .0, c .if2 .taken, first (c .before .before), last (c .before .before)))
 
 returns-3 : tie.Need-returns-3 Inv-loop μ-loop
 returns-3 c rs h =
     let b = body (c .before .before .before) in
     let l = b .before in
-    out-of-order _ rs _ _ _ (mid l rs h) (room b) (λ o. omega (arith, o .1, c .if3 .taken, l .before .top .ensures))
+    out-of-order _ rs _ _ _ (mid l rs h) (room b) (λ o. omega (arith, o .1, c .if3 .taken, last (c .before .before .before), l .before .top .ensures))
 
 -- its ends are in order
-order : (e : tie.Else3 Inv-loop μ-loop) → let l = body (e .before .before .before) .before in
-    (linkFrom (numbers l) (l .loop .i) .from ≤ linkFrom (numbers l) (l .loop .i) .to) × (linkFrom (numbers l) (l .loop .i) .to ≤ top (width l))
+order : (e : tie.Else3 Inv-loop μ-loop) → let f = e .before .before .before in
+    (f .before .link-from .result .from ≤ f .before .link-from .result .to) × (f .before .link-from .result .to ≤ top (width (body f .before)))
 order e =
     let l = body (e .before .before .before) .before in
     (e .before .if2 .left, omega (arith, e .if3 .left, l .before .top .ensures))
@@ -126,11 +118,17 @@ shows-requires c κs =
     let l = body (c .before .before .before) .before in
     (start l .pre .0, (start l .pre .1 .0, (start l .pre .1 .1, order c .0, order c .1)))
 
+-- what is said of the link's reason
+reason : (a : tie.After-shows Inv-loop μ-loop) → let f = a .before .before .before .before in
+    (rs : List Rule) → Own (body f .before) rs
+    → a .shows .result ≡ rightReason (width (body f .before)) rs (linkFrom (numbers (body f .before)) (body f .before .loop .i))
+reason a rs h = a .shows .ensures rs h ∙ ap (rightReason _ rs) (read (a .before .before .before .before))
+
 returns-4 : tie.Need-returns-4 Inv-loop μ-loop
 returns-4 c rs h =
     let b = body (c .before .before .before .before .before) in
     let l = b .before in
-    wrong-reason _ rs _ _ _ (mid l rs h) (room b) (failed (c .before .shows .ensures rs h) (c .if4 .taken))
+    wrong-reason _ rs _ _ _ (mid l rs h) (room b) (failed (reason (c .before) rs h) (c .if4 .taken))
 
 -- the body of the loop at its end
 abbrev whole : tie.Joined5 Inv-loop μ-loop → Body
@@ -144,7 +142,9 @@ loop-less c = omega (arith, room (whole c))
 
 largest : (c : tie.Joined5 Inv-loop μ-loop) → let l = whole c .before in
     max (l .loop .end) (linkFrom (numbers l) (l .loop .i) .to) ≡ c .if5 .end
-largest c = ⊎-elim (λ a. omega (arith, a .0 .taken, a .1)) (λ a. omega (arith, a .0 .left, a .1)) (c .if5 .came)
+largest c =
+    let e = last (c .before .before .before .before .before .before) in
+    ⊎-elim (λ a. omega (arith, a .0 .taken, a .1, e)) (λ a. omega (arith, a .0 .left, a .1, e)) (c .if5 .came)
 
 loop-again : tie.Need-loop-again Inv-loop μ-loop
 loop-again c =
@@ -157,8 +157,9 @@ loop-again c =
       λ z. absurd (omega arith),
       λ rs h.
           subst (Midway _ rs _ _) (largest c)
-          (at-next _ rs _ _ _ (mid l rs h) (room b) (l .loop .inv .2) (leb-true _ _ (passed (f .before .follows .ensures) (f .if1 .left)))
-          (order (s .before)) (passed (s .shows .ensures rs h) (c .before .if4 .left))),
+          (at-next _ rs _ _ _ (mid l rs h) (room b) (l .loop .inv .2)
+          (omega (arith, first (f .before), leb-true (f .before .before .link-from .result .from) (covered (l .loop .i) (l .loop .end)) (passed (f .before .follows .ensures) (f .if1 .left))))
+          (omega (arith, first (f .before), last (f .before), order (s .before))) (passed (reason s rs h) (c .before .if4 .left))),
     )
 
 returns-5 : tie.Need-returns-5 Inv-loop μ-loop
@@ -183,14 +184,7 @@ covers-spec =
     top-requires
     loop-holds
     sub-loop
-    mul-first
-    shared-slice-read-first
-    add-last
-    mul-last
-    shared-slice-read-last
-    add-reason
-    mul-reason
-    shared-slice-read-reason
+    link-from-requires
     follows-requires
     returns
     returns-2

@@ -1,11 +1,12 @@
 -- `put_links` meets its contract. The loop's invariant: the links passed are written. Assumes nothing.
-use mathlib.Core.Path.{_≡_, refl, sym, _∙_}
+use mathlib.Core.Path.{_≡_, refl, sym, ap, _∙_}
 use Prim.Native.Nat.{_+_, _-_, _*_, _≤_}
 use native.Mathlib.Numerals.{add-one}
 use native.Mathlib.Omega.{arith}
 use borrow.Author.Needs.{needs}
-use lib.ListN.{length}
-use Rattle.frame.specs.Answers.{LINE, answerBytes, lineBytes, linkLines}
+use lib.ListN.{getD, length}
+use Rattle.chain.specs.declared.Link.{Link}
+use Rattle.frame.specs.Answers.{LINE, answerBytes, lineBytes, linkLine, linkLines}
 use Rattle.frame.specs.Statements.{PutAt}
 use Rattle.frame.proofs.Lines.{put-none, put-on, length-link, links-next}
 use Rattle.frame.proofs.answers.put_links.Statement.{statement}
@@ -22,45 +23,26 @@ loop-holds : tie.Need-loop-holds Inv-loop μ-loop
 unfolding linkLines answerBytes
 loop-holds c = (omega arith, omega arith, refl, put-none _ _ (omega arith))
 
-mul-from : tie.Need-mul-from Inv-loop μ-loop
-mul-from c = search needs
+mul-link-from : tie.Need-mul-link-from Inv-loop μ-loop
+mul-link-from c = search needs
 
-mul-from-2 : tie.Need-mul-from-2 Inv-loop μ-loop
-mul-from-2 c = search needs
-
-element-copy-out-from : tie.Need-element-copy-out-from Inv-loop μ-loop
-element-copy-out-from c = search needs
-
-mul-to : tie.Need-mul-to Inv-loop μ-loop
-mul-to c = search needs
-
-add-to : tie.Need-add-to Inv-loop μ-loop
-add-to c = search needs
-
-mul-to-2 : tie.Need-mul-to-2 Inv-loop μ-loop
-mul-to-2 c = search needs
-
-element-copy-out-to : tie.Need-element-copy-out-to Inv-loop μ-loop
-element-copy-out-to c = search needs
-
-mul-reason : tie.Need-mul-reason Inv-loop μ-loop
-mul-reason c = search needs
-
-add-reason : tie.Need-add-reason Inv-loop μ-loop
-add-reason c = search needs
-
-mul-reason-2 : tie.Need-mul-reason-2 Inv-loop μ-loop
-mul-reason-2 c = search needs
-
-element-copy-out-reason : tie.Need-element-copy-out-reason Inv-loop μ-loop
-element-copy-out-reason c = search needs
+link-from-requires : tie.Need-link-from-requires Inv-loop μ-loop
+link-from-requires c κs = search needs
 
 link-line-requires : tie.Need-link-line-requires Inv-loop μ-loop
 link-line-requires c κs = search needs
 
--- the line of a link is no longer than a line may be
+-- the line is that of the link at its place
+line : (c : tie.After-link-line Inv-loop μ-loop) → let l = c .before .before .before .before .before in
+    let b = l .before .before .args .chain .now in
+    c .link-line .result ≡ linkLine (l .before .before .args .edition) (getD b (3 * l .loop .i) 0) (getD b (3 * l .loop .i + 1) 0) (getD b (3 * l .loop .i + 2) 0)
+line c =
+    let e = c .before .before .before .before .before .before .before .args .edition in
+    c .link-line .ensures ∙ ap (λ (l : Link). linkLine e (l .from) (l .to) (l .reason)) (c .before .before .link-from .ensures)
+
+-- and no longer than a line may be
 line-short : (c : tie.After-link-line Inv-loop μ-loop) → length (lineBytes (c .link-line .result)) ≤ LINE
-line-short c = rw (c .link-line .ensures) (length-link _ _ _ _)
+line-short c = rw (line c) (length-link _ _ _ _)
 
 put-line-requires : tie.Need-put-line-requires Inv-loop μ-loop
 put-line-requires c κs =
@@ -76,9 +58,9 @@ loop-again : tie.Need-loop-again Inv-loop μ-loop
 unfolding linkLines answerBytes
 loop-again c =
     let link = c .before .before .before in
-    let l = link .before .before .before .before .before .before in
+    let l = link .before .before .before .before .before in
     let p = c .before .before .put-line in
-    let put = rw (link .link-line .ensures) at (p .ensures) in (
+    let put = rw (line link) at (p .ensures) in (
       omega arith,
       omega (arith, p .ensures .ends, line-short link),
       p .kept .0 ∙ l .loop .inv .2,
@@ -100,17 +82,8 @@ put-links-spec =
     Inv-loop
     μ-loop
     loop-holds
-    mul-from
-    mul-from-2
-    element-copy-out-from
-    mul-to
-    add-to
-    mul-to-2
-    element-copy-out-to
-    mul-reason
-    add-reason
-    mul-reason-2
-    element-copy-out-reason
+    mul-link-from
+    link-from-requires
     link-line-requires
     put-line-requires
     add-i
