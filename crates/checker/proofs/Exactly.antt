@@ -1,7 +1,7 @@
 -- The check says yes exactly where the paper's clauses hold: each test of a list is its clause said of every link, and a list whose
 -- length is a multiple of three is the numbers of its links. Assumes nothing.
 use mathlib.Core.Path.{_≡_, refl, sym, ap, ap₂, _∙_, subst}
-use mathlib.Core.Bool.{Bool, true, false, false≢true, not, _&&_}
+use mathlib.Core.Bool.{Bool, true, false≢true, not, _&&_}
 use mathlib.Core.List.{List, [], _∷_}
 use Prim.Native.Nat.{ℕ, zero, suc, max, _%_, _≤_, _<_}
 use native.Mathlib.Omega.{arith}

@@ -1,6 +1,5 @@
 // The bits at wide widths, against a way that goes bit by bit: the words that have them are the value with any of the free bits, so
 // the largest has all of these and the smallest none.
-ghost use Prim.Native.Nat.{_≤_};
 ghost use Rattle.word.specs.Word.{IsWidth};
 use crate::masks::Sought;
 use crate::masks::Way;

@@ -1,5 +1,4 @@
 -- A list of lawful rules: each of its rules is lawful, and one lawful rule more keeps it so. Assumes nothing.
-use mathlib.Core.Path.{_≡_}
 use mathlib.Core.List.{List, [], _∷_, _++_}
 use Prim.Native.Nat.{ℕ, zero, suc, _≤_, _<_}
 use native.Mathlib.Omega.{arith}

@@ -15,8 +15,8 @@ abbrev μ-loop : tie.MeasureT-loop
 at-word-requires : tie.Need-at-word-requires Inv-loop μ-loop
 at-word-requires c κs =
     let l = c .before .before in
-    let size = l .before .before .size in
-    (l .before .before .before .before .pre, omega (arith, mod-lt (l .loop .i) {m = size .result} (omega arith)))
+    let size = l .before .before .before .size in
+    (l .before .before .before .before .before .pre, omega (arith, mod-lt (l .loop .i) {m = size .result} (omega arith)))
 
 pub over-rules-spec : {M : Type 1} → statement M
 over-rules-spec =
