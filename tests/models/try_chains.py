@@ -1,0 +1,69 @@
+# Foretells crates/try_chains: how many sheets come to none, one and many.
+from draws import CASE8, CASES, drawn_sheet, lawful, numbered, rule_count, seeds
+from paper import answer
+from tally import Split, Tally
+
+
+def sheet(split, w, rules):
+    if all(lawful(w, rule) for rule in rules):
+        (verdict, _, _), links = answer(w, rules)
+        assert len(links) <= 4 * len(rules) + 1
+        split.one(verdict)
+
+
+# Every rule by itself at the widths 1 to 4.
+def single():
+    split = Split(3)
+    for w in range(1, 5):
+        for i in range(rule_count(w)):
+            sheet(split, w, [numbered(i, w)])
+    return split
+
+
+# Every two rules at the widths 1 and 2.
+def pairs():
+    split = Split(3)
+    for w in range(1, 3):
+        rules = [numbered(i, w) for i in range(rule_count(w))]
+        for second in rules:
+            for first in rules:
+                sheet(split, w, [first, second])
+    return split
+
+
+def drawn():
+    split = Split(3)
+    for s in seeds(20000):
+        sheet(split, *drawn_sheet(s))
+    return split
+
+
+# The paper's answers against the model's.
+def paper():
+    split = Split(3)
+    for w, rules, _, kept, links in CASES:
+        split.one(kept[0], answer(w, rules) == (kept, links))
+    return split
+
+
+# Case 8 with wrong expectations: the verdict, the smallest, the largest, the number of links, a number of a link, and one written after them.
+def known():
+    tally = Tally()
+    w, rules, _, kept, links = CASES[CASE8]
+    said, written = answer(w, rules)
+    for k in range(3):
+        wrong = list(kept)
+        wrong[k] ^= 1
+        tally.one(said == tuple(wrong))
+    tally.one(len(written) == len(links) ^ 1)
+    tally.one(written[0][1] == links[0][1] ^ 1)
+    # A chain of two links fills six numbers, and no more.
+    tally.one(3 * len(written) == 7)
+    return tally
+
+
+single().verdicts("single")
+pairs().verdicts("pair")
+drawn().verdicts("drawn")
+paper().verdicts("paper")
+known().line("known")
