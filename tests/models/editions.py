@@ -1,0 +1,66 @@
+# What try_editions and try_wide count: sheets asked in each edition that has their width.
+from desk import BLANK, NEW, OLD, WIDEST, add, opening
+from paper import BITS, answer, top
+from tally import Split, Tally
+
+
+# Sheets by their verdicts; their links, those of bits, and the most of a sheet; and the sheets that fit 0, and the top word.
+class Seen:
+    def __init__(self):
+        self.sheets = Split(3)
+        self.links = self.bits = self.most = self.zeros = self.tops = 0
+
+    def one(self, w, rules):
+        (verdict, smallest, largest), links = answer(w, rules)
+        self.sheets.one(verdict)
+        self.links += len(links)
+        self.bits += sum(reason == BITS for _, _, reason in links)
+        self.most = max(self.most, len(links))
+        self.zeros += verdict != 0 and smallest == 0
+        self.tops += verdict != 0 and largest == top(w)
+
+    def lines(self, name):
+        self.sheets.verdicts(name)
+        print(f"{name} {self.links} links, {self.bits} of bits, at most {self.most} a sheet; {self.zeros} from 0, {self.tops} to the top")
+
+
+# Whether the edition opens the width, and accepts the rules.
+def accepted(edition, w, rules):
+    number, page = opening(BLANK, w, edition)
+    for rule in rules:
+        if number == 0:
+            number, page = add(page, edition, rule)
+    return number == 0
+
+
+# The lines of some sheets: "an old answer read as a new one shows the same word", so what is seen of them in one edition is seen in both.
+def lines(name, sheets):
+    seen = Seen()
+    old = 0
+    for w, rules in sheets:
+        assert accepted(NEW, w, rules)
+        old += w <= WIDEST[OLD] and accepted(OLD, w, rules)
+        seen.one(w, rules)
+    seen.lines(name + " new")
+    if old:
+        assert old == seen.sheets.compared()
+        seen.lines(name + " old")
+        both = Tally()
+        both.agreed(old)
+        both.line(name + " in both")
+
+
+# What is right of "x is 0" and "x is odd" at width 64, six expectations that are wrong in a number, and answers of two widths.
+def known():
+    tally = Tally()
+    said = answer(64, [(6, 0, 0, 0), (7, 0, 1, 1)])
+    kept, links = (0, 0, 0), [(0, 0, 255), (1, top(64), 0)]
+    tally.one(said == (kept, links))
+    for wrong in [(1, 0, 0), (0, 1, 0), (0, 0, 1)]:
+        tally.one(said == (wrong, links))
+    tally.one(len(said[1]) == 1)
+    tally.one(said == (kept, [(0, 1, 255), links[1]]))
+    # A number that is written in the last place of a buffer for 801 links.
+    tally.one(3 * len(said[1]) == 3 * 801)
+    tally.one(answer(32, []) == answer(33, []))
+    return tally
