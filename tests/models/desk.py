@@ -121,6 +121,12 @@ def batch(width, edition, rules, lent):
     return ask(page, lent), len(rules)
 
 
+# Whether opening and adding each rule in order are all accepted, without a page for each: what the rows above come to.
+def accepted(width, edition, rules):
+    number, _ = opening(BLANK, width, edition)
+    return number == 0 and len(rules) <= RULES and not any(first(rule_rows(width, rule)) for rule in rules)
+
+
 # ---- records
 
 # How a page stands in a record: the rules in force and then those that wait, each mark as the number of rules before it, and how many of

@@ -1,5 +1,5 @@
 # What try_editions and try_wide count: sheets asked in each edition that has their width.
-from desk import BLANK, NEW, OLD, WIDEST, add, opening
+from desk import NEW, OLD, accepted
 from paper import BITS, answer, top
 from tally import Split, Tally
 
@@ -24,22 +24,13 @@ class Seen:
         print(f"{name} {self.links} links, {self.bits} of bits, at most {self.most} a sheet; {self.zeros} from 0, {self.tops} to the top")
 
 
-# Whether the edition opens the width, and accepts the rules.
-def accepted(edition, w, rules):
-    number, page = opening(BLANK, w, edition)
-    for rule in rules:
-        if number == 0:
-            number, page = add(page, edition, rule)
-    return number == 0
-
-
 # The lines of some sheets: "an old answer read as a new one shows the same word", so what is seen of them in one edition is seen in both.
 def lines(name, sheets):
     seen = Seen()
     old = 0
     for w, rules in sheets:
-        assert accepted(NEW, w, rules)
-        old += w <= WIDEST[OLD] and accepted(OLD, w, rules)
+        assert accepted(w, NEW, rules)
+        old += accepted(w, OLD, rules)
         seen.one(w, rules)
     seen.lines(name + " new")
     if old:
