@@ -163,34 +163,45 @@ def record(page):
     )
 
 
-# "A record is a sheet when some page of accepted calls gives it": the page that the record's own lines give, opened afresh and "taken back once
-# for each" stretch that waits, or None where a call is refused or the page's record is another.
+# The page that some lines give, opened afresh, and taken back so many times; or None where a call is refused.
+def fresh(width, edition, lines, times):
+    number, page = opening(BLANK, width, edition)
+    calls = [(mark,) if line == MARK else (add, edition, line) for line in lines]
+    for call, *numbers in calls + [(back,)] * times:
+        if number:
+            return None
+        number, page = call(page, *numbers)
+    return None if number else page
+
+
+# "A record is a sheet when some page of accepted calls gives it": the page that the record's own lines give, or None where there is none, or
+# its record is another.
+@lru_cache(1 << 12)
 def page_of(some):
     if some == record(BLANK):
         return BLANK
     marks = some.marked + some.waiting
     if some.given > RULES or marks > MARKS:
         return None
-    lines = [(before, 0, MARK) for before in some.marks[:marks]]
-    lines += [(place, 1, rule) for place, rule in enumerate(some.rules[: some.given])]
-    number, page = opening(BLANK, some.width, some.edition)
-    for _, kind, line in sorted(lines, key=lambda line: line[:2]):
-        if number:
-            return None
-        number, page = add(page, some.edition, line) if kind else mark(page)
-    for _ in range(some.waiting):
-        if number:
-            return None
-        number, page = back(page)
-    return page if number == 0 and record(page) == some else None
+    lines = list(some.rules[: some.given])
+    for before in sorted(some.marks[:marks], reverse=True):
+        lines.insert(before, MARK)
+    page = fresh(some.width, some.edition, lines, some.waiting)
+    return page if page and record(page) == some else None
 
 
-# A call on a record: "Number 17 comes before all others", but an opening doesn't read the old record. It answers the number and the record after it.
+# A call on a record, and the number and the record after it. "Number 17 comes before all others".
 def on(some, call, *numbers):
     page = page_of(some)
     if page is None:
         return 17, some
     number, page = call(page, *numbers)
+    return number, record(page) if number == 0 else some
+
+
+# "Opening doesn't read the old record." "A refused opening keeps the old sheet; an accepted one discards it."
+def open_on(some, width, edition):
+    number, page = opening(BLANK, width, edition)
     return number, record(page) if number == 0 else some
 
 
