@@ -1,5 +1,5 @@
 # What try_editions and try_wide count: sheets asked in each edition that has their width.
-from desk import NEW, OLD, accepted
+from calls import NEW, OLD, accepted
 from paper import BITS, answer, top
 from tally import Split, Tally
 

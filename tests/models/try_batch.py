@@ -1,5 +1,5 @@
 # Foretells crates/try_batch: the number and the place that the batch call answers, against those that the program expects.
-from desk import NEW, OLD, batch
+from calls import NEW, OLD, batch
 from draws import WORD
 from paper import RULES, top
 from sheets import CASE2_RULE

@@ -1,5 +1,5 @@
 # Foretells crates/try_calls: case 13 and the refusals of marks, of steps and of the blank sheet, against what the program expects.
-from desk import NEW, OLD, add, ask_on, back, forward, mark, on, open_on
+from calls import NEW, OLD, add, ask_on, back, forward, mark, on, open_on
 from paper import MARKS
 from sheets import BLANK_SHEET, CASE2_RULE, accepted, added, all_but_one, all_marks, ask_refused, gone_back, gone_forward, marked, opened, refused
 from tally import Tally

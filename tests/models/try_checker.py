@@ -1,5 +1,5 @@
 # Foretells crates/try_checker: chains as asking writes them, changed at every place, and drawn lists, by what K3's check says of each.
-from desk import NEW, OLD, accepted
+from calls import NEW, OLD, accepted
 from draws import CASE8, CASES, SPREAD, WORD, after, drawn_sheet, lawful, numbered, rule_count, seeds
 from paper import BITS, NARROW, accepts, answer, words
 from tally import Split, Tally

@@ -1,5 +1,5 @@
 # Foretells crates/try_exchange: the paper's exchange as calls, against what the paper says of cases 2 and 8.
-from desk import NEW, OLD, add, ask_on, back, mark, on, open_on
+from calls import NEW, OLD, add, ask_on, back, mark, on, open_on
 from draws import CASE2, CASE8, CASES
 from sheets import BLANK_SHEET, CASE2_RULE, accepted, added, gone_back, marked, opened, refused
 from tally import Tally

@@ -1,5 +1,5 @@
 # Foretells crates/try_order: which number is given where two refusals apply, against what the program expects.
-from desk import NEW, OLD, add, ask_on, back, forward, mark, on, other
+from calls import NEW, OLD, add, ask_on, back, forward, mark, on, other
 from paper import NONE
 from sheets import BLANK_SHEET, CASE2_RULE, added, all_marks, ask_refused, full, opened, refused
 from tally import Tally

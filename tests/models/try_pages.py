@@ -1,5 +1,5 @@
 # Foretells crates/try_pages: which calls of drawn sequences are accepted.
-from desk import BLANK, MARK, NEW, OLD, Page, add, back, forward, fresh, in_force, mark, marks_in_force, opening, other, record
+from calls import BLANK, MARK, NEW, OLD, Page, add, back, forward, fresh, in_force, mark, marks_in_force, opening, other, record
 from draws import after
 from paper import FORMS, MARKS, RULES
 from sheets import CASE2_RULE

@@ -1,5 +1,5 @@
 # Foretells crates/try_records: records that are no sheet, and some that are.
-from desk import NEW, OLD, add, back, forward, mark, on, other, page_of
+from calls import NEW, OLD, add, back, forward, mark, on, other, page_of
 from draws import WORD
 from paper import MARKS, RULES, top
 from sheets import BLANK_SHEET, CASE2_RULE, accepted, added, ask_refused, gone_back, marked, opened, refused

@@ -1,5 +1,5 @@
 # Foretells crates/try_waiting: what waits after steps back, against what the program expects.
-from desk import NEW, OLD, add, back, forward, on, open_on, other
+from calls import NEW, OLD, add, back, forward, on, open_on, other
 from sheets import CASE2_RULE, accepted, added, gone_back, gone_forward, marked, opened, refused
 from tally import Tally
 
