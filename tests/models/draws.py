@@ -94,7 +94,7 @@ def taken(rule):
 
 def corner(w, i):
     half = 1 << (w - 1)
-    return [0, 1 & top(w), half - 1, half, top(w) - 1, top(w)][min(i, 5)]
+    return [0, 1, half - 1, half, top(w) - 1, top(w)][i]
 
 
 def few_drawn(seed, w, n):

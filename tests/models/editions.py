@@ -1,6 +1,6 @@
 # What try_editions and try_wide count: sheets asked in each edition that has their width.
 from calls import NEW, OLD, accepted
-from paper import BITS, answer, top
+from paper import BITS, NONE, RULES, answer, buffer, top
 from tally import Split, Tally
 
 
@@ -41,17 +41,18 @@ def lines(name, sheets):
         both.line(name + " in both")
 
 
-# What is right of "x is 0" and "x is odd" at width 64, six expectations that are wrong in a number, and answers of two widths.
+# What is right of "x is 0" and "x is odd" at width 64, and in a number each wrong: the verdict, the smallest, the largest, how many links, a
+# number of a link, and one after the links; and answers of two widths.
 def known():
     tally = Tally()
-    said = answer(64, [(6, 0, 0, 0), (7, 0, 1, 1)])
-    kept, links = (0, 0, 0), [(0, 0, 255), (1, top(64), 0)]
-    tally.one(said == (kept, links))
-    for wrong in [(1, 0, 0), (0, 1, 0), (0, 0, 1)]:
-        tally.one(said == (wrong, links))
-    tally.one(len(said[1]) == 1)
-    tally.one(said == (kept, [(0, 1, 255), links[1]]))
-    # A number that is written in the last place of a buffer for 801 links.
-    tally.one(3 * len(said[1]) == 3 * 801)
+    lent = 3 * (4 * RULES + 1)
+    kept, links = answer(64, [(6, 0, 0, 0), (7, 0, 1, 1)])
+    said = kept, len(links), buffer(links, lent)
+    right = buffer([(0, 0, BITS), (1, top(64), 0)], lent)
+    for wrong in [(0, 0, 0), (1, 0, 0), (0, 1, 0), (0, 0, 1)]:
+        tally.one(said == (wrong, 2, right))
+    tally.one(said == (NONE, 1, right))
+    tally.one(said == (NONE, 2, right[:1] + [1] + right[2:]))
+    tally.one(said == (NONE, 2, right[:-1] + [0]))
     tally.one(answer(32, []) == answer(33, []))
     return tally

@@ -149,6 +149,15 @@ def chain(w, rules, sets):
     return links
 
 
+# What a lent buffer holds after asking: "three a link", and "numbers after the last link stay untouched".
+UNTOUCHED = None
+
+
+def buffer(links, lent):
+    numbers = [number for link in links for number in link]
+    return numbers + [UNTOUCHED] * (lent - len(numbers))
+
+
 # ---- Wide words: a sum that wraps is, on each of two stretches of words, x and a fixed whole number.
 
 

@@ -1,7 +1,7 @@
 # Foretells crates/try_batch: the number and the place that the batch call answers, against those that the program expects.
 from calls import NEW, OLD, batch
 from draws import WORD
-from paper import RULES, top
+from paper import RULES, buffer, top
 from sheets import CASE2_RULE
 from tally import Tally
 
@@ -80,9 +80,8 @@ def known():
         (number, kept, links), place = batch(4, edition, alike[:1], LENT)
         for mine, wrong in [(number, 9), (place, 0), (number, 9), *zip(kept, (1, 12, 13)), (len(links), 1), (place, 0)]:
             tally.one(mine == wrong)
-        # Every number that no link fills is as it was lent, which is not 0.
-        for at in range(LENT):
-            tally.one(at < 3 * len(links) and links[at // 3][at % 3] == 0)
+        for mine in buffer(links, LENT):
+            tally.one(mine == 0)
     return tally
 
 

@@ -56,29 +56,33 @@ def word(w, i):
     return corners[i] if i < 6 else drawn & top(w) if i < 11 else drawn
 
 
-# The word found has the bits, and from beyond it the way back passes p.
-def nearest(w, found, back, mask, value, p, step):
-    if found is None:
-        return back(w, mask, value, top(w) if step == 1 else 0) is None or (back(w, mask, value, top(w) if step == 1 else 0) - p) * step < 0
-    beyond = found - step
-    again = back(w, mask, value, beyond) if 0 <= beyond <= top(w) else None
-    return found & mask == value and (found - p) * step >= 0 and (again is None or (again - p) * step < 0)
-
-
 # Each of sixteen words as the mask, as the value and as p. Upwards the mask may reach past the top word.
-def wide(way, step):
+def wide(way):
     tally = Tally()
     for w in (31, 32, 63, 64):
-        for i in range(4096):
-            mask = word(w, i % 16) & (top(w) if step == -1 else top(64))
+        for i in range(16**3):
+            mask = word(w, i % 16) & top(64 if way == UP else w)
             value = word(w, i // 16 % 16) & mask
             p = word(w, i // 256) & top(w)
-            if value > top(w):
-                tally.one(way(w, mask, value, p) is None)
-            else:
-                found = way(w, mask & top(w), value, p)
-                tally.one(found == way(w, mask, value, p) and nearest(w, found, prev_with if step == 1 else next_with, mask & top(w), value, p, step))
+            tally.one(way[0](w, mask, value, p) == nearest(way, w, mask, value, p))
     return tally
+
+
+# The smallest word with the bits that is not below p, or the largest that is not above it, by halving: of the words with the bits, number k
+# has the bits of k where no bit is fixed, so that a larger number has a larger word.
+def nearest(way, w, mask, value, p):
+    free = [1 << k for k in range(w) if not mask >> k & 1]
+    if value > top(w):
+        return None
+    found = value if way == DOWN else value | sum(free)
+    if found > p if way == DOWN else found < p:
+        return None
+    for bit in reversed(free):
+        if way == DOWN and found | bit <= p:
+            found |= bit
+        if way == UP and found ^ bit >= p:
+            found ^= bit
+    return found
 
 
 # Wrong expectations on the odd words of width 4.
@@ -96,6 +100,6 @@ sheets(UP).line("next")
 sheets(DOWN).line("prev")
 small(UP, 1).line("small next")
 small(DOWN, 0).line("small prev")
-wide(next_with, 1).line("wide next")
-wide(prev_with, -1).line("wide prev")
+wide(UP).line("wide next")
+wide(DOWN).line("wide prev")
 known().line("known")

@@ -1,7 +1,10 @@
 # Foretells crates/try_chains: how many sheets come to none, one and many.
 from draws import CASE8, CASES, drawn_sheet, lawful, numbered, rule_count, seeds
-from paper import answer
+from paper import RULES, answer, buffer
 from tally import Split, Tally
+
+# The numbers of a full sheet's buffer.
+LENT = 3 * (4 * RULES + 1)
 
 
 def sheet(split, w, rules):
@@ -46,20 +49,21 @@ def paper():
     return split
 
 
-# Case 8 with wrong expectations: the verdict, the smallest, the largest, the number of links, a number of a link, and one written after them.
+# Case 8 with wrong expectations: the verdict, the smallest, the largest, the number of links, a number of a link, and one after the links.
 def known():
     tally = Tally()
     w, rules, _, kept, links = CASES[CASE8]
     said, written = answer(w, rules)
     for k in range(3):
-        wrong = list(kept)
-        wrong[k] ^= 1
-        tally.one(said == tuple(wrong))
+        tally.one(said == turned(kept, k))
     tally.one(len(written) == len(links) ^ 1)
-    tally.one(written[0][1] == links[0][1] ^ 1)
-    # A chain of two links fills six numbers, and no more.
-    tally.one(3 * len(written) == 7)
+    tally.one(buffer(written, LENT) == turned(buffer(links, LENT), 1))
+    tally.one(buffer(written, LENT) == buffer(links, LENT - 1) + [0])
     return tally
+
+
+def turned(numbers, k):
+    return numbers[:k] + type(numbers)([numbers[k] ^ 1]) + numbers[k + 1 :]
 
 
 single().verdicts("single")

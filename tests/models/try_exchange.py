@@ -1,6 +1,7 @@
 # Foretells crates/try_exchange: the paper's exchange as calls, against what the paper says of cases 2 and 8.
 from calls import NEW, OLD, add, ask_on, back, mark, on, open_on
 from draws import CASE2, CASE8, CASES
+from paper import UNTOUCHED, buffer
 from sheets import BLANK_SHEET, CASE2_RULE, accepted, added, gone_back, marked, opened, refused
 from tally import Tally
 
@@ -16,9 +17,17 @@ def asked(tally, sheet, case):
     number, said, written = ask_on(sheet, LENT)
     tally.one((number, said, len(written)) == (0, kept, len(links)))
     if links:
-        for mine, right in zip(sum(written, ()), sum(links, ())):
-            tally.one(mine == right)
-        tally.one(len(written) <= len(links))
+        same_links(tally, buffer(written, LENT), links)
+        tally.one(untouched(buffer(written, LENT), 3 * len(links)))
+
+
+def same_links(tally, numbers, links):
+    for mine, right in zip(numbers, buffer(links, 3 * len(links))):
+        tally.one(mine == right)
+
+
+def untouched(numbers, start):
+    return all(number is UNTOUCHED for number in numbers[start:])
 
 
 def exchange():
@@ -40,14 +49,12 @@ def exchange():
     return tally
 
 
-# Case 2 answered as case 3; the six numbers of case 8's links in a buffer that was not touched; and a buffer whose last number is written.
+# Case 2 answered as case 3; a buffer that no link of case 8 was written to; and a buffer of which the last number was written to.
 def known():
     tally = Tally()
-    untouched = (1 << 64) - 1
     asked(tally, added(opened(4), CASE2_RULE), CASE2 + 1)
-    for right in sum(CASES[CASE8][4], ()):
-        tally.one(untouched == right)
-    tally.one(0 == untouched)
+    same_links(tally, buffer([], LENT), CASES[CASE8][4])
+    tally.one(untouched([0] * LENT, LENT - 1))
     return tally
 
 
