@@ -40,11 +40,12 @@ def part(k, interval, bit):
     return (low - bit * half, high - bit * half) if low <= high else None
 
 
-# The smallest or the largest result, as `wanted` is 0 or 1.
+# The smallest or the largest result, as `wanted` is 0 or 1. The bits above the highest at which two ends differ are those of all words.
 def extreme(w, op, x, y, wanted):
-    made = 0
-    pairs = {(x, y)}
-    for k in range(w, 0, -1):
+    k = (x[0] ^ x[1] | y[0] ^ y[1]).bit_length()
+    made = result(w, op, x[0], y[0]) >> k
+    pairs = {(low_bits(k, x), low_bits(k, y))}
+    for k in range(k, 0, -1):
         found = {0: set(), 1: set()}
         for i, j in pairs:
             for a in (0, 1):
@@ -56,6 +57,10 @@ def extreme(w, op, x, y, wanted):
         made = 2 * made + bit
         pairs = found[bit]
     return made
+
+
+def low_bits(k, interval):
+    return interval[0] & top(k), interval[1] & top(k)
 
 
 def cut(i, j):
@@ -114,11 +119,11 @@ def net_refusal(net):
 
 
 # The words after a join, or None where a cut is empty. "A join that names a word twice cuts it by all its results."
-@lru_cache(None)
-def joined(w, words, one):
+@lru_cache(1 << 16)
+def joined(w, words, one, span):
     op, h, x, y = one
     no_y = (0, 0)
-    _, empty, *results = join(w, op, words[h], words[x], no_y if op == "not" else words[y])
+    _, empty, *results = join(w, op, words[h], words[x], no_y if op == "not" else words[y], span)
     after = list(words)
     for place, new in zip(places(one), results):
         after[place] = cut(after[place], new)
@@ -127,7 +132,7 @@ def joined(w, words, one):
 
 
 # How it ends, the steps used, and the words.
-def run(net, pay):
+def run(net, pay, span=span):
     number = net_refusal(net)
     if number:
         return number, 0, net.words
@@ -139,7 +144,7 @@ def run(net, pay):
             return "steady", steps, words
         if steps == pay:
             return "spent", steps, words
-        after = joined(net.width, words, net.joins[steps % net.joined])
+        after = joined(net.width, words, net.joins[steps % net.joined], span)
         steps += 1
         # "A step that ends in "empty" is counted and leaves the intervals from before it."
         if after is None:

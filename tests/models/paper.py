@@ -307,10 +307,10 @@ def stretched_chain(w, rules, bits):
     return links
 
 
-# ---- K3: "says yes exactly when", of a sheet whose rules are met by these sets of words
+# ---- K3: "says yes exactly when". Whether some word of a link speaks against its reason is told by `against`, one of the two below.
 
 
-def accepts(w, rules, sets, numbers):
+def accepts(w, rules, numbers, against):
     # "A length that isn't a multiple of three gets no." "the list isn't empty"
     if len(numbers) % 3 != 0 or not numbers:
         return False
@@ -324,16 +324,33 @@ def accepts(w, rules, sets, numbers):
         if end + 1 < first:
             return False
         end = max(end, last)
-        # "either the number of a rule in force, not of form 7, which every word of the link fails, or 255 where no word of the link meets
-        # all form 7 rules"
-        met = from_to(first, last)
-        if reason == BITS:
-            for i, rule in enumerate(rules):
-                if rule[0] == 7:
-                    met &= sets[i]
-        elif reason < len(rules) and rules[reason][0] != 7:
-            met &= sets[reason]
-        if met:
+        # "either the number of a rule in force, not of form 7, which every word of the link fails, or 255 where no word of the link meets all
+        # form 7 rules"
+        if reason != BITS and (reason >= len(rules) or rules[reason][0] == 7):
+            return False
+        if against(first, last, reason):
             return False
     # "the largest end is the top word"
     return end == top(w)
+
+
+# By the sets of the words that meet each rule.
+def in_sets(w, rules, sets):
+    bits = top(1 << w)
+    for rule, one in zip(rules, sets):
+        if rule[0] == 7:
+            bits &= one
+    return lambda first, last, reason: from_to(first, last) & (bits if reason == BITS else sets[reason]) != 0
+
+
+# From stretch to stretch.
+def in_stretches(w, rules):
+    bits = fixed(rules)
+
+    def against(first, last, reason):
+        if reason == BITS:
+            word = next_with(w, *bits, first) if bits else None
+            return word is not None and word <= last
+        return any(a <= last and first <= b for a, b in stretches(w, rules[reason]))
+
+    return against

@@ -1,7 +1,7 @@
 # Sheets that the programs of calls make, as crates/trial_calls and crates/trial_lists have them, and what they look at in an answer.
 from calls import BLANK, OLD, add, ask_on, back, forward, mark, on, open_on, record
 from draws import CASE2, CASES
-from paper import MARKS, NONE, RULES
+from paper import MARKS, NONE, RULES, top
 
 CASE2_RULE = CASES[CASE2][1][0]
 BLANK_SHEET = record(BLANK)
@@ -58,3 +58,9 @@ def refused(answer, number, was):
 # Asking is refused with the number where one number too few for one rule is lent.
 def ask_refused(sheet, number):
     return ask_on(sheet, 14) == (number, NONE, [])
+
+
+# One rule more than a sheet takes, of which each forbids one part of the words.
+def parts(w):
+    last = top(w) // RULES
+    return [(3, 1, (i + 1) * (last + 1) & top(w), last) for i in range(RULES + 1)]

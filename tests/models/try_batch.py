@@ -2,7 +2,7 @@
 from calls import NEW, OLD, batch
 from draws import WORD
 from paper import RULES, buffer, top
-from sheets import CASE2_RULE
+from sheets import CASE2_RULE, parts
 from tally import Tally
 
 # One rule more than a sheet takes; and the numbers of a buffer for a full sheet.
@@ -10,12 +10,6 @@ MOST = RULES + 1
 LENT = 3 * (4 * RULES + 1)
 
 alike = [CASE2_RULE] * MOST
-
-
-# Rules of which each forbids one part of the words.
-def parts(w):
-    last = top(w) // RULES
-    return [(3, 1, (i + 1) * (last + 1) & top(w), last) for i in range(MOST)]
 
 
 def with_rule(place, rule):

@@ -1,7 +1,7 @@
 # Foretells crates/try_checker: chains as asking writes them, changed at every place, and drawn lists, by what K3's check says of each.
 from calls import NEW, OLD, accepted
 from draws import CASE8, CASES, SPREAD, WORD, after, drawn_sheet, lawful, numbered, rule_count, seeds
-from paper import BITS, NARROW, accepts, answer, words
+from paper import BITS, NARROW, accepts, answer, in_sets, words
 from tally import Split, Tally
 
 # The check reads nothing of the edition: a list gets the same answer in both.
@@ -60,18 +60,19 @@ def sheet(counts, w, rules, seed, wrong=False):
     if not all(accepted(w, edition, rules) for edition in EDITIONS):
         return
     sets = [words(w, rule) for rule in rules]
+    against = in_sets(w, rules, sets)
     _, links = answer(w, rules)
     if not links:
         counts.some += len(EDITIONS)
-        counts.one("fitting", accepts(w, rules, sets, drawn_list(seed, len(rules), w)), wrong)
+        counts.one("fitting", accepts(w, rules, drawn_list(seed, len(rules), w), against), wrong)
         return
     counts.none += len(EDITIONS)
     chain = [number for link in links for number in link]
     for kind, numbers in changed(chain):
-        counts.one(kind, accepts(w, rules, sets, numbers), wrong)
+        counts.one(kind, accepts(w, rules, numbers, against), wrong)
     # The sheet without its last rule; and "so does a record that is no sheet", the one with another verdict kept.
     if rules:
-        counts.one("other", accepts(w, rules[:-1], sets[:-1], chain), wrong)
+        counts.one("other", accepts(w, rules[:-1], chain, in_sets(w, rules[:-1], sets[:-1])), wrong)
     counts.one("no sheet", False, wrong)
 
 
