@@ -32,9 +32,19 @@ def numbered(i, w):
     return 1 + form, sense, i % n, i // n % n
 
 
+# The least number past the forms.
+NO_FORM = FORMS + 1
+
+
 def negated(rule):
     form, sense, c1, c2 = rule
     return form, sense ^ 1, c1, c2
+
+
+# The rule without the constant that it does not use: "Forms 4, 5 and 6 use c1 only".
+def used(rule):
+    form, sense, c1, c2 = rule
+    return (form, sense, c1, 0) if form in (4, 5, 6) else rule
 
 
 # What the leaves take: constants that are words, and form 7 as written.
@@ -84,12 +94,8 @@ FEW = 6
 
 # The rule, changed where a sheet would refuse it.
 def taken(rule):
-    form, sense, c1, c2 = rule
-    if form in (4, 5, 6):
-        return form, sense, c1, 0
-    if form == 7:
-        return form, 0, c1, c1 & c2
-    return rule
+    form, _, c1, c2 = rule
+    return (form, 0, c1, c1 & c2) if form == 7 else used(rule)
 
 
 def corner(w, i):

@@ -1,6 +1,6 @@
 # Foretells crates/try_batch: the number and the place that the batch call answers, against those that the program expects.
 from calls import NEW, OLD, batch
-from draws import WORD
+from draws import NO_FORM, WORD
 from paper import RULES, buffer, top
 from sheets import CASE2_RULE, parts
 from tally import Tally
@@ -45,7 +45,7 @@ def editions():
 
 def rules():
     tally = Tally()
-    wrong = [(3, (9, 0, 0, 0)), (4, (7, 1, 0, 0)), (5, (1, 0, 16, 0)), (5, (6, 0, 0, 1))]
+    wrong = [(3, (NO_FORM, 0, 0, 0)), (4, (7, 1, 0, 0)), (5, (1, 0, 16, 0)), (5, (6, 0, 0, 1))]
     wrong += [(5, (7, 0, 6, 1)), (5, (7, 0, 1, 2)), (5, (7, 0, 7, 8))]
     for edition in (OLD, NEW):
         for place in range(5):

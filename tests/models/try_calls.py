@@ -1,5 +1,6 @@
 # Foretells crates/try_calls: case 13 and the refusals of marks, of steps and of the blank sheet, against what the program expects.
 from calls import NEW, OLD, add, ask_on, back, forward, mark, on, open_on
+from draws import NO_FORM
 from paper import MARKS
 from sheets import BLANK_SHEET, CASE2_RULE, accepted, added, all_but_one, all_marks, ask_refused, gone_back, gone_forward, marked, opened, refused
 from tally import Tally
@@ -26,7 +27,7 @@ def on_blank(tally, blank):
 
 # Case 13, and the bits of form 7 outside its mask (K4).
 def rules(tally, sheet):
-    for number, rule in [(3, (9, 0, 0, 0)), (5, (1, 0, 16, 0)), (5, (1, 0, 0, 16)), (5, (7, 0, 6, 1)), (5, (7, 0, 1, 2)), (5, (7, 0, 7, 8))]:
+    for number, rule in [(3, (NO_FORM, 0, 0, 0)), (5, (1, 0, 16, 0)), (5, (1, 0, 0, 16)), (5, (7, 0, 6, 1)), (5, (7, 0, 1, 2)), (5, (7, 0, 7, 8))]:
         tally.one(refused(adds(sheet, rule), number, sheet))
     for rule in [(1, 0, 15, 0), (1, 0, 0, 15), (7, 0, 6, 6)]:
         tally.one(accepted(adds(sheet, rule)))

@@ -1,6 +1,6 @@
 # Foretells crates/try_checker: chains as asking writes them, changed at every place, and drawn lists, by what K3's check says of each.
 from calls import NEW, OLD, accepted
-from draws import CASE8, CASES, SPREAD, WORD, after, drawn_sheet, lawful, numbered, rule_count, seeds
+from draws import CASE8, CASES, SPREAD, WORD, after, drawn_sheet, lawful, numbered, rule_count, seeds, used
 from paper import BITS, NARROW, accepts, answer, in_sets, words
 from tally import Split, Tally
 
@@ -45,12 +45,6 @@ def drawn_list(seed, n, w):
         reason = BITS if s & 3 == 0 else (s >> 8) % (n + 1)
         numbers.append(0 if i == 0 else reason if i % 3 == 2 else word)
     return numbers
-
-
-# "Forms 4, 5 and 6 use c1 only", and are accepted where c2 is 0.
-def used(rule):
-    form, sense, c1, c2 = rule
-    return (form, sense, c1, 0) if form in (4, 5, 6) else rule
 
 
 def sheet(counts, w, rules, seed, wrong=False):

@@ -39,7 +39,7 @@ def anew(seed):
 
 
 def drawn_rule(seed, more, w):
-    form = seed // 16 % 16 if seed % 16 == 0 else 1 + seed // 16 % FORMS
+    form = seed // 16 % (2 * FORMS) if seed % 16 == 0 else 1 + seed // 16 % FORMS
     c1 = constant(seed // 0x10000, more, w)
     return form, drawn_sense(form, seed // 0x1000), c1, second(form, seed // 0x100000000, after(more), w, c1)
 

@@ -1,5 +1,6 @@
 # Foretells crates/try_waiting: what waits after steps back, against what the program expects.
 from calls import NEW, OLD, add, back, forward, on, open_on, other
+from draws import NO_FORM
 from sheets import CASE2_RULE, accepted, added, gone_back, gone_forward, marked, opened, refused
 from tally import Tally
 
@@ -35,7 +36,7 @@ def emptied(tally, waits):
 # What is refused does not.
 def left(tally, waits, before):
     foreign = other(waits.edition)
-    for rule in [(9, 0, 0, 0), (1, 2, 0, 0), (1, 0, 16, 0)]:
+    for rule in [(NO_FORM, 0, 0, 0), (1, 2, 0, 0), (1, 0, 16, 0)]:
         leaves(tally, on(added(waits, rule), forward), before)
     leaves(tally, on(on(waits, add, foreign, CASE2_RULE)[1], forward), before)
     leaves(tally, on(open_on(waits, 65, foreign)[1], forward), before)
