@@ -17,7 +17,7 @@ def drawn(seed, page):
     more = after(seed)
     kind = seed % 256
     if kind < 64 if page.width == 0 else kind == 0:
-        return opening, *anew(more)
+        return (opening, *anew(more))
     if page.pile and seed // 0x1000 % 4 != 0:
         return (back,) if seed // 0x10000 % 2 == 0 else (forward,)
     kind = seed // 64 % 64
