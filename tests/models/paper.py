@@ -69,8 +69,8 @@ def searched_words(w, rule):
     return sum(1 << x for x in range(1 << w) if meets(w, rule, x))
 
 
-# The words that meet a rule. In forms 1, 2, 3 and 8 only the sum of x and a constant is looked at, so that one search serves for all rules
-# that are the same but for where the wheel of words starts: x meets the rule where x + turn meets the one without that constant.
+# The words that meet a rule. Forms 1, 2, 3 and 8 look only at the sum of x and a constant, so that one search serves for many rules: x meets the
+# rule where x + turn meets the one without that constant. (try_rules.py holds this to the meaning of every rule at the widths 1 to 4.)
 def words(w, rule):
     form, sense, c1, c2 = rule
     n = 1 << w
@@ -167,7 +167,8 @@ def summed(w, c):
     return [piece for piece in [(0, n - c - 1, c), (n - c, n - 1, c - n)] if piece[0] <= piece[1]]
 
 
-# The words as written that meet the rule, as stretches (first, last) in rising order, none empty and no two in touch.
+# The words that meet the rule as written, as stretches (first, last) in rising order, none empty and no two in touch. (try_rules.py and
+# try_editions.py hold them to the search.)
 def held_stretches(w, rule):
     form, _, c1, c2 = rule
     n = 1 << w

@@ -15,10 +15,6 @@ class Tally:
     def agreed(self, count):
         self.compared += count
 
-    def plus(self, more):
-        self.compared += more.compared
-        self.differ += more.differ
-
     def line(self, name):
         print(f"{name} {self.compared} compared, {self.differ} differ")
 

@@ -1,11 +1,10 @@
 # Foretells crates/try_net_speed: 400 nets of 16 words and 32 joins at 64 bits, each paid 25 steps, and how many steps are spent.
 from draws import SPREAD, after
-from joins import JOINS, WORDS, Net, result, run, wide_span
+from joins import JOINS, OPS, WORDS, Net, result, run, wide_span
 
 # Each join has the words of the two places before its own.
-OPERATIONS = ["not", "and", "or", "xor"]
 PLACES = [2 + k % 14 for k in range(JOINS)]
-ALL = tuple((OPERATIONS[h % 4], h, h - 1, h - 2) for h in PLACES)
+ALL = tuple((OPS[h % 4], h, h - 1, h - 2) for h in PLACES)
 
 
 # Up to 15 words on each side of words that satisfy all joins.
@@ -17,7 +16,7 @@ def words(before, word):
     out = []
     for k in range(WORDS):
         out.append(around(before))
-        before, word = word, result(64, OPERATIONS[(2 + k) % 4], word, before)
+        before, word = word, result(64, OPS[(2 + k) % 4], word, before)
     return tuple(out)
 
 

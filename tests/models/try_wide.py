@@ -1,6 +1,6 @@
 # Foretells crates/try_wide: sheets of few rules at wide widths, in each edition that has the width.
 import editions
-from draws import FEW, after, corner, few_drawn, seeds, taken
+from draws import FEW, corner, few_drawn, seeds, taken
 from paper import FORMS, half, top
 
 # Eight forms in two senses with two of six corners; every eleventh of them stands second in a pair.
