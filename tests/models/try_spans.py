@@ -1,6 +1,6 @@
-# Foretells crates/try_spans: how many joins are tried. At small widths the model joins by search and bit by bit.
+# Foretells crates/try_spans: joins of intervals, which the model makes by search and bit by bit.
 from draws import after
-from joins import OPS, join, wide_span
+from joins import OPS, join, span, wide_span
 from paper import top
 from tally import Tally
 
@@ -59,16 +59,33 @@ def drawn():
     return tally
 
 
-# 0, half, the top word and their neighbours as ends, with three intervals of h: how many there are. Both sides of the program are to say what
-# the paper says of them.
+# 0, half, the top word and their neighbours as ends, with three intervals of h, at wide widths. These words have a highest bit, a lowest, and
+# between them bits that agree, and so have the smallest and the largest results: a search at width 5 finds them, against bit by bit.
 def corners():
     tally = Tally()
     for w in (31, 32, 63, 64):
         half = top(w) // 2 + 1
         some = intervals([0, 1, half - 1, half, half + 1, top(w) - 1, top(w)])
         for h in [(0, top(w)), (half, top(w)), (1, half)]:
-            tally.agreed(len(some) * len(some) * len(OPS))
+            for x in some:
+                for y in some:
+                    for op in OPS:
+                        tally.one(join(w, op, h, x, y, five_bits) == join(w, op, h, x, y, wide_span))
     return tally
+
+
+def five_bits(w, op, x, y):
+    low, high = span(5, op, (narrowed(w, x[0]), narrowed(w, x[1])), (narrowed(w, y[0]), narrowed(w, y[1])))
+    return widened(w, low), widened(w, high)
+
+
+def narrowed(w, word):
+    return word >> (w - 1) << 4 | 7 * (word >> 1 & 1) << 1 | word & 1
+
+
+def widened(w, word):
+    assert word >> 1 & 7 in (0, 7)
+    return word >> 4 << (w - 1) | top(w - 2) * (word >> 1 & 1) << 1 | word & 1
 
 
 # Ends of which some are above the top word of width 3, or in the wrong order, at a width that is right and two that are not.
@@ -92,6 +109,7 @@ def known():
     return tally
 
 
+# The program has two ways to expect the pairs.
 pairs().line("pairs, word by word:")
 pairs().line("pairs, block by block:")
 triples().line("triples:")
