@@ -19,7 +19,7 @@ UP = next_with, up
 DOWN = prev_with, down
 
 
-# The sets of form 7 rules, by search and by their bits.
+# One form 7 rule or two, by search and by their bits. Downwards only those that a sheet takes, with no bit outside a mask, are tried.
 def sheets(way):
     by_bits, search = way
     tally = Tally()
@@ -27,6 +27,8 @@ def sheets(way):
         n = 1 << w
         rules = [(7, 0, i % n, i // n) for i in range(n * n)]
         for pair in [(rule,) for rule in rules] + ([(a, b) for b in rules for a in rules] if w < 4 else []):
+            if way == DOWN and any(c2 & ~c1 for _, _, c1, c2 in pair):
+                continue
             members = top(n)
             for rule in pair:
                 members &= words(w, rule)

@@ -1,5 +1,6 @@
 # Foretells crates/try_chains: how many sheets come to none, one and many.
-from draws import CASE8, CASES, drawn_sheet, lawful, numbered, rule_count, seeds
+from calls import OLD, accepted
+from draws import CASE8, CASES, drawn_sheet, numbered, rule_count, seeds, used
 from paper import RULES, answer, buffer
 from tally import Split, Tally
 
@@ -7,8 +8,10 @@ from tally import Split, Tally
 LENT = 3 * (4 * RULES + 1)
 
 
+# A sheet whose rules are accepted, with c2 taken away where a form does not use it.
 def sheet(split, w, rules):
-    if all(lawful(w, rule) for rule in rules):
+    rules = [used(rule) for rule in rules]
+    if accepted(w, OLD, rules):
         (verdict, _, _), links = answer(w, rules)
         assert len(links) <= 4 * len(rules) + 1
         split.one(verdict)
