@@ -11,7 +11,8 @@ use Rattle.span.specs.declared.Interval.{Interval}
 use Rattle.net.specs.declared.Ended.the-variants.{Empty, Spent, Steady}
 use Rattle.net.specs.declared.Join.{Join}
 use Rattle.net.specs.declared.step.Stepped.{Stepped}
-use Rattle.net.specs.Run.{Stand, Stop, goes, next, stand, start, steady, stop, turn}
+use Rattle.net.specs.Net.{turn}
+use Rattle.net.specs.Run.{Stand, Stop, goes, next, stand, start, steady, stop}
 use Rattle.net.specs.Step.{stepped}
 
 met : (b : Bool) (x y : Stop) → b ≡ true → cond b x y ≡ x

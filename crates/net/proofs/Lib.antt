@@ -4,6 +4,7 @@ pub mod Every
 pub mod Going
 pub mod Kept
 pub mod Outcome
+pub mod Plain
 pub mod Reached
 pub mod Round
 pub mod Stepping

@@ -18,8 +18,8 @@ use Rattle.net.specs.declared.Ended.the-variants.{Empty, Refused, Spent,
 use Rattle.net.specs.declared.Join.{Join}
 use Rattle.net.specs.declared.Net.{Net}
 use Rattle.net.specs.Demand.{AllIn, Solution, Still, onward, resumed}
-use Rattle.net.specs.Net.{Named, joinAt, refusal, wordAt}
-use Rattle.net.specs.Run.{Stand, Stop, goes, next, number, ran, shown, start, turn, turnedDown, walked}
+use Rattle.net.specs.Net.{Named, joinAt, refusal, turn, wordAt}
+use Rattle.net.specs.Run.{Stand, Stop, goes, next, number, ran, shown, start, turnedDown, walked}
 use Rattle.net.specs.Step.{after, results, stepped}
 use Rattle.net.proofs.Accepted.{Accepted, accepted}
 use Rattle.net.proofs.Cuts.{either-left, shrinks, stays}
@@ -106,7 +106,7 @@ module _ (net : Net) (pay : ℕ) where
       either net pay (λ r. number (r .ended) ≡ refusal net) (λ n. refl)
       (λ z.
       reach (net .width) (net .joins) (net .joined) (λ k s. Unit {0}) (λ o. number (o .how) ≡ refusal net) (λ k s e q h. tt) (λ k s e h. sym z)
-      (λ k s e l h. sym z) (λ s h. sym z) pay (start (net .words)) tt)
+      (λ k s e l h. sym z) (λ s e q h. sym z) pay (start (net .words)) tt)
 
   -- "never above the given number"
   pub within-pay : ran net pay .steps ≤ pay
@@ -115,7 +115,7 @@ module _ (net : Net) (pay : ℕ) where
       either net pay (λ r. r .steps ≤ pay) (λ n. omega arith)
       (λ z.
       reach (net .width) (net .joins) (net .joined) (λ k s. s .steps + k ≡ pay) (λ o. o .at .steps ≤ pay) (λ k s e q h. omega arith)
-      (λ k s e h. omega arith) (λ k s e l h. omega arith) (λ s h. omega arith) pay (start (net .words)) (omega arith))
+      (λ k s e h. omega arith) (λ k s e l h. omega arith) (λ s e q h. omega arith) pay (start (net .words)) (omega arith))
 
   -- a run that ended in "spent" used all that was paid for
   pub spent-all : ran net pay .ended ≡ Spent → ran net pay .steps ≡ pay
@@ -124,7 +124,7 @@ module _ (net : Net) (pay : ℕ) where
       either net pay (λ r. r .ended ≡ Spent → r .steps ≡ pay) (λ n d. absurd (apart refl d))
       (λ z.
       reach (net .width) (net .joins) (net .joined) (λ k s. s .steps + k ≡ pay) (λ o. o .how ≡ Spent → o .at .steps ≡ pay) (λ k s e q h. omega arith)
-      (λ k s e h d. absurd (apart refl d)) (λ k s e l h d. absurd (apart refl d)) (λ s h d. omega arith) pay (start (net .words)) (omega arith))
+      (λ k s e h d. absurd (apart refl d)) (λ k s e l h d. absurd (apart refl d)) (λ s e q h d. omega arith) pay (start (net .words)) (omega arith))
 
   -- "no interval ever grows"
   pub never-grows : (p : ℕ) → Inside (wordAt (ran net pay .words) p) (wordAt (net .words) p)
@@ -137,7 +137,7 @@ module _ (net : Net) (pay : ℕ) where
       (λ k s e q h.
       let j = turn (net .joins) (net .joined) (s .steps) in
       either-left (net .width) j (s .words) (λ vs. Inside (wordAt vs p) (wordAt (net .words) p)) h (inside-again (shrinks (net .width) j (s .words) p) h))
-      (λ k s e h. h) (λ k s e l h. h) (λ s h. h) pay (start (net .words)) (stays (wordAt (net .words) p)))
+      (λ k s e h. h) (λ k s e l h. h) (λ s e q h. h) pay (start (net .words)) (stays (wordAt (net .words) p)))
 
   -- "a steady net is one that no join can change"
   pub steady-still : ran net pay .ended ≡ Steady → (k : ℕ) → k < net .joined → Still (net .width) (joinAt (net .joins) k) (ran net pay .words)
@@ -149,7 +149,7 @@ module _ (net : Net) (pay : ℕ) where
       reach (net .width) (net .joins) (net .joined) (λ k s. Quiet (net .width) (net .joins) (net .joined) s)
       (λ o. o .how ≡ Steady → (k : ℕ) → k < net .joined → Still (net .width) (joinAt (net .joins) k) (o .at .words))
       (λ k s e q h. quiet-next (net .width) (net .joins) (net .joined) s e h) (λ k s e h d. absurd (apart refl d))
-      (λ k s e l h d. all-still (net .width) (net .joins) (net .joined) s e h l) (λ s h d. absurd (apart refl d)) pay (start (net .words))
+      (λ k s e l h d. all-still (net .width) (net .joins) (net .joined) s e h l) (λ s e q h d. absurd (apart refl d)) pay (start (net .words))
       (quiet-start (net .width) (net .joins) (net .joined) (net .words)))
 
   -- "Paying more never changes an "empty" or "steady" answer"; nor a refusal
@@ -208,7 +208,7 @@ module _ (net : Net) (pay : ℕ) where
       let n = turn-named z s q in
       let out = not-named j (results (net .width) j (s .words)) (s .words) p (λ d. omega (arith, n .h)) (λ d. omega (arith, n .x)) (λ d. omega (arith, n .y)) in
       either-left (net .width) j (s .words) (λ vs. wordAt vs p ≡ wordAt (net .words) p) h (out ∙ h))
-      (λ k s e h. h) (λ k s e l h. h) (λ s h. h) pay (start (net .words)) refl)
+      (λ k s e h. h) (λ k s e l h. h) (λ s e q h. h) pay (start (net .words)) refl)
 
   module _ (v : ℕ → ℕ) (a : Solution net v) where
     turn-holds : (s : Stand) → s .quiet < net .joined →
@@ -246,7 +246,7 @@ module _ (net : Net) (pay : ℕ) where
         (λ z.
         reach (net .width) (net .joins) (net .joined) (λ k s. Holds s) (λ o. (o .how ≡ Empty → ⊥) × AllIn (net .count) (o .at .words) v)
         (λ k s e q h. holds-next z s q h) (λ k s e h. absurd (true≢false (sym e ∙ h .full))) (λ k s e l h. (apart refl, h .inside))
-        (λ s h. (apart refl, h .inside)) pay (start (net .words)) (record { full = refl; inside = a .inside; words = accepted z .intervals }))
+        (λ s e q h. (apart refl, h .inside)) pay (start (net .words)) (record { full = refl; inside = a .inside; words = accepted z .intervals }))
 
   -- so where the answer is "empty" there is none
   pub empty-none : ran net pay .ended ≡ Empty → (v : ℕ → ℕ) → Solution net v → ⊥

@@ -19,14 +19,17 @@ told false = inr refl
 module _ (w : ℕ) (js : List Join) (m : ℕ) (P : ℕ → Stand → Type 0) (Q : Stop → Type 0)
     (keeps : (k : ℕ) (s : Stand) → s .empty ≡ false → s .quiet < m → P (suc k) s → P k (next w js m s))
     (by-empty : (k : ℕ) (s : Stand) → s .empty ≡ true → P k s → Q (stop Empty s))
-    (by-steady : (k : ℕ) (s : Stand) → s .empty ≡ false → m ≤ s .quiet → P k s → Q (stop Steady s)) (by-spending : (s : Stand) → P 0 s → Q (stop Spent s)) where
+    (by-steady : (k : ℕ) (s : Stand) → s .empty ≡ false → m ≤ s .quiet → P k s → Q (stop Steady s))
+    (by-spending : (s : Stand) → s .empty ≡ false → s .quiet < m → P 0 s → Q (stop Spent s)) where
   pub reach : (k : ℕ) (s : Stand) → P k s → Q (goes w js m k s)
   reach zero s h =
       ⊎-elim (λ e. subst⁻¹ Q (goes-empty w js m 0 s e) (by-empty 0 s e h))
       (λ e.
       elim (decLe m (s .quiet)) [
         | yes l ↦ subst⁻¹ Q (goes-steady w js m s e 0 l) (by-steady 0 s e l h)
-        | no l ↦ subst⁻¹ Q (goes-spent w js m s e (omega arith)) (by-spending s h)
+        | no l ↦
+            let q : s .quiet < m = omega arith in
+            subst⁻¹ Q (goes-spent w js m s e q) (by-spending s e q h)
       ])
       (told (s .empty))
   reach (suc k) s h =

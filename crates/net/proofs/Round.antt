@@ -11,8 +11,8 @@ use native.Mathlib.Omega.{arith}
 use Rattle.span.specs.declared.Interval.{Interval}
 use Rattle.net.specs.declared.Join.{Join}
 use Rattle.net.specs.Demand.{Still}
-use Rattle.net.specs.Net.{joinAt}
-use Rattle.net.specs.Run.{Stand, next, stand, start, turn}
+use Rattle.net.specs.Net.{joinAt, turn}
+use Rattle.net.specs.Run.{Stand, next, stand, start}
 use Rattle.net.specs.Step.{after, emptied, left, stepped, unchanged}
 use Rattle.net.proofs.Reached.{told}
 use Rattle.net.proofs.Unchanged.{unchanged-equal}

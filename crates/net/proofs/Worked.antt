@@ -8,8 +8,8 @@ use Rattle.span.specs.Join as join
 use Rattle.span.specs.Join.{allCut, allWithin, anyHollow, asGiven, inverted, isWidth, joined, newH, newX, newY, refused, within}
 use Rattle.span.specs.Span.{gives, isFound, largest, result, second, smallest, some, span, wordOf}
 use Rattle.net.specs.Cases.{Case, cases}
-use Rattle.net.specs.Net.{every, fits, named, placeOf, refusal, third}
-use Rattle.net.specs.Run.{goes, next, ran, shown, start, steady, turn, turnedDown, walked}
+use Rattle.net.specs.Net.{every, fits, named, placeOf, refusal, third, turn}
+use Rattle.net.specs.Run.{goes, next, ran, shown, start, steady, turnedDown, walked}
 use Rattle.net.specs.Step.{after, cutAll, cutAt, emptied, left, noWord, results, same, stepped, unchanged}
 
 pub worked : map (λ (c : Case). ran (c .net) (c .pay)) cases ≡ map (λ (c : Case). c .expected) cases

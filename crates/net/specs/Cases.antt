@@ -49,6 +49,11 @@ cases =
     ∷ case 2 (free ∷ free ∷ is 1 ∷ []) (join Not 0 1 0 ∷ join Not 1 2 0 ∷ []) 1 Spent 1 (free ∷ free ∷ is 1 ∷ [])
     ∷ case 2 (free ∷ free ∷ is 1 ∷ []) (join Not 0 1 0 ∷ join Not 1 2 0 ∷ []) 2 Spent 2 (free ∷ is 2 ∷ is 1 ∷ [])
     ∷ case 2 (free ∷ free ∷ is 1 ∷ []) (join Not 0 1 0 ∷ join Not 1 2 0 ∷ []) 9 Steady 5 (is 1 ∷ is 2 ∷ is 1 ∷ [])
+    -- three joins: what the third finds in step 3 reaches the second in step 5 and the first in step 7, and steps 8 to 10 change nothing
+    ∷ case 2 (free ∷ free ∷ free ∷ is 1 ∷ []) (join Not 0 1 0 ∷ join Not 1 2 0 ∷ join Not 2 3 0 ∷ []) 99 Steady 10 (is 2 ∷ is 1 ∷ is 2 ∷ is 1 ∷ [])
+    -- in this order it reaches the others in steps 4 and 5, and steps 6 to 8 change nothing
+    ∷ case 2 (free ∷ free ∷ free ∷ is 1 ∷ []) (join Not 1 2 0 ∷ join Not 0 1 0 ∷ join Not 2 3 0 ∷ []) 7 Spent 7 (is 2 ∷ is 1 ∷ is 2 ∷ is 1 ∷ [])
+    ∷ case 2 (free ∷ free ∷ free ∷ is 1 ∷ []) (join Not 1 2 0 ∷ join Not 0 1 0 ∷ join Not 2 3 0 ∷ []) 99 Steady 8 (is 2 ∷ is 1 ∷ is 2 ∷ is 1 ∷ [])
     -- "A step that ends in "empty" is counted and leaves the intervals from before it": 1 is not NOT 1. The first of these steps meets all
     -- three ends, and empty is the earliest
     ∷ case 2 (is 1 ∷ is 1 ∷ []) (join Not 0 1 0 ∷ []) 1 Empty 1 (is 1 ∷ is 1 ∷ [])

@@ -1,5 +1,6 @@
 pub mod Cases
 pub mod Demand
 pub mod Net
+pub mod Plain
 pub mod Run
 pub mod Step

@@ -2,7 +2,7 @@
 use mathlib.Core.Path.{_≡_}
 use mathlib.Core.Bool.{Bool, true, not, _&&_, cond}
 use mathlib.Core.List.{List}
-use Prim.Native.Nat.{ℕ, zero, suc, _≤_, _<_}
+use Prim.Native.Nat.{ℕ, zero, suc, _%_, _≤_, _<_}
 use lib.Dec.{leb, ltb}
 use lib.ListN.{getD}
 use Rattle.word.specs.Word.{top}
@@ -28,6 +28,10 @@ wordAt ws k = getD ws k (interval 0 0)
 -- the join with a number
 abbrev pub joinAt : List Join → ℕ → Join
 joinAt js k = getD js k (record { op = Not; h = 0; x = 0; y = 0 })
+
+-- of the first m joins, the one whose turn it is after n steps: "in order, round and round"
+unfoldable pub turn : List Join → ℕ → ℕ → Join
+turn js m n = joinAt js (n % m)
 
 -- every number below n passes
 unfoldable pub every : ℕ → (ℕ → Bool) → Bool

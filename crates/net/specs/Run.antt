@@ -1,7 +1,7 @@
--- The plain rule: "one step is one join, in order, round and round".
+-- A route to the plain rule (`Plain`): the same steps, with a count of those in a row that changed nothing; and the answer.
 use mathlib.Core.Bool.{Bool, true, false, cond}
 use mathlib.Core.List.{List}
-use Prim.Native.Nat.{ℕ, zero, suc, _%_}
+use Prim.Native.Nat.{ℕ, zero, suc}
 use lib.Dec.{eqb, leb}
 use Rattle.span.specs.declared.Interval.{Interval}
 use Rattle.net.specs.declared.Answer.{Answer}
@@ -9,7 +9,7 @@ use Rattle.net.specs.declared.Ended.{Ended}
 use Rattle.net.specs.declared.Ended.the-variants.{Empty, Refused, Spent, Steady}
 use Rattle.net.specs.declared.Join.{Join}
 use Rattle.net.specs.declared.Net.{Net}
-use Rattle.net.specs.Net.{joinAt, refusal}
+use Rattle.net.specs.Net.{refusal, turn}
 use Rattle.net.specs.Step.{stepped}
 
 -- where a run stands: the words, the steps used, how many steps in a row, up to here, changed nothing, and whether the last one found
@@ -25,10 +25,6 @@ stand ws n q e = record { words = ws; steps = n; quiet = q; empty = e }
 
 unfoldable pub start : List Interval → Stand
 start ws = stand ws 0 0 false
-
--- of the first m joins, the one whose turn it is after n steps: "in order, round and round"
-unfoldable pub turn : List Join → ℕ → ℕ → Join
-turn js m n = joinAt js (n % m)
 
 -- a step: every one is counted, and those in a row that change nothing
 unfoldable pub next : (w : ℕ) (js : List Join) (m : ℕ) → Stand → Stand

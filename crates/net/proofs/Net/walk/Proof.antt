@@ -5,8 +5,8 @@ use Prim.Native.Nat.{ℕ, _-_, _%_, _≤_, _<_}
 use native.Mathlib.Nat.{mod-lt}
 use native.Mathlib.Omega.{arith}
 use borrow.Author.Needs.{needs}
-use Rattle.net.specs.Net.{JOINS}
-use Rattle.net.specs.Run.{shown, stand, turn, walked}
+use Rattle.net.specs.Net.{JOINS, turn}
+use Rattle.net.specs.Run.{shown, stand, walked}
 use Rattle.net.proofs.Going.{Walk, walk-empty, walk-on, walk-spent, walk-start, walk-steady}
 use Rattle.net.proofs.Net.walk.Statement.{statement}
 use Rattle.net.proofs.Net.walk.Tie as tie
