@@ -65,11 +65,8 @@ second-words And m = m
 second-words Or m = m
 second-words Xor m = m
 
-abbrev not : (h x y : ℕ) → Join
-not h x y = record { op = Not; h = h; x = x; y = y }
-
 -- a NOT gives y back as it came
-y-back : (w : ℕ) (h x y : Interval) → joined w Not h x y .y ≡ y
+pub y-back : (w : ℕ) (h x y : Interval) → joined w Not h x y .y ≡ y
 unfolding joined asGiven allCut newY inverted
 y-back w h x y = go (eqb (refusal w Not h x y) 0) (join.emptied w Not h x y)
   where
@@ -77,22 +74,6 @@ y-back w h x y = go (eqb (refusal w Not h x y) 0) (join.emptied w Not h x y)
     go true true = refl
     go true false = refl
     go false b = refl
-
--- so that a NOT cuts h and x alone
-pub not-cuts-two : (w h x y : ℕ) (ws : List Interval) →
-    let j = not h x y in
-    after w j ws ≡ cutAt x (results w j ws .x) (cutAt h (results w j ws .h) ws)
-unfolding after cutAll third placeOf results
-not-cuts-two w h x y ws =
-    let r = joined w Not (wordAt ws h) (wordAt ws x) (wordAt ws x) in
-    let one = cutAt h (r .h) ws in
-    let two = cutAt x (r .x) one in
-    let once : Inside (wordAt one x) (wordAt ws x) = kept-at narrower x h (r .h) ws (λ e. cut-inside (r .h)) (stays (wordAt ws x)) in
-    let twice : Inside (wordAt two x) (wordAt ws x) = kept-at narrower x x (r .x) one (λ e. cut-inside (r .x)) once in
-    cut-with-outside x (r .y) two (subst⁻¹ (Inside (wordAt two x)) (y-back w (wordAt ws h) (wordAt ws x) (wordAt ws x)) twice)
-  where
-    narrower : Interval → Type 0
-    narrower i = Inside i (wordAt ws x)
 
 module _ (ws : List Interval) (v : ℕ → ℕ) (x y : ℕ) where
   second-in : (op : Op) → In (wordAt ws (placeOf op x y)) (v (placeOf op x y)) → InSecond op (wordAt ws (placeOf op x y)) (v y)

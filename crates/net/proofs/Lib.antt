@@ -1,8 +1,10 @@
 pub mod Accepted
+pub mod Alike
 pub mod Cuts
 pub mod Every
 pub mod Going
 pub mod Kept
+pub mod Leaves
 pub mod Outcome
 pub mod Plain
 pub mod Reached

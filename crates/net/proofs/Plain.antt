@@ -16,8 +16,9 @@ use Rattle.net.specs.declared.Join.{Join}
 use Rattle.net.specs.declared.Net.{Net}
 use Rattle.net.specs.Net.{refusal, turn}
 use Rattle.net.specs.Plain.{QuietFor, Reason, Stops, emptyAt, order, wordsAfter}
-use Rattle.net.specs.Run.{Stand, given, next, ran, shown, start, stop, walked}
+use Rattle.net.specs.Run.{Stand, given, next, number, ran, shown, start, stop, walked}
 use Rattle.net.specs.Step.{emptied, left, stepped, unchanged}
+use Rattle.net.proofs.Outcome.{number-is}
 use Rattle.net.proofs.Reached.{reach, told}
 use Rattle.net.proofs.Unchanged.{unchanged-equal, unchanged-self}
 
@@ -214,3 +215,37 @@ module _ (net : Net) where
     -- so that the plain rule decides the answer
     pub stops-so : refusal net ≡ 0 → {r : Answer} → Stops net pay r → r ≡ ran net pay
     stops-so z a = stops-once a (ran-stops z)
+
+  -- a step that ends in "empty" leaves the intervals from before it
+  stays : (k : ℕ) → emptyAt net (suc k) ≡ true → wordsAfter net (suc k) ≡ wordsAfter net k
+  unfolding wordsAfter emptyAt left
+  stays k e = rw e refl
+
+  -- where a run ends "empty" at step k + 1, paying k gives "spent" with the same words
+  pub one-step-less : (pay k : ℕ) → ran net pay .ended ≡ Empty → ran net pay .steps ≡ suc k → ran net k ≡ given Spent k (ran net pay .words)
+  unfolding Reason order number
+  one-step-less pay k e d = sym (stops-so k z (record { reason = refl; first = first; earlier = earlier; words = words }))
+    where
+      z : refusal net ≡ 0
+      z = sym (number-is net pay) ∙ ap number e
+
+      a : Stops net pay (ran net pay)
+      a = ran-stops pay z
+
+      first : (n : ℕ) → n < k → (o : Ended) → Reason net k n o → ⊥
+      first n l Empty r = a .first n (omega (arith, d, l)) Empty r
+      first n l Steady r = a .first n (omega (arith, d, l)) Steady r
+      first n l Spent r = absurd (omega (arith, l, r))
+      first n l (Refused i) r = r
+
+      earlier : (o : Ended) → order o < 3 → Reason net k k o → ⊥
+      earlier Empty l r = a .first k (omega (arith, d)) Empty r
+      earlier Steady l r = a .first k (omega (arith, d)) Steady r
+      earlier Spent l r = absurd (omega arith)
+      earlier (Refused i) l r = r
+
+      words : ran net pay .words ≡ wordsAfter net k
+      words =
+          a .words
+          ∙ ap (wordsAfter net) d
+          ∙ stays k (subst (λ (n : ℕ). Reason net pay n Empty) d (subst (Reason net pay (ran net pay .steps)) e (a .reason)))

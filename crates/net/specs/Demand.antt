@@ -3,9 +3,13 @@ use mathlib.Core.Path.{_≡_}
 use mathlib.Core.Bool.{false}
 use mathlib.Core.List.{List}
 use Prim.Native.Nat.{ℕ, _<_}
+use lib.ListN.{length}
 use Rattle.span.specs.declared.Interval.{Interval}
+use Rattle.span.specs.declared.Joined.{Joined}
+use Rattle.span.specs.declared.Op.the-variants.{Not}
 use Rattle.span.specs.Interval.{In}
 use Rattle.span.specs.Span.{result}
+use Rattle.net.specs.declared.Answer.{Answer}
 use Rattle.net.specs.declared.Ended.{Ended}
 use Rattle.net.specs.declared.Ended.the-variants.{Empty, Refused, Spent, Steady}
 use Rattle.net.specs.declared.Join.{Join}
@@ -40,3 +44,36 @@ resumed Spent on o = on
 -- so many steps more
 unfoldable pub onward : (w : ℕ) (js : List Join) (m more : ℕ) → Stop → Stop
 onward w js m more o = resumed (o .how) (goes w js m more (o .at)) o
+
+-- two joins that are read alike: "a NOT's y isn't read"
+pub record SameJoin (j k : Join) : Type 0 where
+  pub op : j .op ≡ k .op
+  pub h : j .h ≡ k .h
+  pub x : j .x ≡ k .x
+  pub y : (j .op ≡ Not → ⊥) → j .y ≡ k .y
+
+-- as many places, and the same intervals in the first n
+pub record SameWords (n : ℕ) (ws vs : List Interval) : Type 0 where
+  pub places : length ws ≡ length vs
+  pub words : (k : ℕ) → k < n → wordAt ws k ≡ wordAt vs k
+
+-- a net with other words and joins in its places
+abbrev pub refilled : Net → List Interval → List Join → Net
+refilled net vs ks = record { width = net .width; words = vs; count = net .count; joins = ks; joined = net .joined }
+
+-- these differ from its own at most where nothing is in use
+pub record Alike (net : Net) (vs : List Interval) (ks : List Join) : Type 0 where
+  pub words : SameWords (net .count) (net .words) vs
+  pub joins : (k : ℕ) → k < net .joined → SameJoin (joinAt (net .joins) k) (joinAt ks k)
+
+-- two answers that differ at most in words not in use
+pub record SameAnswer (n : ℕ) (r s : Answer) : Type 0 where
+  pub ended : r .ended ≡ s .ended
+  pub steps : r .steps ≡ s .steps
+  pub words : SameWords n (r .words) (s .words)
+
+-- a is among the results of a join for the word at p, all of them where it names that word several times
+pub record InResults (j : Join) (r : Joined) (p a : ℕ) : Type 0 where
+  pub h : p ≡ j .h → In (r .h) a
+  pub x : p ≡ j .x → In (r .x) a
+  pub y : (j .op ≡ Not → ⊥) → p ≡ j .y → In (r .y) a
