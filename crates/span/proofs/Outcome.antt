@@ -2,24 +2,24 @@
 -- outside its old one, since a cut only takes words away; and no solution is lost, since h is a result of its arguments, and x and y
 -- are results of the inverse operation. Assumes nothing.
 use mathlib.Core.Path.{_≡_, refl, sym, ap, subst, _∙_}
-use mathlib.Core.Bool.{Bool, true, false, true≢false}
+use mathlib.Core.Bool.{Bool, true, false, cond, true≢false}
 use Prim.Native.Nat.{ℕ, _-_}
 use native.Mathlib.Decide.{ℕ-discrete}
 use native.Mathlib.Omega.{arith}
 use borrow.Author.Tests.{eq-eqb, le-ltb, ne-eqb}
-use lib.Bits.{bitXor}
+use lib.Bits.{bitXor, xor-comm}
 use Rattle.word.specs.Word.{top}
 use Rattle.span.specs.declared.Interval.{Interval}
 use Rattle.span.specs.declared.Joined.{Joined}
 use Rattle.span.specs.declared.Op.{Op}
 use Rattle.span.specs.declared.Op.the-variants.{And, Not, Or, Xor}
-use Rattle.span.specs.Demand.{Exact, InSecond, Inside, Solves}
+use Rattle.span.specs.Demand.{CutBy, Cuts, CutsX, CutsY, Exact, GivesX, GivesY, InSecond, Inside, Solves}
 use Rattle.span.specs.Interval.{In, Words, cut, hollow}
 use Rattle.span.specs.Join.{allCut, anyHollow, asGiven, emptied, inverted, joined, newH, newX, newY, refusal}
 use Rattle.span.specs.Span.{result, second, span}
 use Rattle.span.proofs.Exact.{exact-unique, span-exact}
 use Rattle.span.proofs.Joining.{Accepted, accepted}
-use Rattle.span.proofs.Ops.{not-turns, xor-back, xor-back-left}
+use Rattle.span.proofs.Ops.{xor-back, xor-back-left}
 
 same : (i : Interval) → Inside i i
 same i = record { low = omega arith; high = omega arith }
@@ -35,6 +35,29 @@ in-cut p q = record { low = omega arith; high = omega arith }
 not-hollow : {i : Interval} {a : ℕ} → In i a → hollow i ≡ false
 unfolding hollow
 not-hollow {i} m = le-ltb (i .high) (i .low) (omega arith)
+
+-- NOT and XOR are their own inverses
+pub not-inverts : (w : ℕ) → GivesX w Not Not
+unfolding result
+not-inverts w = record { to = λ c a b e. back a c e; from = λ c a b e. back c a e }
+  where
+    back : (a c : ℕ) → c ≡ bitXor a (top w) → a ≡ bitXor c (top w)
+    back a c e = sym (ap (λ (n : ℕ). bitXor n (top w)) e ∙ xor-back a (top w))
+
+pub xor-inverts : (w : ℕ) → GivesX w Xor Xor
+unfolding result
+xor-inverts w = record { to = λ c a b e. back a b c e; from = λ c a b e. back c b a e }
+  where
+    back : (a b c : ℕ) → c ≡ bitXor a b → a ≡ bitXor c b
+    back a b c e = sym (ap (λ (n : ℕ). bitXor n b) e ∙ xor-back a b)
+
+pub xor-inverts-y : (w : ℕ) → GivesY w Xor Xor
+unfolding result
+xor-inverts-y w =
+    record {
+      to = λ c a b e. sym (ap (λ (n : ℕ). bitXor n a) e ∙ xor-back-left a b);
+      from = λ c a b e. sym (ap (bitXor a) e ∙ xor-comm a (bitXor c a) ∙ xor-back c a);
+    }
 
 -- operation by operation
 module _ (w : ℕ) (h x y : Interval) where
@@ -70,20 +93,12 @@ module _ {w : ℕ} {h x y : Interval} {c a b : ℕ} where
   new-x : (op : Op) → Accepted w h x (second op y) → Solves w op h x y c a b → In (newX w op h x y) a
   unfolding newX inverted InSecond second result
   new-x Not m s =
-      let e : result w Not c b ≡ a =
-      omega (
-        arith,
-        not-turns w a (omega (arith, s .in-x .high, m .x-words .top)),
-        not-turns w c (omega (arith, s .in-h .high, m .h-words .top)),
-        s .joins,
-        s .in-x .high,
-        m .x-words .top,
-      ) in
+      let e : result w Not c b ≡ a = sym (not-inverts w .to c a b (s .joins)) in
       in-cut (s .in-x) (subst (In (span w Not h y)) e (result-in Not y (m .h-words) (m .y-words) c b (s .in-h) tt))
   new-x And m s = s .in-x
   new-x Or m s = s .in-x
   new-x Xor m s =
-      let e : bitXor c b ≡ a = ap (λ (n : ℕ). bitXor n b) (s .joins) ∙ xor-back a b in
+      let e : bitXor c b ≡ a = sym (xor-inverts w .to c a b (s .joins)) in
       in-cut (s .in-x) (subst (In (span w Xor h y)) e (result-in Xor y (m .h-words) (m .y-words) c b (s .in-h) (s .in-y)))
 
   new-y : (op : Op) → Accepted w h x (second op y) → Solves w op h x y c a b → InSecond op (newY w op h x y) b
@@ -92,8 +107,41 @@ module _ {w : ℕ} {h x y : Interval} {c a b : ℕ} where
   new-y And m s = s .in-y
   new-y Or m s = s .in-y
   new-y Xor m s =
-      let e : bitXor c a ≡ b = ap (λ (n : ℕ). bitXor n a) (s .joins) ∙ xor-back-left a b in
+      let e : bitXor c a ≡ b = sym (xor-inverts-y w .to c a b (s .joins)) in
       in-cut (s .in-y) (subst (In (span w Xor h x)) e (result-in Xor x (m .h-words) (m .x-words) c a (s .in-h) (s .in-x)))
+
+-- no two cuts by exact spans differ
+one-cut : {w : ℕ} {op : Op} {x y old i j : Interval} → CutBy w op x y old i → CutBy w op x y old j → i ≡ j
+one-cut {old = old} p q = p .is ∙ ap (cut old) (exact-unique (p .exact) (q .exact)) ∙ sym (q .is)
+
+module _ (w : ℕ) (h x y : Interval) where
+  x-by : (op : Op) → Accepted w h x (second op y) → CutsX w op h x y (newX w op h x y)
+  unfolding newX inverted CutsX
+  x-by Not m = record { span = span w Not h y; exact = span-exact Not y (m .h-words) (m .y-words); is = refl }
+  x-by And m = refl
+  x-by Or m = refl
+  x-by Xor m = record { span = span w Xor h y; exact = span-exact Xor y (m .h-words) (m .y-words); is = refl }
+
+  y-by : (op : Op) → Accepted w h x (second op y) → CutsY w op h x y (newY w op h x y)
+  unfolding newY inverted CutsY second
+  y-by Not m = refl
+  y-by And m = refl
+  y-by Or m = refl
+  y-by Xor m = record { span = span w Xor h x; exact = span-exact Xor x (m .h-words) (m .x-words); is = refl }
+
+  one-x : (op : Op) {i j : Interval} → CutsX w op h x y i → CutsX w op h x y j → i ≡ j
+  unfolding CutsX
+  one-x Not p q = one-cut p q
+  one-x And p q = p ∙ sym q
+  one-x Or p q = p ∙ sym q
+  one-x Xor p q = one-cut p q
+
+  one-y : (op : Op) {i j : Interval} → CutsY w op h x y i → CutsY w op h x y j → i ≡ j
+  unfolding CutsY
+  one-y Not p q = p ∙ sym q
+  one-y And p q = p ∙ sym q
+  one-y Or p q = p ∙ sym q
+  one-y Xor p q = one-cut p q
 
 second-not-hollow : (op : Op) (i : Interval) (b : ℕ) → InSecond op i b → hollow (second op i) ≡ false
 unfolding InSecond second
@@ -152,6 +200,31 @@ module _ (w : ℕ) (op : Op) (h x y : Interval) where
     pub h-cut : {s : Interval} → Exact w op x y s → newH w op h x y ≡ cut h s
     unfolding newH
     h-cut e = ap (cut h) (exact-unique (span-exact op y (taken .x-words) (taken .y-words)) e)
+
+    -- "the arguments are cut in the same way by the inverse operation; for AND and OR they stay"
+    pub x-cut : {i : Interval} → CutsX w op h x y i → newX w op h x y ≡ i
+    x-cut c = one-x w h x y op (x-by w h x y op taken) c
+
+    pub y-cut : {i : Interval} → CutsY w op h x y i → newY w op h x y ≡ i
+    y-cut c = one-y w h x y op (y-by w h x y op taken) c
+
+    -- there are such cuts
+    pub cuts : Cuts w op h x y (newH w op h x y) (newX w op h x y) (newY w op h x y)
+    unfolding newH
+    cuts =
+        record {
+          h-cut = record { span = span w op x y; exact = span-exact op y (taken .x-words) (taken .y-words); is = refl };
+          x-cut = x-by w h x y op taken;
+          y-cut = y-by w h x y op taken;
+        }
+
+    -- and from any of them the answer: "If a cut is empty the answer is "empty"", with the intervals as they came, and else the cuts
+    pub answer-is : {i j k : Interval} → Cuts w op h x y i j k → joined w op h x y
+        ≡ cond (anyHollow i j (second op k)) (record { number = 0; empty = true; h = h; x = x; y = y })
+        (record { number = 0; empty = false; h = i; x = j; y = k })
+    unfolding joined emptied asGiven allCut
+    answer-is c =
+        rw (eq-eqb (refusal w op h x y) 0 z, h-cut (c .h-cut .exact) ∙ sym (c .h-cut .is), x-cut (c .x-cut), y-cut (c .y-cut)) refl
 
     -- "No solution inside the given intervals is lost"
     pub kept : {c a b : ℕ} → Solves w op h x y c a b
