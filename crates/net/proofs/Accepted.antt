@@ -4,13 +4,13 @@ use mathlib.Core.Bool.{Bool, true, false, not, _&&_, cond}
 use mathlib.Core.List.{List}
 use Prim.Native.Nat.{ℕ, _≤_, _<_}
 use native.Mathlib.Omega.{arith}
-use borrow.Author.Tests.{leb-true, ltb-false, ltb-true, not-true}
+use borrow.Author.Tests.{leb-true, ltb-true, not-true}
 use lib.Dec.{leb, ltb}
-use Rattle.word.specs.Word.{IsWidth, top}
+use Rattle.word.specs.Word.{top}
 use Rattle.word.proofs.Tests.{both-pass}
-use Rattle.span.specs.declared.Interval.{Interval}
 use Rattle.span.specs.Interval.{Words, hollow}
 use Rattle.span.specs.Join.{isWidth, within}
+use Rattle.span.proofs.Intervals.{is-words}
 use Rattle.net.specs.declared.Join.{Join}
 use Rattle.net.specs.declared.Net.{Net}
 use Rattle.net.specs.Net.{AllNamed, JOINS, Named, WORDS, every, fits, joinAt, named, refusal, third, wordAt}
@@ -37,22 +37,10 @@ is-named n j e =
     let (x, y) = both-pass (ltb (j .x) n) (ltb (third j) n) t in
     record { h = ltb-true (j .h) n h; x = ltb-true (j .x) n x; y = ltb-true (third j) n y }
 
-is-words : (w : ℕ) (i : Interval) → within (top w) i ≡ true → not (hollow i) ≡ true → Words w i
-unfolding within hollow
-is-words w i b c =
-    record {
-      order = ltb-false (i .high) (i .low) (not-true _ c);
-      top = leb-true (i .high) (top w) (both-pass (leb (i .low) (top w)) (leb (i .high) (top w)) b .1);
-    }
-
 pub count-fits : (n : ℕ) (js : List Join) (m : ℕ) → fits n js m ≡ true → n ≤ WORDS
 unfolding fits
 count-fits n js m e =
     leb-true n WORDS (both-pass (leb n WORDS) (leb m JOINS && every m (λ k. named n (joinAt js k))) e .0)
-
-pub width-fits : {w : ℕ} → isWidth w ≡ true → IsWidth w
-unfolding isWidth
-width-fits {w} e = let (l, h) = both-pass (leb 1 w) (leb w 64) e in record { low = leb-true 1 w l; high = leb-true w 64 h }
 
 module _ {net : Net} where
   pub accepted : refusal net ≡ 0 → Accepted net
@@ -66,7 +54,7 @@ module _ {net : Net} where
         joins = leb-true (net .joined) JOINS m;
         names = λ k h. is-named (net .count) _ (every-holds (net .joined) there s k h);
         width = b;
-        intervals = λ k h. is-words (net .width) _ (every-holds (net .count) inside c k h) (every-holds (net .count) whole d k h);
+        intervals = λ k h. is-words (net .width) _ (every-holds (net .count) inside c k h) (not-true _ (every-holds (net .count) whole d k h));
       }
     where
       inside : ℕ → Bool

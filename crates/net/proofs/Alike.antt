@@ -1,7 +1,7 @@
 -- Places not in use are not read: two nets that agree on the words and joins in use answer alike, for what a step finds at the places
 -- that its join names is the same, and what it leaves there. Assumes nothing.
 use mathlib.Core.Path.{_≡_, refl, sym, ap, ap₂, subst, subst⁻¹, _∙_}
-use mathlib.Core.Bool.{Bool, true, false, not, _&&_, _||_, cond, false≢true}
+use mathlib.Core.Bool.{Bool, true, false, not, _&&_, cond, false≢true}
 use mathlib.Core.List.{List}
 use mathlib.Core.Logic.{⊎-elim}
 use Prim.Native.Nat.{ℕ, zero, suc, _%_, _≤_, _<_}
@@ -13,20 +13,18 @@ use lib.ListN.{length, length-set}
 use lib.Seq.{getD-set-same, set-out}
 use Rattle.word.specs.Word.{top}
 use Rattle.span.specs.declared.Interval.{Interval}
-use Rattle.span.specs.declared.Joined.{Joined}
 use Rattle.span.specs.declared.Op.{Op}
 use Rattle.span.specs.declared.Op.the-variants.{And, Not, Or, Xor}
 use Rattle.span.specs.Interval.{cut, hollow, interval}
-use Rattle.span.specs.Join.{anyHollow, isWidth, joined, within}
-use Rattle.net.specs.declared.Answer.{Answer}
+use Rattle.span.specs.Join.{joined, within}
 use Rattle.net.specs.declared.Ended.{Ended}
 use Rattle.net.specs.declared.Ended.the-variants.{Empty, Spent, Steady}
 use Rattle.net.specs.declared.Join.{Join}
 use Rattle.net.specs.declared.Net.{Net}
 use Rattle.net.specs.Demand.{Alike, SameAnswer, SameJoin, SameWords, refilled}
 use Rattle.net.specs.Net.{Named, every, fits, joinAt, named, placeOf, refusal, third, turn, wordAt}
-use Rattle.net.specs.Run.{Stand, Stop, goes, next, ran, shown, stand, start, stop, turnedDown, walked}
-use Rattle.net.specs.Step.{after, cutAll, cutAt, emptied, left, noWord, results, same, stepped, unchanged}
+use Rattle.net.specs.Run.{Stop, goes, next, ran, shown, stand, start, stop, turnedDown, walked}
+use Rattle.net.specs.Step.{after, cutAll, cutAt, emptied, left, noWord, results, stepped, unchanged}
 use Rattle.net.proofs.Accepted.{accepted}
 use Rattle.net.proofs.Going.{goes-empty, goes-next, goes-spent, goes-steady}
 use Rattle.net.proofs.Reached.{told}

@@ -1,16 +1,16 @@
 -- What cuts do at each place: a word stays, or is cut. So no interval grows, and a place that no join names stays. Assumes nothing.
-use mathlib.Core.Path.{_≡_, refl, ap, ap₂, subst, subst⁻¹, _∙_}
+use mathlib.Core.Path.{_≡_, ap, subst, subst⁻¹, _∙_}
 use mathlib.Core.Bool.{Bool, true, false, cond}
 use mathlib.Core.List.{List}
 use Prim.Native.Nat.{ℕ, _<_}
 use native.Mathlib.Decide.{decLt, ℕ-discrete}
 use native.Mathlib.Omega.{arith}
-use lib.ListN.{length, set}
-use lib.Seq.{getD-set-same, set-getD, set-out}
+use lib.ListN.{length}
+use lib.Seq.{getD-set-same, set-out}
 use Rattle.span.specs.declared.Interval.{Interval}
 use Rattle.span.specs.declared.Joined.{Joined}
 use Rattle.span.specs.Demand.{Inside}
-use Rattle.span.specs.Interval.{In, cut, interval}
+use Rattle.span.specs.Interval.{cut, interval}
 use Rattle.net.specs.declared.Join.{Join}
 use Rattle.net.specs.Net.{third, wordAt}
 use Rattle.net.specs.Step.{after, cutAll, cutAt, emptied, left, results}
@@ -22,19 +22,6 @@ stays i = record { low = omega arith; high = omega arith }
 pub cut-inside : {o : Interval} (by i : Interval) → Inside i o → Inside (cut i by) o
 unfolding cut
 cut-inside by i h = record { low = omega arith; high = omega arith }
-
-pub in-cut : {i j : Interval} {a : ℕ} → In i a → In j a → In (cut i j) a
-unfolding cut
-in-cut p q = record { low = omega arith; high = omega arith }
-
--- what lies inside another is not changed by cutting with it
-cut-outside : {i o : Interval} → Inside i o → cut i o ≡ i
-unfolding cut
-cut-outside h = ap₂ interval (omega arith) (omega arith)
-
-pub cut-with-outside : (k : ℕ) (o : Interval) (ws : List Interval) → Inside (wordAt ws k) o → cutAt k o ws ≡ ws
-unfolding cutAt
-cut-with-outside k o ws h = ap (set ws k) (cut-outside h) ∙ set-getD ws k (interval 0 0)
 
 -- a cut keeps what is so at p, where a cut by that interval keeps it at p
 module _ (P : Interval → Type 0) (p : ℕ) where

@@ -1,48 +1,36 @@
 -- A step loses no assignment that satisfies its join: K11 says so of each result, and a cut keeps what lies in both. Assumes nothing.
 use mathlib.Core.Path.{_≡_, refl, subst⁻¹}
-use mathlib.Core.Bool.{Bool, true, false, _||_, cond, true≢false}
+use mathlib.Core.Bool.{Bool, true, false, _||_, cond}
 use mathlib.Core.List.{List}
 use Prim.Native.Nat.{ℕ, _≤_, _<_}
 use native.Mathlib.Decide.{ℕ-discrete}
 use native.Mathlib.Omega.{arith}
-use borrow.Author.Tests.{le-leb, le-ltb, ltb-false}
 use lib.Dec.{eqb}
 use Rattle.word.specs.Word.{top}
 use Rattle.span.specs.declared.Interval.{Interval}
 use Rattle.span.specs.declared.Op.{Op}
 use Rattle.span.specs.declared.Op.the-variants.{And, Not, Or, Xor}
-use Rattle.span.specs.Demand.{InSecond, Inside, Solves}
+use Rattle.span.specs.Demand.{InSecond, Solves}
 use Rattle.span.specs.Interval.{In, Words, cut, hollow}
-use Rattle.span.specs.Join.{allCut, allWithin, anyHollow, asGiven, inverted, isWidth, joined, newY, refusal, refused, within}
+use Rattle.span.specs.Join.{allCut, allWithin, anyHollow, asGiven, inverted, isWidth, joined, newY, refusal, refused}
 use Rattle.span.specs.Join as join
 use Rattle.span.specs.Span.{result, second}
+use Rattle.span.proofs.Intervals.{both-within, in-cut, not-hollow, ordered}
+use Rattle.span.proofs.Joining.{both-fail}
 use Rattle.span.proofs.Outcome as outcome
 use Rattle.net.specs.declared.Join.{Join}
 use Rattle.net.specs.Demand.{AllIn}
 use Rattle.net.specs.Net.{Named, placeOf, third, wordAt}
-use Rattle.net.specs.Step.{after, cutAll, cutAt, emptied, noWord, results}
-use Rattle.net.proofs.Cuts.{cut-inside, cut-with-outside, in-cut, kept-all, kept-at, shrinks, stays}
+use Rattle.net.specs.Step.{after, emptied, noWord, results}
+use Rattle.net.proofs.Cuts.{kept-all, shrinks}
 use Rattle.net.proofs.Unchanged.{not-named}
 
 -- words in every one of the first n intervals
 abbrev pub AllWords : (w n : ℕ) → List Interval → Type 0
 AllWords w n ws = (k : ℕ) → k < n → Words w (wordAt ws k)
 
-both-fail : (a b : Bool) → (a || b) ≡ false → (a ≡ false) × (b ≡ false)
-both-fail true b e = absurd (true≢false e)
-both-fail false b e = (refl, e)
-
-in-top : {w : ℕ} (i : Interval) → Words w i → within (top w) i ≡ true
-unfolding within
-in-top {w} i m = rw (le-leb (i .low) (top w) (omega arith), le-leb (i .high) (top w) (omega arith))
-
-not-hollow : (i : Interval) → i .low ≤ i .high → hollow i ≡ false
-unfolding hollow
-not-hollow i h = le-ltb (i .high) (i .low) h
-
-ordered : (i : Interval) → hollow i ≡ false → i .low ≤ i .high
-unfolding hollow
-ordered i e = ltb-false (i .high) (i .low) e
+first-in : {w : ℕ} {i : Interval} → Words w i → In i (i .low)
+first-in m = record { low = omega arith; high = m .order }
 
 -- K11's tests pass
 taken : {w : ℕ} {h x y : Interval} → isWidth w ≡ true → Words w h → Words w x → Words w y → refused w h x y ≡ 0
@@ -50,12 +38,12 @@ unfolding refused allWithin anyHollow
 taken {w} {h} {x} {y} width mh mx my =
     simp (
       width,
-      in-top h mh,
-      in-top x mx,
-      in-top y my,
-      not-hollow h (mh .order),
-      not-hollow x (mx .order),
-      not-hollow y (my .order),
+      both-within (top w) h (omega arith) (mh .top),
+      both-within (top w) x (omega arith) (mx .top),
+      both-within (top w) y (omega arith) (my .top),
+      not-hollow (first-in mh),
+      not-hollow (first-in mx),
+      not-hollow (first-in my),
     )
 
 second-words : {w : ℕ} (op : Op) {y : Interval} → Words w y → Words w (second op y)
@@ -150,4 +138,4 @@ module _ {w n : ℕ} (j : Join) (ws : List Interval) (width : isWidth w ≡ true
     none-empty = rw (kept-one .0, full _ (names .h), full _ (names .x), full _ (names .y)) refl
       where
         full : (k : ℕ) → k < n → hollow (wordAt (after w j ws) k) ≡ false
-        full k l = let m = inside-after k l in not-hollow _ (omega arith)
+        full k l = not-hollow (inside-after k l)

@@ -14,12 +14,13 @@ use Rattle.span.specs.declared.Op.the-variants.{And, Not, Or, Xor}
 use Rattle.span.specs.Demand.{Inside}
 use Rattle.span.specs.Interval.{In, cut, interval}
 use Rattle.span.specs.Join.{joined}
+use Rattle.span.proofs.Intervals.{in-cut}
 use Rattle.net.specs.declared.Join.{Join}
 use Rattle.net.specs.Demand.{InResults}
 use Rattle.net.specs.Net.{placeOf, third, wordAt}
 use Rattle.net.specs.Step.{after, cutAll, cutAt, emptied, left, results}
 use Rattle.net.proofs.Alike.{no-not}
-use Rattle.net.proofs.Cuts.{cut-inside, in-cut, kept-all, kept-at, shrinks}
+use Rattle.net.proofs.Cuts.{cut-inside, kept-all, kept-at, shrinks}
 use Rattle.net.proofs.Kept.{y-back}
 
 inside-in : {i o : Interval} {a : ℕ} → Inside i o → In i a → In o a

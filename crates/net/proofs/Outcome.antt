@@ -1,5 +1,5 @@
 -- What every answer has, in the paper's words. Each is so where the run starts, and a step keeps it. Assumes nothing.
-use mathlib.Core.Path.{_≡_, refl, sym, ap, subst⁻¹, _∙_}
+use mathlib.Core.Path.{_≡_, refl, sym, ap, _∙_}
 use mathlib.Core.Bool.{false, true≢false}
 use mathlib.Core.List.{List}
 use mathlib.Core.Logic.{⊎-elim}
@@ -21,7 +21,7 @@ use Rattle.net.specs.Demand.{AllIn, Solution, Still, onward, resumed}
 use Rattle.net.specs.Net.{Named, joinAt, refusal, turn, wordAt}
 use Rattle.net.specs.Run.{Stand, Stop, goes, next, number, ran, shown, start, turnedDown, walked}
 use Rattle.net.specs.Step.{after, results, stepped}
-use Rattle.net.proofs.Accepted.{Accepted, accepted}
+use Rattle.net.proofs.Accepted.{accepted}
 use Rattle.net.proofs.Cuts.{either-left, shrinks, stays}
 use Rattle.net.proofs.Going.{goes-empty, goes-next, goes-spent, goes-steady}
 use Rattle.net.proofs.Kept.{AllWords, inside-after, none-empty, words-after}

@@ -1,6 +1,6 @@
 -- Where as many steps in a row as there are joins changed nothing, every join had its turn among them, and none can change the words:
 -- a step that changes nothing leaves the words as the steps before it found them. Assumes nothing.
-use mathlib.Core.Path.{_≡_, refl, sym, ap, ap₂, subst, subst⁻¹, _∙_}
+use mathlib.Core.Path.{_≡_, sym, ap, ap₂, subst, subst⁻¹, _∙_}
 use mathlib.Core.Bool.{Bool, true, false, cond, true≢false}
 use mathlib.Core.List.{List}
 use mathlib.Core.Logic.{⊎-elim}

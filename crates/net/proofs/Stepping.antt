@@ -7,7 +7,6 @@ use Rattle.span.specs.declared.Interval.{Interval}
 use Rattle.span.specs.declared.Joined.{Joined}
 use Rattle.span.specs.Join.{anyHollow, joined}
 use Rattle.net.specs.declared.Join.{Join}
-use Rattle.net.specs.declared.step.Stepped.{Stepped}
 use Rattle.net.specs.Net.{third, wordAt}
 use Rattle.net.specs.Step.{after, cutAll, cutAt, emptied, left, noWord, results, same, stepped, unchanged}
 use Rattle.net.proofs.Unchanged.{tested, unchanged-self}

@@ -4,7 +4,7 @@ use Prim.Native.Nat.{ℕ}
 use lib.ListN.{length}
 use Rattle.span.specs.declared.Interval.{Interval}
 use Rattle.span.specs.declared.Op.{Op}
-use Rattle.span.specs.declared.Op.the-variants.{And, Not, Or, Xor}
+use Rattle.span.specs.declared.Op.the-variants.{And, Not, Xor}
 use Rattle.span.specs.Interval.{interval}
 use Rattle.net.specs.declared.Answer.{Answer}
 use Rattle.net.specs.declared.Ended.{Ended}

@@ -1,5 +1,4 @@
 -- A net of words, and what refuses it: K12 of the paper, a definition for each of its sentences.
-use mathlib.Core.Path.{_≡_}
 use mathlib.Core.Bool.{Bool, true, not, _&&_, cond}
 use mathlib.Core.List.{List}
 use Prim.Native.Nat.{ℕ, zero, suc, _%_, _≤_, _<_}

@@ -1,5 +1,5 @@
 -- A route to the plain rule (`Plain`): the same steps, with a count of those in a row that changed nothing; and the answer.
-use mathlib.Core.Bool.{Bool, true, false, cond}
+use mathlib.Core.Bool.{Bool, false, cond}
 use mathlib.Core.List.{List}
 use Prim.Native.Nat.{ℕ, zero, suc}
 use lib.Dec.{eqb, leb}

@@ -3,12 +3,12 @@ ghost use mathlib.Core.Path.{_≡_};
 ghost use mathlib.Core.Bool.{not};
 ghost use Prim.Native.Nat.{_≤_};
 ghost use Rattle.span.specs.Interval.{hollow};
-ghost use Rattle.span.specs.Join.{isWidth, within};
+ghost use Rattle.span.specs.Join.{within};
 ghost use Rattle.net.specs.Net.{JOINS, WORDS, every, fits, joinAt, named, refusal, wordAt};
 use crate::Join;
 use crate::Net;
-use crate::step::hollow;
 use span::Interval;
+use span::is_width;
 use word::Width;
 
 impl Net {
@@ -52,16 +52,6 @@ fn fits(count: usize, joins: [Join; Net::JOINS], joined: usize) -> bool
     all_named(joins, joined, count)
 }
 
-// Whether it is a width from 1 to 64.
-fn is_width(width: u64) -> bool
-    ensures { λ r. ⌜ r ≡ isWidth width ⌝ }
-{
-    if width < 1 {
-        return false;
-    }
-    width <= 64
-}
-
 // Whether each of the first m joins names words below n alone.
 fn all_named(joins: [Join; Net::JOINS], m: usize, n: usize) -> bool
     requires { ⌜ m ≤ JOINS ⌝ }
@@ -96,20 +86,11 @@ fn all_within(words: [Interval; Net::WORDS], n: usize, top: u64) -> bool
 {
     for i in 0..n {
         let word = words[i];
-        if !is_within(word, top) {
+        if !word.within(top) {
             return false;
         }
     }
     true
-}
-
-fn is_within(interval: Interval, top: u64) -> bool
-    ensures { λ r. ⌜ r ≡ within top interval ⌝ }
-{
-    if top < interval.low {
-        return false;
-    }
-    interval.high <= top
 }
 
 // Whether none of the first n intervals has its low end above its high end.
@@ -119,7 +100,7 @@ fn none_hollow(words: [Interval; Net::WORDS], n: usize) -> bool
 {
     for i in 0..n {
         let word = words[i];
-        if hollow(word) {
+        if word.hollow() {
             return false;
         }
     }

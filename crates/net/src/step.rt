@@ -1,8 +1,7 @@
 // One step of a net: the intervals of the words that a join names, cut by its results.
 ghost use mathlib.Core.Path.{_≡_};
 ghost use mathlib.Core.Bool.{_&&_, _||_};
-ghost use Prim.Native.Nat.{_<_, min, max};
-ghost use Rattle.span.specs.Interval.{cut, hollow};
+ghost use Prim.Native.Nat.{_<_};
 ghost use Rattle.span.specs.Join.{anyHollow};
 ghost use Rattle.net.specs.Net.{Named, WORDS};
 ghost use Rattle.net.specs.Step.{cutAt, same, stepped};
@@ -59,30 +58,9 @@ fn cut_at(words: [Interval; Net::WORDS], place: usize, by: Interval) -> [Interva
     ensures { λ r. ⌜ r ≡ cutAt place by words ⌝ }
 {
     let mut next = words;
-    next[place] = cut(words[place], by);
+    let word = words[place];
+    next[place] = word.cut(by);
     next
-}
-
-// The words that lie in both.
-fn cut(one: Interval, other: Interval) -> Interval
-    ensures { λ r. ⌜ r ≡ cut one other ⌝ }
-{
-    Interval {
-        low: larger(one.low, other.low),
-        high: smaller(one.high, other.high),
-    }
-}
-
-fn larger(a: u64, b: u64) -> u64
-    ensures { λ r. ⌜ r ≡ max a b ⌝ }
-{
-    if a < b { b } else { a }
-}
-
-fn smaller(a: u64, b: u64) -> u64
-    ensures { λ r. ⌜ r ≡ min a b ⌝ }
-{
-    if a < b { a } else { b }
 }
 
 // Whether a cut is empty.
@@ -92,20 +70,13 @@ fn any_empty(none: bool, h: Interval, x: Interval, y: Interval) -> bool
     if none {
         return true;
     }
-    if hollow(h) {
+    if h.hollow() {
         return true;
     }
-    if hollow(x) {
+    if x.hollow() {
         return true;
     }
-    hollow(y)
-}
-
-// Whether its low end is above its high end.
-pub fn hollow(interval: Interval) -> bool
-    ensures { λ r. ⌜ r ≡ hollow interval ⌝ }
-{
-    interval.high < interval.low
+    y.hollow()
 }
 
 fn same(one: Interval, other: Interval) -> bool

@@ -1,7 +1,7 @@
 -- The span of each operation from the ends that the code finds: the smallest result itself, and the largest by way of its turned
 -- version. Assumes nothing.
 use mathlib.Core.Path.{_≡_, sym, ap, ap₂, subst, _∙_}
-use Prim.Native.Nat.{ℕ, _-_}
+use Prim.Native.Nat.{ℕ}
 use lib.Bits.{bitAnd, bitOr, bitXor}
 use Rattle.word.specs.Word.{top}
 use Rattle.span.specs.declared.Interval.{Interval}

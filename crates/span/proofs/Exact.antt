@@ -1,7 +1,7 @@
 -- The span is exact: the search finds a smallest and a largest result, since every result is a word, and no second span is exact.
 -- Assumes nothing.
 use mathlib.Core.Path.{_≡_, ap₂}
-use Prim.Native.Nat.{ℕ, _-_, _^_, _<_}
+use Prim.Native.Nat.{ℕ, _^_, _<_}
 use native.Mathlib.Omega.{arith}
 use Rattle.word.specs.Word.{top}
 use Rattle.word.proofs.Widths.{top-suc}

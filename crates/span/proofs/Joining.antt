@@ -3,8 +3,7 @@ use mathlib.Core.Path.{_≡_, refl, sym, ap, _∙_}
 use mathlib.Core.Bool.{Bool, true, false, _&&_, _||_, cond, true≢false}
 use Prim.Native.Nat.{ℕ, _≤_}
 use native.Mathlib.Omega.{arith}
-use borrow.Author.Tests.{eq-eqb, leb-true, ltb-false, ne-eqb}
-use lib.Dec.{leb}
+use borrow.Author.Tests.{eq-eqb, ne-eqb}
 use Rattle.word.specs.Word.{IsWidth, top}
 use Rattle.word.proofs.Tests.{both-pass}
 use Rattle.span.specs.declared.Interval.{Interval}
@@ -29,6 +28,7 @@ use Rattle.span.specs.Join.{
   refused,
   within,
 }
+use Rattle.span.proofs.Intervals.{is-words, width-passes}
 
 -- what is not refused
 pub record Accepted (w : ℕ) (h x y : Interval) : Type 0 where
@@ -43,14 +43,9 @@ rows true true true e = absurd (omega arith)
 rows true false c e = absurd (omega arith)
 rows false b c e = absurd (omega arith)
 
-both-fail : (a b : Bool) → (a || b) ≡ false → (a ≡ false) × (b ≡ false)
+pub both-fail : (a b : Bool) → (a || b) ≡ false → (a ≡ false) × (b ≡ false)
 both-fail true b e = absurd (true≢false e)
 both-fail false b e = (refl, e)
-
-pub width-passes : {w : ℕ} → isWidth w ≡ true → IsWidth w
-unfolding isWidth
-width-passes {w} e =
-    let (l, h) = both-pass (leb 1 w) (leb w 64) e in record { low = leb-true 1 w l; high = leb-true w 64 h }
 
 -- where y is cut there is a y
 pub has-y : (op : Op) (i : Interval) → 2 ≤ inverted op → second op i ≡ i
@@ -61,7 +56,7 @@ has-y Or i e = refl
 has-y Xor i e = refl
 
 pub accepted : {w : ℕ} {h x y : Interval} → refused w h x y ≡ 0 → Accepted w h x y
-unfolding refused allWithin anyHollow within hollow
+unfolding refused allWithin anyHollow
 accepted {w} {h} {x} {y} e =
     let (a, (b, c)) = rows (isWidth w) (allWithin (top w) h x y) (anyHollow h x y) e in
     let (bh, bxy) = both-pass (within (top w) h) (within (top w) x && within (top w) y) b in
@@ -70,17 +65,10 @@ accepted {w} {h} {x} {y} e =
     let (cx, cy) = both-fail (hollow x) (hollow y) cxy in
     record {
       width = width-passes a;
-      h-words = words h bh ch;
-      x-words = words x bx cx;
-      y-words = words y by cy;
+      h-words = is-words w h bh ch;
+      x-words = is-words w x bx cx;
+      y-words = is-words w y by cy;
     }
-  where
-    words : (i : Interval) → within (top w) i ≡ true → hollow i ≡ false → Words w i
-    words i b c =
-        record {
-          order = ltb-false (i .high) (i .low) c;
-          top = leb-true (i .high) (top w) (both-pass (leb (i .low) (top w)) (leb (i .high) (top w)) b .1);
-        }
 
 -- n is the number that the code finds, for the second argument z
 module _ (w : ℕ) (op : Op) (h x y : Interval) {z : Interval} {n : ℕ} (is-z : z ≡ second op y) (is-n : n ≡ refused w h x z) where

@@ -1,6 +1,7 @@
 pub mod Ends
 pub mod Exact
 pub mod Halves
+pub mod Intervals
 pub mod Joining
 pub mod Ops
 pub mod Outcome

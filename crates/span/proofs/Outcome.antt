@@ -3,10 +3,10 @@
 -- are results of the inverse operation. Assumes nothing.
 use mathlib.Core.Path.{_≡_, refl, sym, ap, subst, _∙_}
 use mathlib.Core.Bool.{Bool, true, false, cond, true≢false}
-use Prim.Native.Nat.{ℕ, _-_}
+use Prim.Native.Nat.{ℕ}
 use native.Mathlib.Decide.{ℕ-discrete}
 use native.Mathlib.Omega.{arith}
-use borrow.Author.Tests.{eq-eqb, le-ltb, ne-eqb}
+use borrow.Author.Tests.{eq-eqb, ne-eqb}
 use lib.Bits.{bitXor, xor-comm}
 use Rattle.word.specs.Word.{top}
 use Rattle.span.specs.declared.Interval.{Interval}
@@ -18,6 +18,7 @@ use Rattle.span.specs.Interval.{In, Words, cut, hollow}
 use Rattle.span.specs.Join.{allCut, anyHollow, asGiven, emptied, inverted, joined, newH, newX, newY, refusal}
 use Rattle.span.specs.Span.{result, second, span}
 use Rattle.span.proofs.Exact.{exact-unique, span-exact}
+use Rattle.span.proofs.Intervals.{in-cut, not-hollow}
 use Rattle.span.proofs.Joining.{Accepted, accepted}
 use Rattle.span.proofs.Ops.{xor-back, xor-back-left}
 
@@ -27,14 +28,6 @@ same i = record { low = omega arith; high = omega arith }
 cut-inside : (i j : Interval) → Inside (cut i j) i
 unfolding cut
 cut-inside i j = record { low = omega arith; high = omega arith }
-
-in-cut : {i j : Interval} {a : ℕ} → In i a → In j a → In (cut i j) a
-unfolding cut
-in-cut p q = record { low = omega arith; high = omega arith }
-
-not-hollow : {i : Interval} {a : ℕ} → In i a → hollow i ≡ false
-unfolding hollow
-not-hollow {i} m = le-ltb (i .high) (i .low) (omega arith)
 
 -- NOT and XOR are their own inverses
 pub not-inverts : (w : ℕ) → GivesX w Not Not

@@ -117,8 +117,8 @@ fn refused(width: u64, h: Interval, x: Interval, y: Interval) -> u64
     0
 }
 
-// A width from 1 to 64.
-fn is_width(width: u64) -> bool
+// Whether it is a width from 1 to 64.
+pub fn is_width(width: u64) -> bool
     ensures { λ r. ⌜ r ≡ isWidth width ⌝ }
 {
     if width < 1 {
@@ -179,7 +179,7 @@ fn cut_y(width: Width, op: Op, h: Interval, x: Interval, y: Interval) -> Interva
 
 impl Interval {
     // The words that lie in both.
-    fn cut(self, other: Interval) -> Interval
+    pub fn cut(self, other: Interval) -> Interval
         ensures { λ r. ⌜ r ≡ cut self other ⌝ }
     {
         Interval {
@@ -189,14 +189,14 @@ impl Interval {
     }
 
     // Whether its low end is above its high end.
-    fn hollow(self) -> bool
+    pub fn hollow(self) -> bool
         ensures { λ r. ⌜ r ≡ hollow self ⌝ }
     {
         self.high < self.low
     }
 
     // Whether neither end is above the top word.
-    fn within(self, top: u64) -> bool
+    pub fn within(self, top: u64) -> bool
         ensures { λ r. ⌜ r ≡ within top self ⌝ }
     {
         if top < self.low {

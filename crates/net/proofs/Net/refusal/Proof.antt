@@ -6,8 +6,9 @@ use borrow.Author.Needs.{needs}
 use borrow.Author.Tests.{not-false, not-true}
 use Rattle.word.specs.Word.{top}
 use Rattle.span.specs.Join.{isWidth, within}
+use Rattle.span.proofs.Intervals.{width-passes}
 use Rattle.net.specs.Net.{every, fits, refusal, wordAt}
-use Rattle.net.proofs.Accepted.{count-fits, width-fits}
+use Rattle.net.proofs.Accepted.{count-fits}
 use Rattle.net.proofs.Net.refusal.Statement.{statement}
 use Rattle.net.proofs.Net.refusal.Tie as tie
 
@@ -44,7 +45,7 @@ returns-2 c =
     simp (sym (n .before .fits2 .ensures) ∙ not-false _ (c .before .if1 .left), sym (n .is-width .ensures) ∙ not-true _ (c .if2 .taken))
 
 top-requires : tie.Need-top-requires
-top-requires c κs = width-fits (wide c)
+top-requires c κs = width-passes (wide c)
 
 all-within-requires : tie.Need-all-within-requires
 all-within-requires c κs = count-fits _ _ _ (fit (c .before))

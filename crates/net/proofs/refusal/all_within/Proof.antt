@@ -27,13 +27,13 @@ mul-word c = search needs
 array-copy-out-word : tie.Need-array-copy-out-word Inv-loop μ-loop
 array-copy-out-word c = search needs
 
-is-within-requires : tie.Need-is-within-requires Inv-loop μ-loop
-is-within-requires c κs = search needs
+within-requires : tie.Need-within-requires Inv-loop μ-loop
+within-requires c κs = search needs
 
 returns : tie.Need-returns Inv-loop μ-loop
 returns c =
     let l = c .before .before .before .before in
-    sym (every-fails _ _ (l .loop .i) (c .before .before .before .loop-test .taken) (sym (c .before .is-within .ensures) ∙ not-true _ (c .if1 .taken)))
+    sym (every-fails _ _ (l .loop .i) (c .before .before .before .loop-test .taken) (sym (c .before .within .ensures) ∙ not-true _ (c .if1 .taken)))
 
 add-i : tie.Need-add-i Inv-loop μ-loop
 add-i c = search needs
@@ -44,7 +44,7 @@ loop-less c = omega arith
 loop-again : tie.Need-loop-again Inv-loop μ-loop
 loop-again c =
     let l = c .before .before .before .before in
-    (omega arith, below-more _ _ (l .loop .inv .1) (sym (c .before .is-within .ensures) ∙ not-false _ (c .if1 .left)))
+    (omega arith, below-more _ _ (l .loop .inv .1) (sym (c .before .within .ensures) ∙ not-false _ (c .if1 .left)))
 
 returns-2 : tie.Need-returns-2 Inv-loop μ-loop
 returns-2 c =
@@ -60,7 +60,7 @@ all-within-spec =
     loop-holds
     mul-word
     array-copy-out-word
-    is-within-requires
+    within-requires
     returns
     add-i
     loop-less

@@ -7,11 +7,11 @@ use borrow.Author.Needs.{needs}
 use Rattle.net.proofs.step.cut_at.Statement.{statement}
 use Rattle.net.proofs.step.cut_at.Tie as tie
 
-mul-cut : tie.Need-mul-cut
-mul-cut c = search needs
+mul-word : tie.Need-mul-word
+mul-word c = search needs
 
-array-copy-out-cut : tie.Need-array-copy-out-cut
-array-copy-out-cut c = search needs
+array-copy-out-word : tie.Need-array-copy-out-word
+array-copy-out-word c = search needs
 
 cut-requires : tie.Need-cut-requires
 cut-requires c κs = search needs
@@ -31,4 +31,4 @@ returns c =
 pub cut-at-spec : {M : Type 1} → statement M
 cut-at-spec =
     tie.close
-    (tie.spec mul-cut array-copy-out-cut cut-requires mul-next array-set-from-next returns)
+    (tie.spec mul-word array-copy-out-word cut-requires mul-next array-set-from-next returns)
