@@ -13,16 +13,16 @@ pub fn standing(head: Head) -> u64
 {
     let stands = head.stands;
     let width = head.width;
-    if stands {
-        if width == 0 {
-            return 1;
-        }
-        return 0;
+    if !stands {
+        return 17;
     }
-    17
+    if width == 0 {
+        return 1;
+    }
+    0
 }
 
-// The number with which a rule is refused, or 0. Another edition's frame is refused before the rule is looked at.
+// The number with which a rule is refused, or 0. Another edition's frame is refused whatever its rule.
 pub fn refuses_rule(head: Head, edition: Edition, rule: Rule) -> u64
     requires { ⌜ (before (head .stands) (head .width) ≡ 0 → IsWidth (head .width)) ⌝ }
     ensures { λ r. ⌜ r ≡ ruleNumber head edition rule ⌝ }
@@ -34,10 +34,10 @@ pub fn refuses_rule(head: Head, edition: Edition, rule: Rule) -> u64
     if number != 0 {
         return number;
     }
+    let bad = accept::refusal_of(rule, Width { bits: head.width });
     if !own {
         return 11;
     }
-    let bad = accept::refusal_of(rule, Width { bits: head.width });
     if bad != 0 {
         return bad;
     }

@@ -28,35 +28,41 @@ returns c =
     let n = c .before .standing .ensures in
     n ∙ number-before _ _ _ (λ z. c .if1 .taken (n ∙ z))
 
+refusal-of-requires : tie.Need-refusal-of-requires
+refusal-of-requires c κs = start c .pre (none c)
+
+-- the rule's own number
+abbrev begun : tie.After-refusal-of → tie.Else1
+begun r = r .before
+
 returns-2 : tie.Need-returns-2
-returns-2 c = let a = c .before in number-other _ _ _ (none a) (failed (a .before .before .same .ensures) (c .if2 .taken))
+returns-2 c =
+    let a = begun (c .before) in
+    number-other _ _ _ (none a) (failed (a .before .before .same .ensures) (c .if2 .taken))
 
 -- where the frame is of the sheet's edition
-own-edition : (b : tie.Else2) → same (start (b .before) .args .edition) (start (b .before) .args .head .edition) ≡ true
-own-edition b = passed (b .before .before .before .same .ensures) (b .if2 .left)
-
-refusal-of-requires : tie.Need-refusal-of-requires
-refusal-of-requires c κs = let a = c .before in start a .pre (none a)
+own-edition : (b : tie.Else2) → same (start (begun (b .before)) .args .edition) (start (begun (b .before)) .args .head .edition) ≡ true
+own-edition b = passed (begun (b .before) .before .before .same .ensures) (b .if2 .left)
 
 returns-3 : tie.Need-returns-3
 returns-3 c =
-    let r = c .before .refusal-of .ensures in
-    let b = c .before .before in
-    r ∙ number-own _ _ _ (none (b .before)) (own-edition b) (λ z. c .if3 .taken (r ∙ z))
+    let b = c .before in
+    let r = b .before .refusal-of .ensures in
+    r ∙ number-own _ _ _ (none (begun (b .before))) (own-edition b) (λ z. c .if3 .taken (r ∙ z))
 
 returns-4 : tie.Need-returns-4
 returns-4 c =
     let o = c .before in
-    let b = o .before .before in
-    number-full _ _ _ (none (b .before)) (own-edition b) (sym (o .before .refusal-of .ensures) ∙ o .if3 .left) (c .if4 .taken)
+    let b = o .before in
+    number-full _ _ _ (none (begun (b .before))) (own-edition b) (sym (b .before .refusal-of .ensures) ∙ o .if3 .left) (c .if4 .taken)
 
 returns-5 : tie.Need-returns-5
 returns-5 c =
     let o = c .before in
-    let b = o .before .before in
-    number-none _ _ _ (none (b .before)) (own-edition b) (sym (o .before .refusal-of .ensures) ∙ o .if3 .left) (c .if4 .left)
+    let b = o .before in
+    number-none _ _ _ (none (begun (b .before))) (own-edition b) (sym (b .before .refusal-of .ensures) ∙ o .if3 .left) (c .if4 .left)
 
 pub refuses-rule-spec : {M : Type 1} → statement M
 refuses-rule-spec =
     tie.close
-    (tie.spec same-requires standing-requires returns returns-2 refusal-of-requires returns-3 returns-4 returns-5)
+    (tie.spec same-requires standing-requires returns refusal-of-requires returns-2 returns-3 returns-4 returns-5)
