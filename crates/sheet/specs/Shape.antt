@@ -1,22 +1,10 @@
 -- How a record is told to be a sheet. A route and no meaning: that the test passes exactly for sheets is proved
 -- (proofs/Tested.antt). The test's rows stand where a sheet is laid out (lent_head: specs/Shape.antt).
-use mathlib.Core.Path.{_≡_}
 use mathlib.Core.Bool.{Bool, false}
-use mathlib.Core.List.{List}
-use Prim.Native.Nat.{ℕ}
-use lib.ListN.{length}
-use Rattle.rule.specs.declared.Rule.{Rule}
-use Rattle.rule.specs.Meaning.{RULES}
 use Rattle.bits.specs.declared.Fixed.the-variants.{Bits}
-use Rattle.page.specs.Page.{MARKS}
 use Rattle.lent_head.specs.declared.Head.{Head}
 use Rattle.lent_head.specs.Shape.{standsSo}
 use Rattle.sheet.specs.declared.Sheet.{Sheet}
-
--- as many places as a record has
-pub record Whole (rs : List Rule) (ms : List ℕ) : Type 0 where
-  pub rules-length : length rs ≡ RULES
-  pub marks-length : length ms ≡ MARKS
 
 -- the record's numbers, before it is tested; the test reads neither the head's own word nor the bits
 abbrev pub headOf : Sheet → Head

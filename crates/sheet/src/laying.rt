@@ -1,13 +1,14 @@
 // A record laid out, tested, and packed again.
 ghost use mathlib.Core.Path.{_≡_};
 ghost use mathlib.Core.Bool.{true};
+ghost use mathlib.Core.Logic.{_↔_};
 ghost use lib.ListN.{length};
 ghost use Rattle.rule.specs.Meaning.{RULES};
 ghost use Rattle.places.specs.Places.{rulesIn};
 ghost use Rattle.lent_head.specs.Held.{Held, Room};
 ghost use Rattle.sheet.specs.Held.{packed};
-ghost use Rattle.sheet.specs.Shape.{Whole, isSheet};
-ghost use Rattle.sheet.specs.Statements.{answers};
+ghost use Rattle.sheet.specs.Shape.{isSheet};
+ghost use Rattle.sheet.specs.Statements.{IsSheet, answers};
 use crate::Answer;
 use crate::Sheet;
 use bits::Fixed;
@@ -19,7 +20,8 @@ use rule::Rule;
 impl Sheet {
     // Whether some page of accepted calls gives this record, kept numbers included.
     pub fn is_sheet(self) -> bool
-        ensures { λ r. ⌜ (r ≡ isSheet self) × (r ≡ true → Whole (self .rules) (self .marks)) ⌝ }
+        ensures { λ r. ⌜ r ≡ isSheet self ⌝ }
+        ensures { λ r. ⌜ (r ≡ true ↔ IsSheet self) ⌝ }
     {
         let mut rules = [0; NUMBERS];
         let mut marks: [usize; Sheet::MARKS] = [0; Sheet::MARKS];

@@ -1,4 +1,4 @@
--- `Sheet::is_sheet` meets its contract: the record that was laid out was tested. Assumes nothing.
+-- `Sheet::is_sheet` meets its contract: the record that was laid out was tested, and the test passes exactly for sheets. Assumes nothing.
 use mathlib.Core.Path.{sym, ap, _∙_}
 use lib.ListN.{length}
 use Rattle.sheet.specs.declared.Sheet.{Sheet}
@@ -6,6 +6,7 @@ use Rattle.sheet.specs.Held.{packed}
 use Rattle.sheet.specs.Shape.{isSheet}
 use Rattle.sheet.proofs.ByValue.{empty-room}
 use Rattle.sheet.proofs.Holding.{packed-told}
+use Rattle.sheet.proofs.Tested.{passes-sheet, sheet-passes}
 use Rattle.sheet.proofs.Sheet.is_sheet.Statement.{statement}
 use Rattle.sheet.proofs.Sheet.is_sheet.Tie as tie
 
@@ -16,13 +17,11 @@ returns : tie.Need-returns
 unfolding packed
 returns c =
     let laid = c .lay-out .ensures .0 in
-    let held = c .lay-out .ensures .1 in (
-      held .tested ∙ sym (packed-told _ _ _) ∙ ap isSheet laid,
-      λ e. record {
-        rules-length = sym (ap (λ (s : Sheet). length (s .rules)) laid) ∙ held .room .rules-places;
-        marks-length = sym (ap (λ (s : Sheet). length (s .marks)) laid) ∙ held .room .marks-places;
-      },
-    )
+    let held = c .lay-out .ensures .1 in
+    let told = held .tested ∙ sym (packed-told _ _ _) ∙ ap isSheet laid in
+    let rules-length = sym (ap (λ (s : Sheet). length (s .rules)) laid) ∙ held .room .rules-places in
+    let marks-length = sym (ap (λ (s : Sheet). length (s .marks)) laid) ∙ held .room .marks-places in
+    (told, ((λ e. passes-sheet _ rules-length marks-length (sym told ∙ e)), (λ h. told ∙ sheet-passes _ h)))
 
 pub is-sheet-spec : {M : Type 1} → statement M
 is-sheet-spec = tie.close (tie.spec lay-out-requires returns)
