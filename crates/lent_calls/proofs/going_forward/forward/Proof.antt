@@ -1,6 +1,6 @@
 -- `forward` meets its contract: the counters move on, and what is kept is found from the old ends. Assumes nothing.
 use mathlib.Core.Path.{_≡_, sym, _∙_}
-use Prim.Native.Nat.{_-_, _≤_}
+use Prim.Native.Nat.{_≤_}
 use native.Mathlib.Omega.{arith}
 use borrow.Author.Needs.{needs}
 use Rattle.lent_head.specs.Numbers.{before}

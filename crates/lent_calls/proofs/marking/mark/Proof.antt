@@ -1,7 +1,7 @@
 -- `mark` meets its contract: what waited is taken away, and the number of rules in force goes into the next place. Assumes nothing.
 use mathlib.Core.Path.{_≡_, sym, ap, _∙_}
 use mathlib.Core.List.{List}
-use Prim.Native.Nat.{ℕ, _-_}
+use Prim.Native.Nat.{ℕ}
 use borrow.Author.Needs.{needs}
 use lib.ListN.{set}
 use Rattle.lent_head.specs.Numbers.{before}

@@ -1,6 +1,5 @@
 -- `in_force` meets its contract. Assumes nothing.
 use mathlib.Core.Path.{sym}
-use Prim.Native.Nat.{_-_}
 use native.Mathlib.Omega.{arith}
 use borrow.Author.Needs.{needs}
 use Rattle.lent_head.proofs.Shaped.{none-waits, some-wait}
