@@ -1,5 +1,4 @@
 -- `lay_out` meets its contract: the arrays hold the record, and the head its numbers. Assumes nothing.
-use Prim.Native.Nat.{_-_}
 use borrow.Author.Needs.{needs}
 use Rattle.sheet.proofs.ByValue.{laid-out}
 use Rattle.sheet.proofs.laying.lay_out.Statement.{statement}

@@ -1,5 +1,4 @@
 -- `pack` meets its contract. Assumes nothing.
-use Prim.Native.Nat.{_-_}
 use borrow.Author.Needs.{needs}
 use Rattle.sheet.specs.Held.{packed}
 use Rattle.sheet.proofs.laying.pack.Statement.{statement}
