@@ -11,10 +11,10 @@ use borrow.Author.Tests.{ne-eqb}
 use lib.Dec.{eqb}
 use lib.ListN.{drop, length, take, take-append-drop}
 use lib.Seq.{length-take-le}
-use Rattle.word.specs.declared.Edition.{Edition}
 use Rattle.word.specs.declared.Edition.the-variants.{Old}
 use Rattle.word.specs.Edition.{same, terms}
 use Rattle.rule.specs.declared.Rule.{Rule}
+use Rattle.accept.specs.Accept.{badConstant, badForm, badSense, ruleGrounds, strayBit}
 use Rattle.chain.specs.declared.Link.{Link}
 use Rattle.page.specs.Calls.{Call, add, after, ask, back, changed, firstThatApplies, forward, grounds, mark, open-at, refusal, written}
 use Rattle.page.specs.declared.Opening.{Opening}
@@ -23,7 +23,7 @@ use Rattle.hex.specs.Hex.{allDigits, glyph, hex, number}
 use Rattle.hex.proofs.Inverse.{all-digits-parts, digits-back}
 use Rattle.frame.specs.declared.Frame.{Frame}
 use Rattle.frame.specs.declared.Frame.the-variants.{Add, Ask, Back, Forward, Mark, NoFrame, Open}
-use Rattle.frame.specs.Answers.{answerBytes, chainLines, linkLine}
+use Rattle.frame.specs.Answers.{answerBytes, chainLines, linkLine, numberLine}
 use Rattle.frame.specs.Calls.{MadeCall, asks, callOf, lineCall, makes, none}
 use Rattle.frame.specs.Fields.{Line}
 use Rattle.frame.specs.Frames.{bare, byDigits, codeEdition, frameOf, numbered, ruleOf}
@@ -59,7 +59,7 @@ module _ (l : List ℕ) (o : OldLine l) where
       ∙ sym (rw (t, ne-eqb (length l) 2 (λ e. omega arith), ne-eqb (length l) 4 (λ e. omega arith), ne-eqb (length l) 22 (λ e. omega arith)))
 
   long-frame : 2 ≤ length l → allDigits l ≡ true → frameOf l ≡ frameBefore l
-  unfolding frameOf byDigits numbered ruleOf terms frameBefore
+  unfolding frameOf byDigits bare numbered ruleOf terms frameBefore
   long-frame h t = rw (t, old-code l o h t)
 
   same-frame : frameOf l ≡ frameBefore l
@@ -110,7 +110,7 @@ either true p q = p
 either false p q = q
 
 old-frame : (l : List ℕ) → OldFrame (frameBefore l)
-unfolding frameBefore bare
+unfolding frameBefore
 old-frame l =
     let k : ℕ = number (take 2 l) in
     let code = either (eqb k 3) marks (either (eqb k 4) goes-back (either (eqb k 5) asks-old (either (eqb k 6) goes-forward no-frame))) in
@@ -132,7 +132,7 @@ taken-opening (s ∷ ss) o = refl
 
 module _ (pg : Page) (h : editionOf pg ≡ Old) where
   same-refusal : (c : Call) → OfOld c → refusal pg c ≡ refusalBefore pg c
-  unfolding OfOld refusal refusalBefore grounds groundsBefore firstThatApplies terms same
+  unfolding OfOld refusal refusalBefore grounds groundsBefore ruleGrounds badForm badSense badConstant strayBit firstThatApplies terms same
   same-refusal (open-at g) e = rw e
   same-refusal (add e r) d = rw (d, h)
   same-refusal mark e = refl
@@ -147,7 +147,7 @@ module _ (pg : Page) (h : editionOf pg ≡ Old) where
   same-page (asks m) e = refl
 
   same-answer : (c : MadeCall) → OldCall c → answerTo pg c ≡ answerBefore pg c
-  unfolding OldCall OfOld answerTo answerBefore terms
+  unfolding OldCall OfOld answerTo answerBefore numberLine terms
   same-answer none e = refl
   same-answer (makes c) e = rw (same-refusal c e)
   same-answer (asks m) e = rw (h, same-refusal (ask m) tt, same-chain)
