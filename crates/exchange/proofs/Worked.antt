@@ -11,7 +11,7 @@ use Rattle.verdict.specs.Kept.{kept, verdictOf}
 use Rattle.chain.specs.Findings.{findings, chainFor}
 use Rattle.chain.specs.Links.{before, blocks, further, furthest, furthestOf, gap, goOn, linkAt, linkBy, links, linksFrom}
 use Rattle.page.specs.Calls.{after, changed, firstThatApplies, grounds, isBlank, marksOf, refusal, rulesOf, written as writes}
-use Rattle.page.specs.Page.{editionOf, entriesOf, laidAside, marksOn, pileOf, rulesOn, stretch, struck, takenUp, widthOf}
+use Rattle.page.specs.Page.{editionOf, entriesOf, laidAside, marksOn, rulesOn, struck, widthOf}
 use Rattle.hex.specs.Hex.{allDigits, glyph, hex, isDigit, number, numberFrom, value}
 use Rattle.frame.specs.Answers.{answerBytes, chainLines, lineBytes, numberLine}
 use Rattle.frame.specs.Calls.{callOf, lineCall}
@@ -44,12 +44,6 @@ pub empties : map (λ (t : String). exchange (bytesOf t)) ("" ∷ "\n" ∷ "\n\n
 unfolding
     exchange answersTo answerTo pageAfter lineCall callOf lines inFront bytesOf frameOf byDigits bare codeEdition numbered terms allDigits number numberFrom answerBytes lineBytes digitsIn numberLine hex glyph
 empties = refl
-
--- "With nothing waiting: refusal 12, after 17 and 1"; a stretch comes back, and an accepted mark empties what waits
-pub forwards : exchange (bytesOf "06\n0104\n06\n03\n04\n06\n06\n04\n03\n06\n") ≡ bytesOf "ff01\n00\nff0c\n00\n00\n00\nff0c\n00\n00\nff0c\n"
-unfolding
-    exchange answersTo answerTo pageAfter lineCall callOf lines inFront bytesOf frameOf byDigits bare codeEdition numbered terms allDigits isDigit number numberFrom value answerBytes lineBytes digitsIn numberLine hex glyph after refusal firstThatApplies grounds isBlank editionOf marksOf writes changed laidAside takenUp entriesOf pileOf rulesOn marksOn struck stretch
-forwards = refl
 
 -- an add of either edition on the blank sheet, `02` on a new sheet and `12` on an old one, each with a form that there is not; and the
 -- widths: 33 is refused by `01`, 65 by `11`, and 64 is not
