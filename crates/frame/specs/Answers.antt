@@ -28,16 +28,16 @@ ROOM = LINE + LINE * mostLinks RULES
 
 -- what an answer's line begins with: accepted, refused, the verdict, a link
 abbrev pub ACCEPTED : ℕ
-ACCEPTED = 0
+ACCEPTED = 0x00
 
 abbrev pub REFUSED : ℕ
-REFUSED = 255
+REFUSED = 0xff
 
 abbrev pub TOLD : ℕ
-TOLD = 160
+TOLD = 0xa0
 
 abbrev pub LINKED : ℕ
-LINKED = 192
+LINKED = 0xc0
 
 -- "10: a line of the program's input is none of the frames"
 abbrev pub NO-FRAME : ℕ

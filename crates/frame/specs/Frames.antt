@@ -22,10 +22,10 @@ use Rattle.frame.specs.Fields.{BYTE, DIGITS, InDigits, Line, WORD, byte,
 unfoldable pub fieldsOf : Frame → Line
 fieldsOf (Open g) = byte (terms (g .edition) .opens) ∷ byte (g .width) ∷ []
 fieldsOf (Add e r) = byte (terms e .adds) ∷ byte (r .form) ∷ byte (r .sense) ∷ word e (r .c1) ∷ word e (r .c2) ∷ []
-fieldsOf Mark = byte 3 ∷ []
-fieldsOf Back = byte 4 ∷ []
-fieldsOf Ask = byte 5 ∷ []
-fieldsOf Forward = byte 6 ∷ []
+fieldsOf Mark = byte 0x03 ∷ []
+fieldsOf Back = byte 0x04 ∷ []
+fieldsOf Ask = byte 0x05 ∷ []
+fieldsOf Forward = byte 0x06 ∷ []
 fieldsOf NoFrame = []
 
 -- a line is a frame: just its digits, which its numbers fit
@@ -63,7 +63,7 @@ ruleOf d l =
 
 -- a code and nothing more
 unfoldable pub bare : ℕ → Frame
-bare code = cond (eqb code 3) Mark (cond (eqb code 4) Back (cond (eqb code 5) Ask (cond (eqb code 6) Forward NoFrame)))
+bare code = cond (eqb code 0x03) Mark (cond (eqb code 0x04) Back (cond (eqb code 0x05) Ask (cond (eqb code 0x06) Forward NoFrame)))
 
 -- the edition whose frames have a code; a code that has none is looked for among the old ones
 unfoldable pub codeEdition : ℕ → Edition
