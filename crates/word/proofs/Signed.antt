@@ -36,6 +36,12 @@ below-zero (suc d) = ap (λ (n : ℕ). negsuc (suc n)) (zero-add d)
 pub top-reads : (w : ℕ) → 1 ≤ w → signed w (top w) ≡ negsuc 0
 top-reads w h = high w (top w) (omega (arith, halves w h, half-pos w)) (omega arith) ∙ ap negsuc (sub-self (top w))
 
+-- at half, and at the word before it: minus half, and half less one
+pub half-reads : (w : ℕ) → 1 ≤ w → (signed w (half w) ≡ negsuc (half w - 1)) × (signed w (half w - 1) ≡ pos (half w - 1))
+half-reads w h =
+    let e : top w - half w ≡ half w - 1 = omega (arith, halves w h, half-pos w) in
+    (high w (half w) (omega arith) (omega (arith, halves w h, half-pos w)) ∙ ap negsuc e, low w (half w - 1) (omega (arith, half-pos w)))
+
 module _ (w : ℕ) (width : 1 ≤ w) where
   raised-low : (a : ℕ) → a < half w → plus w (half w) a ≡ half w + a
   raised-low a l =
