@@ -1,4 +1,5 @@
--- The sheets worked by hand that 01 marks P, and K8's, as one table: width, rules, verdict, smallest, largest and links.
+-- The sheets worked by hand that 01 marks P, and K8's, as one table: width, rules, verdict, smallest, largest and links, and the number
+-- with which the desk refuses the last rule.
 use mathlib.Core.List.{List, [], _∷_}
 use mathlib.Core.Bool.{true, false}
 use Prim.Native.Nat.{ℕ, zero, suc}
@@ -12,9 +13,14 @@ pub record Case : Type 0 where
   pub width : ℕ
   pub rules : List Rule
   pub expected : Findings
+  pub number : ℕ
 
+-- a case whose rules are accepted, and one whose last rule is refused: what its rules mean stands beside
 abbrev pub case : ℕ → List Rule → Findings → Case
-case w rs a = record { width = w; rules = rs; expected = a }
+case w rs a = record { width = w; rules = rs; expected = a; number = 0 }
+
+abbrev pub refused : ℕ → List Rule → Findings → ℕ → Case
+refused w rs a n = record { width = w; rules = rs; expected = a; number = n }
 
 -- form 4, 3 with form 5, 13
 abbrev pub case6 : List Rule
@@ -40,7 +46,9 @@ cases =
     ∷ case 4 (rule 3 0 5 3 ∷ rule 7 0 3 3 ∷ []) (says (keeps 1 11 11) [])
     -- 8
     ∷ case 4 (rule 3 0 5 3 ∷ rule 7 0 12 4 ∷ []) (says (keeps 0 0 0) (link 0 10 0 ∷ link 11 15 BITS ∷ []))
-    -- in the place of 9, which is a refusal since K4: "Two form 7 rules that contradict each other stay accepted."
+    -- 9: "none; link (0,15,255)", and "Case 9 becomes that refusal" (K4)
+    ∷ refused 4 (rule 7 0 1 2 ∷ []) (says (keeps 0 0 0) (link 0 15 BITS ∷ [])) 5
+    -- K4: "Two form 7 rules that contradict each other stay accepted."
     ∷ case 4 (rule 7 0 1 1 ∷ rule 7 0 1 0 ∷ []) (says (keeps 0 0 0) (link 0 15 BITS ∷ []))
     -- 10
     ∷ case 4 (rule 6 0 9 0 ∷ rule 6 1 9 0 ∷ []) (says (keeps 0 0 0) (link 0 8 0 ∷ link 9 9 1 ∷ link 10 15 0 ∷ []))
