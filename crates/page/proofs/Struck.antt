@@ -1,11 +1,11 @@
--- What a step back leaves: the newest mark is the last of the marks, and it says how many rules stand above it, which are
--- the first ones and all that a step back leaves. Assumes nothing.
+-- What a step back leaves: the newest mark is the last of the marks, and it says how many rules stand above it, which are all that a
+-- step back leaves. Assumes nothing.
 use mathlib.Core.Path.{_≡_, sym, ap, _∙_}
 use mathlib.Core.List.{List, [], _∷_, _++_}
 use Prim.Native.Nat.{ℕ, _-_, _≤_, _<_}
 use native.Mathlib.Omega.{arith}
-use lib.ListN.{getD, length, length-append, take}
-use lib.Seq.{getD-at, take-at}
+use lib.ListN.{getD, length, length-append}
+use lib.Seq.{getD-at}
 use Rattle.page.specs.Page.{Entry, marksOn, rulesOn, stretch, struck}
 use Rattle.page.proofs.Stretches.{is-stretch, marks-more, rules-more, stretch-struck}
 
@@ -29,11 +29,6 @@ module _ (es : List Entry) (some : 0 < length (marksOn es)) where
       sym
       (ap (λ (ms : List ℕ). getD ms (length (marksOn es) - 1) 0) (marks-split es some)
       ∙ getD-at (marksOn (struck es)) (length (rulesOn (struck es))) [] 0 (length (marksOn es) - 1) marks-left-length)
-
-  pub rules-left : rulesOn (struck es) ≡ take (newest (marksOn es)) (rulesOn es)
-  rules-left =
-      sym
-      (ap (take (newest (marksOn es))) (rules-split es) ∙ take-at (rulesOn (struck es)) (rulesOn (stretch es)) (newest (marksOn es)) count-left)
 
   pub newest-low : newest (marksOn es) ≤ length (rulesOn es)
   newest-low = omega (arith, count-left, ap length (rules-split es), length-append (rulesOn (struck es)) (rulesOn (stretch es)))
