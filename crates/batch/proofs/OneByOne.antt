@@ -1,7 +1,7 @@
 -- The calls one by one come to what the batch call promises, by induction on the rules: each answer has the record of the
 -- clerk's page after its call. Assumes nothing.
 use mathlib.Core.Path.{_≡_, refl, sym, ap, _∙_}
-use mathlib.Core.List.{List, []}
+use mathlib.Core.List.{List}
 use Prim.Native.Nat.{ℕ}
 use lib.ListN.{length}
 use Rattle.word.specs.declared.Edition.{Edition}

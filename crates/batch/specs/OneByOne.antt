@@ -1,5 +1,5 @@
 -- The calls one by one, each with any outcome that satisfies its statement, up to the first refusal. That what these come to is
--- what the batch call promises is proved (proofs/OneByOne.antt).
+-- what the batch call promises is proved (proofs/OneByOne.antt), and that there are such outcomes, whatever is handed in (proofs/There.antt).
 use mathlib.Core.Path.{_≡_}
 use mathlib.Core.List.{List, [], _∷_}
 use Prim.Native.Nat.{ℕ, _+_}
@@ -30,3 +30,9 @@ pub data OneByOne (g : Opening) (us : List Rule) (b : List ℕ) : List ℕ → B
       → OneByOne g us b b (batches (refuses (a .number)) (length us))
   opens : {b′ : List ℕ} {r : Batch} (a : Answer) → Outcome blank (open-at g) a → a .number ≡ 0
       → Adding (g .edition) b (a .sheet) 0 us b′ r → OneByOne g us b b′ r
+
+-- some outcomes of the calls one by one
+pub record Comes (g : Opening) (us : List Rule) (b : List ℕ) : Type 0 where
+  pub buffer : List ℕ
+  pub answer : Batch
+  pub calls : OneByOne g us b buffer answer
