@@ -5,7 +5,7 @@ use Prim.Native.Nat.{ℕ, _+_, _-_, _≤_, _<_}
 use native.Mathlib.Omega.{arith}
 use lib.ListN.{drop, drop-of-length-le, length, length-append, length-drop}
 use lib.Seq.{drop-drop}
-use Rattle.frame.specs.declared.AfterLine.{AfterLine}
+use Rattle.sheet.specs.declared.Sheet.{Sheet}
 use Rattle.frame.specs.Answers.{ROOM, answerBytes}
 use Rattle.frame.specs.Statements.{PutAt}
 use Rattle.frame.proofs.Lines.{put-none, put-on}
@@ -32,9 +32,9 @@ module _ (d : Desk) (part : List ℕ) (from : ℕ) {line : List ℕ} (e : line �
         goes = omega (arith, ap length e, ap length (end-none (drop from part) n));
       }
 
-  pub turned-ended : {b b′ : List ℕ} {at : ℕ} (r : AfterLine) {g : Begun} → WholeAnswered (d .sheet) (d .begun) line b at b′ r → g ≡ none
-      → (from + length line ≡ length part → ⊥) → Turned d part from b at b′ (desk (r .sheet) g) (from + length line + 1) (r .end)
-  turned-ended r w k n =
+  pub turned-ended : {b b′ : List ℕ} {at end : ℕ} {t : Sheet} {g : Begun} → WholeAnswered (d .sheet) (d .begun) line b at b′ t end → g ≡ none
+      → (from + length line ≡ length part → ⊥) → Turned d part from b at b′ (desk t g) (from + length line + 1) end
+  turned-ended w k n =
       let m : length (lineOf (drop from part)) < length (drop from part) = omega (arith, ap length e, length-drop from part, line-fits (drop from part)) in
       record {
         bytes = answerBytes (w .lines);

@@ -5,7 +5,6 @@ use mathlib.Core.List.{List, [], _∷_, _++_}
 use Prim.Native.Nat.{ℕ, _+_, _-_, _≤_, _<_}
 use lib.ListN.{drop, length, take}
 use Rattle.sheet.specs.declared.Sheet.{Sheet}
-use Rattle.frame.specs.declared.AfterLine.{AfterLine}
 use Rattle.frame.specs.Answers.{NEWLINE, ROOM, answerBytes}
 use Rattle.frame.specs.Calls.{lineCall}
 use Rattle.frame.specs.Fields.{Line}
@@ -58,10 +57,10 @@ pub record Turned (d : Desk) (part : List ℕ) (from : ℕ) (b : List ℕ) (at :
   pub goes : next ≡ from + length (withEnd (drop from part))
 
 -- a line that was begun, and ends here
-pub record WholeAnswered (s : Sheet) (g : Begun) (line b : List ℕ) (at : ℕ) (b′ : List ℕ) (r : AfterLine) : Type 0 where
+pub record WholeAnswered (s : Sheet) (g : Begun) (line b : List ℕ) (at : ℕ) (b′ : List ℕ) (t : Sheet) (end : ℕ) : Type 0 where
   pub lines : List Line
-  pub said : LineSaid (desk s (joined g line)) (r .sheet) lines
-  pub puts : PutAt b at (answerBytes lines) b′ (r .end)
+  pub said : LineSaid (desk s (joined g line)) t lines
+  pub puts : PutAt b at (answerBytes lines) b′ end
   pub fits : length (answerBytes lines) ≤ ROOM
 
 -- Parts go in one after the other, each with any outcome that satisfies what feeding promises; what a feeding leaves of a part

@@ -1,7 +1,7 @@
 -- From what a call promises to what its line's answer promises. Assumes nothing.
 use mathlib.Core.Path.{_≡_, sym, ap, _∙_}
 use mathlib.Core.List.{List, [], _∷_, _++_, append-nil}
-use Prim.Native.Nat.{ℕ, _+_, _*_, _≤_}
+use Prim.Native.Nat.{ℕ, _*_, _≤_}
 use native.Mathlib.Decide.{ℕ-discrete}
 use native.Mathlib.Omega.{arith}
 use borrow.Author.Tests.{eq-eqb, ne-eqb}
@@ -16,7 +16,6 @@ use Rattle.page.specs.Calls.{ask, refusal}
 use Rattle.page.specs.Page.{Page}
 use Rattle.sheet.specs.Statements.{Asked, IsSheet, chainOn, overlaid, reply}
 use Rattle.sheet.proofs.Tested.{sheet-dec}
-use Rattle.frame.specs.declared.AfterLine.{AfterLine}
 use Rattle.frame.specs.declared.Frame.{Frame}
 use Rattle.frame.specs.Answers.{ROOM, answerBytes, askLines, keptLine, lineBytes, linkLines, numberLine}
 use Rattle.frame.specs.Calls.{callOf, lineCall}
@@ -29,17 +28,17 @@ number-fits : (n : ℕ) → length (answerBytes (numberLine n ∷ [])) ≤ ROOM
 unfolding answerBytes
 number-fits n = rw (append-nil (lineBytes (numberLine n))) (omega (arith, length-number n))
 
-pub line-answered : {s : Sheet} (line : List ℕ) {b b′ : List ℕ} {at : ℕ} (r : AfterLine) {f : Frame} {t : Sheet} {lines : List Line}
-    → f ≡ frameOf line → Said s (callOf f) t lines → r .sheet ≡ t → PutAt b at (answerBytes lines) b′ (r .end) → length (answerBytes lines) ≤ ROOM
-    → LineAnswered s line b at b′ r
+pub line-answered : {s : Sheet} (line : List ℕ) {b b′ : List ℕ} {at end : ℕ} {f : Frame} {t u : Sheet} {lines : List Line}
+    → f ≡ frameOf line → Said s (callOf f) t lines → u ≡ t → PutAt b at (answerBytes lines) b′ end → length (answerBytes lines) ≤ ROOM
+    → LineAnswered s line b at b′ u end
 unfolding lineCall
-line-answered line r {lines} e h q l k = record { lines = lines; said = rw (sym e, q) h; puts = l; fits = k }
+line-answered line {lines} e h q l k = record { lines = lines; said = rw (sym e, q) h; puts = l; fits = k }
 
 -- the answer is a number
-pub number-answered : {s : Sheet} (line : List ℕ) {b b′ : List ℕ} {at : ℕ} (r : AfterLine) {f : Frame} {t : Sheet} (n : ℕ)
-    → f ≡ frameOf line → Said s (callOf f) t (numberLine n ∷ []) → r .sheet ≡ t → PutAt b at (lineBytes (numberLine n)) b′ (r .end)
-    → LineAnswered s line b at b′ r
-number-answered line r n e h q l = line-answered line r e h q (one-line (numberLine n) l) (number-fits n)
+pub number-answered : {s : Sheet} (line : List ℕ) {b b′ : List ℕ} {at end : ℕ} {f : Frame} {t u : Sheet} (n : ℕ)
+    → f ≡ frameOf line → Said s (callOf f) t (numberLine n ∷ []) → u ≡ t → PutAt b at (lineBytes (numberLine n)) b′ end
+    → LineAnswered s line b at b′ u end
+number-answered line n e h q l = line-answered line e h q (one-line (numberLine n) l) (number-fits n)
 
 -- ---- asking
 

@@ -1,6 +1,6 @@
 -- No second outcome satisfies what answering a line promises: the line picks the call, and a record is a sheet or it is not.
 -- Assumes nothing.
-use mathlib.Core.Path.{_≡_, refl, sym, ap, ap₂, _∙_}
+use mathlib.Core.Path.{_≡_, refl, sym, ap, _∙_}
 use mathlib.Core.List.{List, [], _∷_}
 use Prim.Native.Nat.{ℕ, _+_}
 use lib.ListN.{length}
@@ -11,7 +11,6 @@ use Rattle.sheet.specs.declared.Sheet.{Sheet}
 use Rattle.sheet.specs.Statements.{Asked, IsSheet}
 use Rattle.sheet.proofs.Tested.{sheet-dec}
 use Rattle.demands.proofs.Unique.{outcome-unique}
-use Rattle.frame.specs.declared.AfterLine.{AfterLine}
 use Rattle.frame.specs.Answers.{answerBytes, askLines, numberLine}
 use Rattle.frame.specs.Calls.{MadeCall}
 use Rattle.frame.specs.Fields.{Line}
@@ -45,9 +44,9 @@ put-unique {b} {at} e u v = (
   u .ends ∙ ap (λ (l : List ℕ). at + length l) e ∙ sym (v .ends),
 )
 
-pub answered-unique : {s : Sheet} {l b b₁ b₂ : List ℕ} {at : ℕ} {r₁ r₂ : AfterLine} → LineAnswered s l b at b₁ r₁ → LineAnswered s l b at b₂ r₂
-    → (r₁ ≡ r₂) × (b₁ ≡ b₂)
+pub answered-unique : {s : Sheet} {l b b₁ b₂ : List ℕ} {at m n : ℕ} {t₁ t₂ : Sheet} → LineAnswered s l b at b₁ t₁ m → LineAnswered s l b at b₂ t₂ n
+    → (t₁ ≡ t₂) × (b₁ ≡ b₂) × (m ≡ n)
 answered-unique u v =
     let s = said-unique (u .said) (v .said) in
     let w = put-unique (ap answerBytes (s .1)) (u .puts) (v .puts) in
-    (ap₂ (λ (t : Sheet) (n : ℕ). record { sheet = t; end = n }) (s .0) (w .1), w .0)
+    (s .0, w .0, w .1)

@@ -11,7 +11,6 @@ use Rattle.sheet.specs.declared.Sheet.{Sheet}
 use Rattle.page.specs.Calls.{Call}
 use Rattle.sheet.specs.Statements.{Asked, Outcome}
 use Rattle.hex.specs.Hex.{Written}
-use Rattle.frame.specs.declared.AfterLine.{AfterLine}
 use Rattle.frame.specs.Answers.{NO-FRAME, ROOM, answerBytes, askLines, numberLine}
 use Rattle.frame.specs.Calls.{MadeCall, asks, lineCall, makes, none}
 use Rattle.frame.specs.Fields.{Line}
@@ -36,9 +35,9 @@ pub record AskPut (s : Sheet) (b : List ℕ) (at : ℕ) (b′ : List ℕ) (end :
   pub puts : PutAt b at (answerBytes lines) b′ end
   pub fits : length (answerBytes lines) ≤ ROOM
 
--- a line's answer, written
-pub record LineAnswered (s : Sheet) (line b : List ℕ) (at : ℕ) (b′ : List ℕ) (r : AfterLine) : Type 0 where
+-- a line's answer, written, with the record after the line and where the answer ends
+pub record LineAnswered (s : Sheet) (line b : List ℕ) (at : ℕ) (b′ : List ℕ) (t : Sheet) (end : ℕ) : Type 0 where
   pub lines : List Line
-  pub said : Said s (lineCall line) (r .sheet) lines
-  pub puts : PutAt b at (answerBytes lines) b′ (r .end)
+  pub said : Said s (lineCall line) t lines
+  pub puts : PutAt b at (answerBytes lines) b′ end
   pub fits : length (answerBytes lines) ≤ ROOM

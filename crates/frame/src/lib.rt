@@ -10,7 +10,6 @@ use chain::Link;
 use page::Opening;
 pub use reading::decode;
 use rule::Rule;
-use sheet::Sheet;
 use word::Edition;
 
 // What a line asks for. An opening and an add are frames of an edition.
@@ -22,12 +21,6 @@ pub enum Frame {
     Ask,
     Forward,
     NoFrame,
-}
-
-// The sheet after a line, and where its answer ends in the lent buffer.
-pub struct AfterLine {
-    pub sheet: Sheet,
-    pub end: usize,
 }
 
 // A number in a line, in so many digits.

@@ -11,10 +11,9 @@ use Rattle.exchange.specs.Statements.{Turned, WholeAnswered}
 use Rattle.lent_head.specs.declared.Head.{Head}
 use Rattle.lent_head.specs.Held.{Held}
 use Rattle.sheet.specs.Held.{packed}
-use Rattle.lent_frame.specs.Statements.{after}
 
 pub record LaidWhole (s : Sheet) (g : Begun) (line b : List ℕ) (at : ℕ) (b′ : List ℕ) (h : Head) (rules marks from to : List ℕ) (side : List Bool) (end : ℕ) : Type 0 where
-  pub whole : WholeAnswered s g line b at b′ (after (packed h rules marks) end)
+  pub whole : WholeAnswered s g line b at b′ (packed h rules marks) end
   pub held : Held h rules marks from to side
 
 pub record LaidTurn (d : Desk) (part : List ℕ) (start : ℕ) (b : List ℕ) (at : ℕ) (b′ : List ℕ) (h : Head) (g : Begun) (rules marks from to : List ℕ) (side : List Bool) (next end : ℕ) : Type 0 where

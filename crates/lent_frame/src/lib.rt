@@ -5,10 +5,11 @@ ghost use lib.ListN.{length};
 ghost use Rattle.rule.specs.Meaning.{RULES};
 ghost use Rattle.chain.specs.Links.{chainRoom};
 ghost use Rattle.frame.specs.Answers.{ROOM, SHORT, lineBytes, numberLine};
+ghost use Rattle.frame.specs.Calls.{asks, lineCall};
 ghost use Rattle.frame.specs.Statements.{AskPut, PutAt};
 ghost use Rattle.lent_head.specs.Held.{Held};
 ghost use Rattle.sheet.specs.Held.{packed};
-ghost use Rattle.lent_frame.specs.Statements.{LaidAnswered};
+ghost use Rattle.lent_frame.specs.Statements.{ChainLeft, LaidAnswered};
 use frame::Frame;
 use frame::kept_line;
 use frame::put_line;
@@ -46,7 +47,7 @@ pub fn answer(
     requires { ⌜ Held head (now rules) (now marks) (now from) (now to) (now side) ⌝ }
     requires { ⌜ (length (now chain) ≡ chainRoom RULES) × (at + ROOM ≤ length (now out)) ⌝ }
     ensures { λ r. ⌜ LaidAnswered (packed head (now (rules .entry)) (now (marks .entry))) (now (line .entry)) (now (out .entry)) at (now (out .exit)) (r .head) (now (rules .exit)) (now (marks .exit)) (now (from .exit)) (now (to .exit)) (now (side .exit)) (r .end) ⌝ }
-    ensures { λ r. ⌜ length (now (chain .exit)) ≡ chainRoom RULES ⌝ }
+    ensures { λ r. ⌜ (length (now (chain .exit)) ≡ chainRoom RULES) × ChainLeft (packed head (now (rules .entry)) (now (marks .entry))) (now (chain .entry)) (lineCall (now (line .entry))) (now (chain .exit)) ⌝ }
 {
     let frame = frame::decode(line);
     match frame {
@@ -135,7 +136,7 @@ fn asked(
     requires { ⌜ Held head (now rules) (now marks) (now from) (now to) (now side) ⌝ }
     requires { ⌜ (length (now chain) ≡ chainRoom RULES) × (at + ROOM ≤ length (now out)) ⌝ }
     ensures { λ r. ⌜ AskPut (packed head (now (rules .entry)) (now (marks .entry))) (now (out .entry)) at (now (out .exit)) r ⌝ }
-    ensures { λ r. ⌜ length (now (chain .exit)) ≡ chainRoom RULES ⌝ }
+    ensures { λ r. ⌜ (length (now (chain .exit)) ≡ chainRoom RULES) × ChainLeft (packed head (now (rules .entry)) (now (marks .entry))) (now (chain .entry)) (asks (chainRoom RULES)) (now (chain .exit)) ⌝ }
 {
     let reply = laid::ask(head, rules, marks, from, to, side, &mut *chain);
     if reply.number != 0 {

@@ -21,7 +21,7 @@ unfolding begunLine
 returns c =
     let a = c .before .before .before .before .before .before .before .before .before .before .before .before .before .args in
     let r = c .before .before .answer .ensures in
-    (rw (take-all (a .len) (a .t8) (omega (arith, c .before .before .before .before .before .before .before .before .before .before .before))) (r .0), r .1)
+    (rw (take-all (a .len) (a .t8) (omega (arith, c .before .before .before .before .before .before .before .before .before .before .before))) (r .0), r .1 .0)
 
 array-share-prefix-bytes : tie.Need-array-share-prefix-bytes
 array-share-prefix-bytes c = search needs
@@ -37,7 +37,7 @@ same-length-2 c = search needs
 
 returns-2 : tie.Need-returns-2
 unfolding begunLine
-returns-2 c = c .before .before .answer2 .ensures
+returns-2 c = let r = c .before .before .answer2 .ensures in (r .0, r .1 .0)
 
 pub answer-held-spec : {M : Type 1} → statement M
 answer-held-spec =

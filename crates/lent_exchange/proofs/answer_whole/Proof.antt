@@ -27,7 +27,7 @@ returns c =
         };
         held = r .0 .held;
       },
-      r .1,
+      r .1 .0,
     )
 
 with-requires : tie.Need-with-requires

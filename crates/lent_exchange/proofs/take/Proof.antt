@@ -47,7 +47,7 @@ returns-2 c =
     let s = c .before .before .before .before .before .before .before .before .before .before .before .before .before .before .before .before .before in
     let w = c .before .before .before .before .answer-whole .ensures in (
       record {
-        turned = turned-ended _ _ _ (c .before .before .before .before .before .before .before .before .before .before .before .before .before .before .line-at .ensures) (s .pre .1 .1) _ (w .0 .whole) (c .none .ensures) (c .before .before .before .before .before .before .before .before .before .before .before .before .before .if1 .left);
+        turned = turned-ended _ _ _ (c .before .before .before .before .before .before .before .before .before .before .before .before .before .before .line-at .ensures) (s .pre .1 .1) (w .0 .whole) (c .none .ensures) (c .before .before .before .before .before .before .before .before .before .before .before .before .before .if1 .left);
         held = w .0 .held;
       },
       w .1,

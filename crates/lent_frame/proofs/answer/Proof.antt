@@ -1,6 +1,5 @@
 -- `answer` meets its contract: each frame's call is made on the arrays, and what it promises is written. Assumes nothing.
 use mathlib.Core.Path.{refl, sym, _∙_}
-use Prim.Native.Nat.{_-_}
 use borrow.Author.Needs.{needs}
 use Rattle.page.specs.Calls.{add, back, forward, mark, open-at}
 use Rattle.frame.specs.Calls.{callOf}
@@ -11,7 +10,8 @@ use Rattle.sheet.proofs.Marked.{mark-after}
 use Rattle.sheet.proofs.Opened.{open-after}
 use Rattle.sheet.proofs.SteppedBack.{back-after}
 use Rattle.sheet.proofs.SteppedForward.{forward-after}
-use Rattle.lent_frame.proofs.Laid.{laid-number}
+use Rattle.lent_frame.specs.Statements.{no-frame, untouched}
+use Rattle.lent_frame.proofs.Laid.{laid-number, left-so}
 use Rattle.lent_frame.proofs.answer.Statement.{statement}
 use Rattle.lent_frame.proofs.answer.Tie as tie
 
@@ -83,7 +83,7 @@ unfolding callOf
 returns c =
     let s = c .before .before .before .before .before .before .before .before .before .before .before .before .before .before .before .before in
     let e = sym (c .before .before .before .before .before .before .before .before .before .before .before .frame .given .1) ∙ c .before .before .before .before .before .before .before .before .before .before .before .before .before .decode .ensures in
-    (laid-number _ (open-at _) e refl (open-after (s .pre .0) _ (c .before .before .before .before .open .ensures)) (c .before .before .told .ensures .0) (c .before .before .told .ensures .1), s .pre .1 .0)
+    (laid-number _ (open-at _) e refl (open-after (s .pre .0) _ (c .before .before .before .before .open .ensures)) (c .before .before .told .ensures .0) (c .before .before .told .ensures .1), (s .pre .1 .0, left-so _ e refl untouched))
 
 same-length-2 : tie.Need-same-length-2
 same-length-2 c = search needs
@@ -93,7 +93,7 @@ unfolding callOf
 returns-2 c =
     let s = c .before .before .before .before .before .before .before .before .before .before .before .before .before .before .before .before in
     let e = sym (c .before .before .before .before .before .before .before .before .before .before .before .frame2 .given .1) ∙ c .before .before .before .before .before .before .before .before .before .before .before .before .before .decode .ensures in
-    (laid-number _ (add _ _) e refl (add-after (s .pre .0) (c .before .before .before .before .add .ensures)) (c .before .before .told2 .ensures .0) (c .before .before .told2 .ensures .1), s .pre .1 .0)
+    (laid-number _ (add _ _) e refl (add-after (s .pre .0) (c .before .before .before .before .add .ensures)) (c .before .before .told2 .ensures .0) (c .before .before .told2 .ensures .1), (s .pre .1 .0, left-so _ e refl untouched))
 
 same-length-3 : tie.Need-same-length-3
 same-length-3 c = search needs
@@ -103,7 +103,7 @@ unfolding callOf
 returns-3 c =
     let s = c .before .before .before .before .before .before .before .before .before .before .before .before .before .before .before in
     let e = sym (c .before .before .before .before .before .before .before .before .before .before .enum-told .given .1) ∙ c .before .before .before .before .before .before .before .before .before .before .before .before .decode .ensures in
-    (laid-number _ mark e refl (mark-after (s .pre .0) (c .before .before .before .before .mark .ensures)) (c .before .before .told3 .ensures .0) (c .before .before .told3 .ensures .1), s .pre .1 .0)
+    (laid-number _ mark e refl (mark-after (s .pre .0) (c .before .before .before .before .mark .ensures)) (c .before .before .told3 .ensures .0) (c .before .before .told3 .ensures .1), (s .pre .1 .0, left-so _ e refl untouched))
 
 same-length-4 : tie.Need-same-length-4
 same-length-4 c = search needs
@@ -113,7 +113,7 @@ unfolding callOf
 returns-4 c =
     let s = c .before .before .before .before .before .before .before .before .before .before .before .before .before .before .before in
     let e = sym (c .before .before .before .before .before .before .before .before .before .before .enum-told2 .given .1) ∙ c .before .before .before .before .before .before .before .before .before .before .before .before .decode .ensures in
-    (laid-number _ back e refl (back-after (s .pre .0) (c .before .before .before .before .back .ensures)) (c .before .before .told4 .ensures .0) (c .before .before .told4 .ensures .1), s .pre .1 .0)
+    (laid-number _ back e refl (back-after (s .pre .0) (c .before .before .before .before .back .ensures)) (c .before .before .told4 .ensures .0) (c .before .before .told4 .ensures .1), (s .pre .1 .0, left-so _ e refl untouched))
 
 same-length-5 : tie.Need-same-length-5
 same-length-5 c = search needs
@@ -124,7 +124,7 @@ returns-5 c =
     let s = c .before .before .before .before .before .before .before .before .before .before .before .before .before .before .before in
     let e = sym (c .before .before .before .before .before .before .before .before .before .before .enum-told3 .given .1) ∙ c .before .before .before .before .before .before .before .before .before .before .before .before .decode .ensures in
     let a = c .before .before .asked .ensures in
-    (record { answered = line-answered _ _ e (a .0 .said) refl (a .0 .puts) (a .0 .fits); held = s .pre .0 }, a .1)
+    (record { answered = line-answered _ e (a .0 .said) refl (a .0 .puts) (a .0 .fits); held = s .pre .0 }, (a .1 .0, left-so _ e refl (a .1 .1)))
 
 same-length-6 : tie.Need-same-length-6
 same-length-6 c = search needs
@@ -134,7 +134,7 @@ unfolding callOf
 returns-6 c =
     let s = c .before .before .before .before .before .before .before .before .before .before .before .before .before .before .before in
     let e = sym (c .before .before .before .before .before .before .before .before .before .before .enum-told4 .given .1) ∙ c .before .before .before .before .before .before .before .before .before .before .before .before .decode .ensures in
-    (laid-number _ forward e refl (forward-after (s .pre .0) (c .before .before .before .before .forward .ensures)) (c .before .before .told5 .ensures .0) (c .before .before .told5 .ensures .1), s .pre .1 .0)
+    (laid-number _ forward e refl (forward-after (s .pre .0) (c .before .before .before .before .forward .ensures)) (c .before .before .told5 .ensures .0) (c .before .before .told5 .ensures .1), (s .pre .1 .0, left-so _ e refl untouched))
 
 same-length-7 : tie.Need-same-length-7
 same-length-7 c = search needs
@@ -144,7 +144,7 @@ unfolding callOf
 returns-7 c =
     let s = c .before .before .before .before .before .before .before .before .before in
     let e = sym (c .before .before .before .before .enum-told5 .given .1) ∙ c .before .before .before .before .before .before .decode .ensures in
-    (record { answered = number-answered _ _ _ e no-call refl (c .before .before .put-number .ensures); held = s .pre .0 }, s .pre .1 .0)
+    (record { answered = number-answered _ _ e no-call refl (c .before .before .put-number .ensures); held = s .pre .0 }, (s .pre .1 .0, left-so _ e refl no-frame))
 
 pub answer-spec : {M : Type 1} → statement M
 answer-spec =

@@ -1,6 +1,6 @@
 -- `asked` meets its contract: the chain fits the numbers lent, so its links are few enough for the room. Assumes nothing.
-use mathlib.Core.Path.{_≡_, _∙_}
-use Prim.Native.Nat.{_-_, _≤_}
+use mathlib.Core.Path.{_∙_}
+use Prim.Native.Nat.{_≤_}
 use native.Mathlib.Omega.{arith}
 use borrow.Author.Needs.{needs}
 use lib.ListN.{length}
@@ -8,6 +8,7 @@ use Rattle.frame.specs.Answers.{LINE, lineBytes}
 use Rattle.frame.proofs.Lines.{length-kept, put-on}
 use Rattle.frame.proofs.Saying.{ask-answered, ask-refused, few-links}
 use Rattle.sheet.specs.Held.{packed}
+use Rattle.lent_frame.specs.Statements.{by-asking}
 use Rattle.lent_frame.proofs.asked.Statement.{statement}
 use Rattle.lent_frame.proofs.asked.Tie as tie
 
@@ -26,7 +27,7 @@ returns c =
     let q = c .before .before .before .before .before .before in
     let s = q .before .before .before in (
       ask-refused (s .pre .1 .0) (q .ask .ensures) (c .before .before .before .before .if1 .taken) (c .before .before .put-number .ensures),
-      q .ask .kept .1 .1 .1 .1 .1 .1 .0 ∙ s .pre .1 .0,
+      (q .ask .kept .1 .1 .1 .1 .1 .1 .0 ∙ s .pre .1 .0, by-asking _ (q .ask .ensures)),
     )
 
 kept-line-requires : tie.Need-kept-line-requires
@@ -58,7 +59,7 @@ returns-2 c =
     let put = rw (p .before .kept-line .ensures) at (p .put-line .ensures) in
     let few = few-links (q .ask .ensures) (s .pre .1 .0) (q .ask .kept .1 .1 .1 .1 .1 .1 .0 ∙ s .pre .1 .0) in (
       ask-answered (s .pre .1 .0) (q .ask .ensures) (c .before .before .before .before .before .before .before .before .before .before .before .if1 .left) few (put-on put (c .before .before .put-links .ensures)),
-      q .ask .kept .1 .1 .1 .1 .1 .1 .0 ∙ s .pre .1 .0,
+      (q .ask .kept .1 .1 .1 .1 .1 .1 .0 ∙ s .pre .1 .0, by-asking _ (q .ask .ensures)),
     )
 
 pub asked-spec : {M : Type 1} → statement M
