@@ -1,4 +1,4 @@
--- The bits that rules of form 7 fix: a mask, and the value that a word's AND with it has.
+-- The bits that rules of form 7 fix: a mask, and the value that a word's AND with it has. A route: what they mean is `meets7`.
 use mathlib.Core.Path.{_≡_}
 use mathlib.Core.Bool.{Bool, false, _&&_, cond}
 use mathlib.Core.List.{List, [], _∷_}

@@ -1,5 +1,5 @@
--- What is promised of a line that ends, on a sheet that is laid out, and of a turn: what is promised of the record, and that the
--- arrays hold it.
+-- A route: what is promised of a line that ends, on a sheet that is laid out, and of a turn. It is what is promised of the record, and
+-- that the arrays hold it.
 use mathlib.Core.Bool.{Bool}
 use mathlib.Core.List.{List}
 use Prim.Native.Nat.{ℕ}

@@ -1,4 +1,4 @@
--- The numbers that a call finds from the head before it does anything.
+-- The numbers that a call finds from the head before it does anything. A route: they are the table's, as is proved of the record.
 use mathlib.Core.Bool.{Bool, cond}
 use Prim.Native.Nat.{ℕ}
 use lib.Dec.{eqb, leb}

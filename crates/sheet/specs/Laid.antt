@@ -1,4 +1,4 @@
--- What a call on a sheet that is laid out promises: the same outcome as of the call on the record, and that the arrays hold it.
+-- What a call on a sheet that is laid out promises: the outcome of the call on the record, and that the arrays hold it. A route.
 use mathlib.Core.Bool.{Bool}
 use mathlib.Core.List.{List}
 use Prim.Native.Nat.{ℕ}

@@ -1,4 +1,4 @@
--- What a record is found to be before a call looks at anything else.
+-- What a record is found to be before a call looks at anything else. A route: the calls' statements do not name it.
 use mathlib.Core.Path.{_≡_}
 use Prim.Native.Nat.{ℕ}
 use Rattle.word.specs.declared.Edition.{Edition}
