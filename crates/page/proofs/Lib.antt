@@ -1,6 +1,7 @@
 pub mod Accepted
 pub mod Freed
 pub mod Lawful
+pub mod Lowest
 pub mod Refusals
 pub mod Replayed
 pub mod ShapedMarks

@@ -1,4 +1,5 @@
 pub mod Calls
+pub mod Lowest
 pub mod Page
 pub mod Reached
 pub mod Shape
