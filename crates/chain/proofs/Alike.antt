@@ -48,3 +48,8 @@ by-any-start f g p gap Nowhere = (refl, refl)
 pub as-before : (w : ℕ) (rs : List Rule) → Alike (links w rs) (oldLinks w rs)
 unfolding links linksFrom oldLinks linkAt oldLinkAt
 as-before w rs = alike (linkAt w rs) (oldLinkAt w rs) (λ p. by-any-start _ _ p (gap w rs p) (furthest w rs p)) (top w) (2 ^ w) 0
+
+-- "Links with reason 255 stay": where p fails no rule outside form 7, the link at p is the very one from before
+pub bits-stay : (w : ℕ) (rs : List Rule) (p : ℕ) → furthest w rs p ≡ Nowhere → linkAt w rs p ≡ oldLinkAt w rs p
+unfolding linkAt oldLinkAt linkBy
+bits-stay w rs p e = rw e
