@@ -1,4 +1,4 @@
--- Whose bands and bits they are.
+-- Whose bands and bits they are. A route, as bands and bits are.
 use mathlib.Core.Path.{_≡_}
 use mathlib.Core.List.{List, map}
 use Prim.Native.Nat.{ℕ}

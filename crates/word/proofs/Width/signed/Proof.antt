@@ -8,7 +8,6 @@ use lib.IntN.{ℤ, negsuc, _-ℤ_}
 use mir.Syntax.{w64}
 use mir.Val.{SFits, toZ}
 use mir.ValLaws.{toZ-pos, toZ-ofZ}
-use Rattle.word.specs.Word.{signed}
 use Rattle.word.proofs.Signed.{low, high, below-zero}
 use Rattle.word.proofs.Widths.{halves, half-fits}
 use Rattle.word.proofs.Width.signed.Statement.{statement}
