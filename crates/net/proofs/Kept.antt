@@ -29,7 +29,7 @@ use Rattle.net.proofs.Unchanged.{not-named}
 abbrev pub AllWords : (w n : ℕ) → List Interval → Type 0
 AllWords w n ws = (k : ℕ) → k < n → Words w (wordAt ws k)
 
-first-in : {w : ℕ} {i : Interval} → Words w i → In i (i .low)
+pub first-in : {w : ℕ} {i : Interval} → Words w i → In i (i .low)
 first-in m = record { low = omega arith; high = m .order }
 
 -- K11's tests pass
@@ -80,7 +80,7 @@ module _ (ws : List Interval) (v : ℕ → ℕ) (x y : ℕ) where
   third-in w Xor h i l m = m
 
 module _ {w n : ℕ} (j : Join) (ws : List Interval) (width : isWidth w ≡ true) (names : Named n j) (good : AllWords w n ws) where
-  accepts : refusal w (j .op) (wordAt ws (j .h)) (wordAt ws (j .x)) (wordAt ws (third j)) ≡ 0
+  pub accepts : refusal w (j .op) (wordAt ws (j .h)) (wordAt ws (j .x)) (wordAt ws (third j)) ≡ 0
   unfolding refusal
   accepts = taken width (good _ (names .h)) (good _ (names .x)) (second-words (j .op) (good _ (names .y)))
 

@@ -30,7 +30,7 @@ cut-by : (i by : Interval) → Inside (cut i by) by
 unfolding cut
 cut-by i by = record { low = omega arith; high = omega arith }
 
-third-y : (op : Op) (x y : ℕ) → (op ≡ Not → ⊥) → placeOf op x y ≡ y
+pub third-y : (op : Op) (x y : ℕ) → (op ≡ Not → ⊥) → placeOf op x y ≡ y
 unfolding placeOf
 third-y Not x y n = absurd (n refl)
 third-y And x y n = refl
@@ -48,9 +48,9 @@ module _ (p : ℕ) where
   still-there : {o : Interval} (k : ℕ) (by : Interval) (ws : List Interval) → Inside (wordAt ws p) o → Inside (wordAt (cutAt k by ws) p) o
   still-there {o} k by ws h = kept-at (λ i. Inside i o) p k by ws (λ e. cut-inside by) h
 
-  as-long : (k : ℕ) (by : Interval) (ws : List Interval) → p < length ws → p < length (cutAt k by ws)
+  still-placed : (k : ℕ) (by : Interval) (ws : List Interval) → p < length ws → p < length (cutAt k by ws)
   unfolding cutAt
-  as-long k by ws l = omega (arith, l, length-set ws k (cut (wordAt ws k) by))
+  still-placed k by ws l = omega (arith, l, length-set ws k (cut (wordAt ws k) by))
 
   module _ (j : Join) (r : Joined) (ws : List Interval) (l : p < length ws) where
     by-h : p ≡ j .h → Inside (wordAt (cutAll j r ws) p) (r .h)
@@ -59,11 +59,11 @@ module _ (p : ℕ) where
 
     by-x : p ≡ j .x → Inside (wordAt (cutAll j r ws) p) (r .x)
     unfolding cutAll
-    by-x e = still-there (third j) (r .y) _ (cut-there (j .x) (r .x) _ e (as-long (j .h) (r .h) ws l))
+    by-x e = still-there (third j) (r .y) _ (cut-there (j .x) (r .x) _ e (still-placed (j .h) (r .h) ws l))
 
     by-y : p ≡ third j → Inside (wordAt (cutAll j r ws) p) (r .y)
     unfolding cutAll
-    by-y e = cut-there (third j) (r .y) _ e (as-long (j .x) (r .x) _ (as-long (j .h) (r .h) ws l))
+    by-y e = cut-there (third j) (r .y) _ e (still-placed (j .x) (r .x) _ (still-placed (j .h) (r .h) ws l))
 
   -- a NOT gives its third word back as it came
   among-third : {a : ℕ} (w : ℕ) (op : Op) (h i : Interval) (x y : ℕ) (ws : List Interval) → In (wordAt ws p) a
@@ -76,28 +76,34 @@ module _ (p : ℕ) where
   among-third w Or h i x y ws m f e = f (no-not refl) e
   among-third w Xor h i x y ws m f e = f (no-not refl) e
 
-  -- "A join that names a word twice cuts it by all its results": where no cut is empty, what is left of the word at p has the words of
-  -- its old interval that are among all the results for it, and no others
-  module _ (w : ℕ) (j : Join) (ws : List Interval) (f : emptied w j ws ≡ false) {a : ℕ} where
-    pub left-among : p < length ws → In (wordAt (left w j ws) p) a → In (wordAt ws p) a × InResults j (results w j ws) p a
-    unfolding left after third
-    left-among l =
-        rw f
-        (λ m. (
-          inside-in (shrinks w j ws p) m,
-          record {
-            h = λ e. inside-in (by-h j r ws l e) m;
-            x = λ e. inside-in (by-x j r ws l e) m;
-            y = λ n e. inside-in (by-y j r ws l (e ∙ sym (third-y (j .op) (j .x) (j .y) n))) m;
-          },
-        ))
+  -- all cuts of a step leave at p the words of its old interval that are among all the results for it, and no others
+  module _ (w : ℕ) (j : Join) (ws : List Interval) {a : ℕ} where
+    pub after-among : p < length ws → In (wordAt (after w j ws) p) a → In (wordAt ws p) a × InResults j (results w j ws) p a
+    unfolding after third
+    after-among l m = (
+      inside-in (shrinks w j ws p) m,
+      record {
+        h = λ e. inside-in (by-h j r ws l e) m;
+        x = λ e. inside-in (by-x j r ws l e) m;
+        y = λ n e. inside-in (by-y j r ws l (e ∙ sym (third-y (j .op) (j .x) (j .y) n))) m;
+      },
+    )
       where
         r : Joined
         r = results w j ws
 
-    pub among-left : In (wordAt ws p) a → InResults j (results w j ws) p a → In (wordAt (left w j ws) p) a
-    unfolding left after results third
-    among-left m i =
-        rw f
-        (kept-all (λ o. In o a) p j (results w j ws) ws (λ e o n. in-cut n (i .h e)) (λ e o n. in-cut n (i .x e))
-        (λ e o n. in-cut n (among-third w (j .op) _ _ (j .x) (j .y) ws m (i .y) e)) m)
+    pub among-after : In (wordAt ws p) a → InResults j (results w j ws) p a → In (wordAt (after w j ws) p) a
+    unfolding after results third
+    among-after m i =
+        kept-all (λ o. In o a) p j (results w j ws) ws (λ e o n. in-cut n (i .h e)) (λ e o n. in-cut n (i .x e))
+        (λ e o n. in-cut n (among-third w (j .op) _ _ (j .x) (j .y) ws m (i .y) e)) m
+
+    -- "A join that names a word twice cuts it by all its results", where no cut is empty
+    module _ (f : emptied w j ws ≡ false) where
+      pub left-among : p < length ws → In (wordAt (left w j ws) p) a → In (wordAt ws p) a × InResults j (results w j ws) p a
+      unfolding left
+      left-among l = rw f (after-among l)
+
+      pub among-left : In (wordAt ws p) a → InResults j (results w j ws) p a → In (wordAt (left w j ws) p) a
+      unfolding left
+      among-left m i = rw f (among-after m i)

@@ -1,6 +1,7 @@
 pub mod Accepted
 pub mod Alike
 pub mod Cuts
+pub mod Emptied
 pub mod Every
 pub mod Going
 pub mod Kept

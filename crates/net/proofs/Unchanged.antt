@@ -51,7 +51,7 @@ module _ (j : Join) (r : Joined) (ws : List Interval) where
   not-named p h x y =
       elsewhere (third j) (r .y) _ p y ∙ elsewhere (j .x) (r .x) _ p x ∙ elsewhere (j .h) (r .h) ws p h
 
-  as-long : length (cutAll j r ws) ≡ length ws
+  pub as-long : length (cutAll j r ws) ≡ length ws
   unfolding cutAll cutAt
   as-long = simp length-set
 

@@ -2,19 +2,21 @@
 use mathlib.Core.Path.{_≡_}
 use mathlib.Core.Bool.{false}
 use mathlib.Core.List.{List}
+use mathlib.Core.Logic.{_⊎_}
 use Prim.Native.Nat.{ℕ, _<_}
 use lib.ListN.{length}
 use Rattle.span.specs.declared.Interval.{Interval}
 use Rattle.span.specs.declared.Joined.{Joined}
 use Rattle.span.specs.declared.Op.the-variants.{Not}
 use Rattle.span.specs.Interval.{In}
+use Rattle.span.specs.Join.{allCut}
 use Rattle.span.specs.Span.{result}
 use Rattle.net.specs.declared.Answer.{Answer}
 use Rattle.net.specs.declared.Ended.{Ended}
 use Rattle.net.specs.declared.Ended.the-variants.{Empty, Refused, Spent, Steady}
 use Rattle.net.specs.declared.Join.{Join}
 use Rattle.net.specs.declared.Net.{Net}
-use Rattle.net.specs.Net.{joinAt, wordAt}
+use Rattle.net.specs.Net.{joinAt, third, wordAt}
 use Rattle.net.specs.Run.{Stop, goes}
 use Rattle.net.specs.Step.{after, emptied}
 
@@ -77,3 +79,13 @@ pub record InResults (j : Join) (r : Joined) (p a : ℕ) : Type 0 where
   pub h : p ≡ j .h → In (r .h) a
   pub x : p ≡ j .x → In (r .x) a
   pub y : (j .op ≡ Not → ⊥) → p ≡ j .y → In (r .y) a
+
+-- K11's cuts on the words that a join names, as they stand
+abbrev pub cuts : ℕ → Join → List Interval → Joined
+cuts w j ws = allCut w (j .op) (wordAt ws (j .h)) (wordAt ws (j .x)) (wordAt ws (third j))
+
+-- "a cut is empty": of a word that the join names none is left, for no word of its interval is among all the cuts for it
+pub record EmptyCut (w : ℕ) (j : Join) (ws : List Interval) : Type 0 where
+  pub place : ℕ
+  pub named : (place ≡ j .h) ⊎ ((place ≡ j .x) ⊎ (place ≡ third j))
+  pub none : (a : ℕ) → In (wordAt ws place) a → InResults j (cuts w j ws) place a → ⊥
