@@ -15,4 +15,4 @@ over-words-spec =
     (tie.spec
     (search needs) (search needs) (search needs)
     fill-requires
-    (search needs) (search needs) (search needs) (search needs) (search needs))
+    (search needs) (search needs) (search needs) (search needs) (search needs) (search needs) (search needs) (search needs) (search needs))
