@@ -1,0 +1,4 @@
+pub mod Agreement
+pub mod Carried
+pub mod Only
+pub mod Passing
