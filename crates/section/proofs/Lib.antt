@@ -1,0 +1,3 @@
+pub mod Alike
+pub mod Fewer
+pub mod Scan
