@@ -10,6 +10,9 @@ use Rattle.word.specs.Search.{climb}
 use Rattle.word.proofs.Climb.{Climbed, all-miss, climb-is}
 use Rattle.band.specs.declared.Band.{Band}
 use Rattle.band.specs.Band.{allHold, holds}
+use Rattle.bits.specs.declared.Fixed.{Fixed}
+use Rattle.bits.specs.Fixed.{hasBits}
+use Rattle.lent.specs.Bands.{passes}
 use Rattle.section.specs.declared.Section.{Section}
 use Rattle.section.specs.Section.{section, sectionAt}
 use Rattle.section.specs.Sides.{firstFailing, someFails}
@@ -68,3 +71,13 @@ module _ (t : ℕ) (bs : List Band) (p : ℕ) (word : p ≤ t) where
       go false e =
           rw (fail-section e)
           (record { order = fail-climb .order; bound = fail-climb .bound; alike = λ x l h. one-fails bs p x e (all-miss (holds (firstFailing bs p)) fail-climb (first-fails bs p e) x l h) })
+
+-- so a word of a section that is held passes exactly when it has the bits, and none passes of one that fails
+module _ {t : ℕ} {bs : List Band} {p : ℕ} {s : Section} (a : Alike t bs p s) (f : Fixed) (x : ℕ) (l : p ≤ x) (h : x ≤ s .to) where
+  pub held-passes : s .held ≡ true → passes bs f x ≡ hasBits f x
+  unfolding passes
+  held-passes e = ap (λ (v : Bool). v && hasBits f x) (a .alike x l h ∙ e)
+
+  pub failing-passes : s .held ≡ false → passes bs f x ≡ false
+  unfolding passes
+  failing-passes e = ap (λ (v : Bool). v && hasBits f x) (a .alike x l h ∙ e)

@@ -1,0 +1,5 @@
+pub mod Free
+pub mod Held
+pub mod Rows
+pub mod Sums
+pub mod Unique

@@ -1,0 +1,57 @@
+-- Words added up: quotient and remainder stand for one number, which a carry keeps, and a row of words has as many with the bits as
+-- there are below its last word and not below its first, and the last one if it has them. Assumes nothing.
+use mathlib.Core.Path.{_≡_, refl, ap, _∙_}
+use mathlib.Core.Bool.{Bool, true, false}
+use Prim.Native.Nat.{ℕ, zero, suc, _+_, _-_, _*_, _/_, _%_, _≤_}
+use native.Mathlib.Omega.{arith}
+use Rattle.word.specs.Search.{count}
+use Rattle.fitting.proofs.Passing.{count-split}
+use Rattle.counting.specs.declared.Share.{Share}
+use Rattle.counting.specs.Share.{Carries, UNIT, shares, whole}
+
+pub whole-shares : (n h : ℕ) → whole (shares n h) ≡ h
+whole-shares n h = omega arith
+
+pub carries-shares : (n h : ℕ) → h ≤ UNIT * UNIT → Carries (shares n h)
+carries-shares n h l = record { carried = omega arith; bounded = omega arith }
+
+-- the sum of two numbers, with the carry
+pub plus-shares : (s : Share) (more : ℕ)
+    → _≡_ {A = Share} (record { number = 0; quotient = s .quotient + more / UNIT + (s .remainder + more % UNIT) / UNIT; remainder = (s .remainder + more % UNIT) % UNIT })
+    (shares 0 (whole s + more))
+plus-shares s more =
+    let q : s .quotient + more / UNIT + (s .remainder + more % UNIT) / UNIT ≡ (whole s + more) / UNIT = omega arith in
+    let r : (s .remainder + more % UNIT) % UNIT ≡ (whole s + more) % UNIT = omega arith in
+    λ i. record { number = 0; quotient = q i; remainder = r i }
+
+module _ (f : ℕ → Bool) where
+  -- no more pass than there are
+  pub count-most : (k p : ℕ) → count f k p ≤ k
+  unfolding count
+  count-most zero p = omega arith
+  count-most (suc k) p = go (f p) refl (count-most k (suc p))
+    where
+      go : (b : Bool) → f p ≡ b → count f k (suc p) ≤ k → count f (suc k) p ≤ suc k
+      go true e later = rw (e, count) (omega arith)
+      go false e later = rw (e, count) (omega arith)
+
+  -- below a word, and from there to another
+  pub below-to : (p q : ℕ) → p ≤ q → count f q 0 ≡ count f p 0 + count f (q - p) p
+  below-to p q l =
+      let e : 0 + p ≡ p = omega arith in
+      count-split f p (q - p) q 0 (omega arith) ∙ ap (λ (n : ℕ). count f p 0 + count f (q - p) n) e
+
+  module _ (p q : ℕ) (order : p ≤ q) where
+    split : count f (suc q - p) p ≡ (count f q 0 - count f p 0) + count f 1 q
+    split =
+        let e : p + (q - p) ≡ q = omega arith in
+        let d : count f 1 (p + (q - p)) ≡ count f 1 q = ap (count f 1) e in
+        omega (arith, below-to p q order, count-split f (q - p) 1 (suc q - p) p (omega arith))
+
+    pub row-with : f q ≡ true → count f (suc q - p) p ≡ (count f q 0 - count f p 0) + 1
+    unfolding count
+    row-with e = let o : count f 1 q ≡ 1 = rw (e, count) in omega (arith, split)
+
+    pub row-without : f q ≡ false → count f (suc q - p) p ≡ count f q 0 - count f p 0
+    unfolding count
+    row-without e = let o : count f 1 q ≡ 0 = rw (e, count) in omega (arith, split)

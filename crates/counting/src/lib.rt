@@ -1,0 +1,42 @@
+// How many words fit a sheet: any record, counted by sections of words, never word by word.
+ghost use Rattle.counting.specs.Counted.{Counted};
+use places::NUMBERS;
+use rule::Rule;
+use sheet::Sheet;
+use word::Width;
+
+mod adding;
+mod tally;
+
+// What a count answers: 0 or the number of a refusal, and how many words fit as quotient and remainder by `UNIT`, since a free word of
+// 64 bits has 2^64.
+pub struct Share {
+    pub number: u64,
+    pub quotient: u64,
+    pub remainder: u64,
+}
+
+// Counts the words that fit the sheet.
+pub fn count(sheet: Sheet) -> Share
+    ensures { λ r. ⌜ Counted sheet r ⌝ }
+{
+    let mut rules = [0; NUMBERS];
+    let mut marks: [usize; Sheet::MARKS] = [0; Sheet::MARKS];
+    let mut from = [0; Rule::LIMIT];
+    let mut to = [0; Rule::LIMIT];
+    let mut side = [false; Rule::LIMIT];
+    let head = sheet::laid::lay_out(sheet, &mut rules, &mut marks, &mut from, &mut to, &mut side);
+    let number = lent_head::standing(head);
+    if number != 0 {
+        return Share::none(number);
+    }
+    let fixed = head.fixed;
+    tally::tally(
+        &from,
+        &to,
+        &side,
+        head.count,
+        fixed,
+        Width { bits: head.width },
+    )
+}
