@@ -1,0 +1,223 @@
+-- `fill` meets its contract. The loop's invariant: the words below p that pass stand at the start of the buffer, as many as it holds,
+-- and the turns so far with those that the bands have left are no more than two a band. Assumes nothing.
+use mathlib.Core.Path.{_≡_, refl, sym, ap, _∙_, subst}
+use mathlib.Core.Bool.{Bool}
+use mathlib.Core.List.{List, []}
+use Prim.Native.Nat.{ℕ, suc, _+_, _*_, _-_, _≤_, _<_}
+use native.Mathlib.Numerals.{add-one}
+use native.Mathlib.Omega.{arith}
+use borrow.Author.Needs.{needs}
+use lib.ListN.{length, take}
+use lib.Seq.{length-take-le, take-nil}
+use Rattle.word.specs.Word.{top}
+use Rattle.band.specs.declared.Band.{Band}
+use Rattle.band.specs.Band.{AllLaid}
+use Rattle.lent.specs.Bands.{passes}
+use Rattle.lent.specs.Lent.{Lie, zipped}
+use Rattle.section.specs.declared.Section.{Section}
+use Rattle.section.specs.Turns.{turnsFrom}
+use Rattle.section.proofs.Alike.{Alike, section-alike}
+use Rattle.section.proofs.Fewer.{section-fewer, turns-few}
+use Rattle.fitting.specs.Words.{atStart}
+use Rattle.filling.proofs.Rows.{passing-none, section-words, start-length, up-to-fits, up-to-full, up-to-put, upTo}
+use Rattle.filling.proofs.fill.Statement.{statement}
+use Rattle.filling.proofs.fill.Tie as tie
+
+abbrev Inv-loop : tie.InvT-loop
+Inv-loop from to side start out₀ width n fixed top most p₀ at₀ counter₀ out p at counter =
+    (start ≤ p)
+    × (p ≤ top)
+    × (at ≡ length (upTo out₀ (passes (take n (zipped from to side)) fixed) start p))
+    × (out ≡ atStart (upTo out₀ (passes (take n (zipped from to side)) fixed) start p) out₀)
+    × (counter + turnsFrom top (take n (zipped from to side)) p ≤ 2 * n)
+
+abbrev μ-loop : tie.MeasureT-loop
+μ-loop from to side start out₀ width n fixed top most p₀ at₀ counter₀ out p at counter = most - counter
+
+-- what is known in the loop
+abbrev Inner : Type 0
+Inner = tie.At-loop Inv-loop μ-loop
+
+abbrev start : Inner → tie.Start Inv-loop μ-loop
+start a = a .before .before .before .before
+
+abbrev highest : Inner → ℕ
+highest a = a .before .before .top .result
+
+abbrev lying : Inner → List Band
+lying a = zipped (start a .args .from .now) (start a .args .to .now) (start a .args .side .now)
+
+abbrev bands : Inner → List Band
+bands a = take (start a .args .head .count) (lying a)
+
+abbrev buffer : Inner → List ℕ
+buffer a = start a .args .out .now
+
+abbrev pass : Inner → ℕ → Bool
+pass a = passes (bands a) (start a .args .head .fixed)
+
+few : (w n : ℕ) (bs : List Band) → Lie (top w) n bs → (t p : ℕ) → t ≡ top w → 0 + turnsFrom t (take n bs) p ≤ 2 * n
+few w n bs l t p e =
+    omega (
+      arith,
+      turns-few t (take n bs) p (subst (λ (h : ℕ). AllLaid h (take n bs)) (sym e) (l .laid)),
+      length-take-le n bs (omega (arith, l .places, l .count)),
+    )
+
+top-requires : tie.Need-top-requires Inv-loop μ-loop
+top-requires c κs = c .before .pre .0
+
+most-requires : tie.Need-most-requires Inv-loop μ-loop
+most-requires c κs = c .before .before .pre .1 .0 .1 .count
+
+loop-holds : tie.Need-loop-holds Inv-loop μ-loop
+loop-holds c =
+    let o = c .before in
+    let s = o .before .before in
+    let b : List ℕ = s .args .out .now in
+    let f : ℕ → Bool = passes (take (s .args .head .count) (zipped (s .args .from .now) (s .args .to .now) (s .args .side .now))) (s .args .head .fixed) in
+    let none : upTo b f (s .args .start) (s .args .start) ≡ [] = ap (take (length b)) (passing-none f (s .args .start)) ∙ take-nil (length b) in (
+      omega arith,
+      omega (arith, o .top .ensures, s .pre .1 .0 .0),
+      ap length (sym none),
+      ap (λ (xs : List ℕ). atStart xs b) (sym none),
+      few _ _ _ (s .pre .1 .0 .1) _ _ (o .top .ensures),
+    )
+
+lie : (a : Inner) → Lie (highest a) (start a .args .head .count) (lying a)
+lie a = subst (λ (t : ℕ). Lie t (start a .args .head .count) (lying a)) (sym (a .before .before .top .ensures)) (start a .pre .1 .0 .1)
+
+at-requires : tie.Need-at-requires Inv-loop μ-loop
+at-requires c κs = (c .before .loop .inv .1, lie (c .before))
+
+-- the section from p on
+abbrev Looked : Type 0
+Looked = tie.After-at Inv-loop μ-loop
+
+abbrev inner : Looked → Inner
+inner c = c .before .before
+
+alike : (c : Looked) → Alike (highest (inner c)) (bands (inner c)) (inner c .loop .p) (c .at .result)
+alike c = subst (Alike _ _ _) (sym (c .at .ensures)) (section-alike _ _ _ (inner c .loop .inv .1))
+
+-- the buffer is as long as it was
+room : (a : Inner) → length (a .loop .out) ≡ length (buffer a)
+room a = ap length (a .loop .inv .3) ∙ start-length (buffer a) (pass a) (start a .args .start) (a .loop .p)
+
+row-requires : tie.Need-row-requires Inv-loop μ-loop
+row-requires c κs =
+    let o = c .before in
+    let a = inner o in
+    (start a .pre .0, ((alike o .order, omega (arith, alike o .bound, a .before .before .top .ensures)), (start a .pre .1 .1, omega (arith, room a, a .loop .inv .2, up-to-fits (buffer a) (pass a) (start a .args .start) (a .loop .p)))))
+
+-- once the row is written
+abbrev Rowed : Type 0
+Rowed = tie.After-row Inv-loop μ-loop
+
+abbrev looked : Rowed → Looked
+looked c = c .before .before
+
+-- the words below q that there is room for
+abbrev words : Inner → ℕ → List ℕ
+words a = upTo (buffer a) (pass a) (start a .args .start)
+
+abbrev Written : Rowed → List ℕ → Type 0
+Written c xs = (c .row .result ≡ length xs) × (c .row .last .1 .1 .1 .1 .0 ≡ atStart xs (buffer (inner (looked c))))
+
+rowed : (c : Rowed) → Written c (words (inner (looked c)) (suc (looked c .at .result .to)))
+rowed c =
+    let o = looked c in
+    let a = inner o in
+    let s = o .at .result in
+    up-to-put (buffer a) (pass a) (start a .args .start) (a .loop .p) (suc (s .to)) _ (a .loop .inv .0) (omega (arith, alike o .order))
+    (section-words (alike o) (start a .args .head .fixed)) (a .loop .inv .2) (a .loop .inv .3) (c .row .ensures .0) (c .row .ensures .1)
+
+same : (c : Rowed) → length (c .row .last .1 .1 .1 .1 .0) ≡ length (buffer (inner (looked c)))
+same c =
+    let a = inner (looked c) in
+    ap length (rowed c .1) ∙ start-length (buffer a) (pass a) (start a .args .start) (suc (looked c .at .result .to))
+
+same-length : tie.Need-same-length Inv-loop μ-loop
+same-length c = same (c .before .before .before .before)
+
+returns : tie.Need-returns Inv-loop μ-loop
+returns c =
+    let r = c .before .before .before .before in
+    let a = inner (looked r) in
+    subst (λ (t : ℕ). Written r (words a (suc t))) (c .if1 .taken ∙ a .before .before .top .ensures) (rowed r)
+
+same-length-2 : tie.Need-same-length-2 Inv-loop μ-loop
+same-length-2 c = same (c .before .before .before .before .before)
+
+-- a buffer that is full has all that there is room for
+returns-2 : tie.Need-returns-2 Inv-loop μ-loop
+returns-2 c =
+    let r = c .before .before .before .before .before in
+    let o = looked r in
+    let a = inner o in
+    subst (Written r)
+    (sym
+    (up-to-full (buffer a) (pass a) (start a .args .start) (suc (o .at .result .to)) (suc (top (start a .args .head .width)))
+    (omega (arith, a .loop .inv .0, alike o .order)) (omega (arith, alike o .bound, a .before .before .top .ensures)) (sym (rowed r .0) ∙ c .if2 .taken ∙ same r)))
+    (rowed r)
+
+add-p : tie.Need-add-p Inv-loop μ-loop
+add-p c =
+    let e = c .before .before in
+    omega (arith, alike (looked (e .before .before .before .before)) .bound, e .if1 .left)
+
+-- past a section that ends below the top word the bands turn less often
+fewer : (c : Looked) → (c .at .result .to ≡ highest (inner c) → ⊥) → turnsFrom (highest (inner c)) (bands (inner c)) (suc (c .at .result .to)) < turnsFrom (highest (inner c)) (bands (inner c)) (inner c .loop .p)
+fewer c =
+    subst
+    (λ (s : Section). (s .to ≡ highest (inner c) → ⊥) → turnsFrom (highest (inner c)) (bands (inner c)) (suc (s .to)) < turnsFrom (highest (inner c)) (bands (inner c)) (inner c .loop .p))
+    (sym (c .at .ensures)) (section-fewer _ (bands (inner c)) _ (inner c .loop .inv .1))
+
+add-counter : tie.Need-add-counter Inv-loop μ-loop
+add-counter c = search needs
+
+loop-less : tie.Need-loop-less Inv-loop μ-loop
+loop-less c = omega arith
+
+loop-again : tie.Need-loop-again Inv-loop μ-loop
+loop-again c =
+    let e = c .before .before in
+    let r = e .before .before .before .before in
+    let o = looked r in
+    let a = inner o in
+    let next = sym (add-one (o .at .result .to)) in
+    let less = fewer o (e .if1 .left) in (
+      omega (arith, a .loop .inv .0, alike o .order),
+      omega (arith, alike o .bound, e .if1 .left),
+      rowed r .0 ∙ ap (λ (q : ℕ). length (words a q)) next,
+      rowed r .1 ∙ ap (λ (q : ℕ). atStart (words a q) (buffer a)) next,
+      subst (λ (q : ℕ). a .loop .counter + 1 + turnsFrom (highest a) (bands a) q ≤ 2 * start a .args .head .count) next (omega (arith, less, a .loop .inv .4)),
+    )
+
+same-length-3 : tie.Need-same-length-3 Inv-loop μ-loop
+same-length-3 c = room (c .before)
+
+returns-3 : tie.Need-returns-3 Inv-loop μ-loop
+returns-3 c = absurd (omega (arith, c .before .loop .inv .4, c .before .before .most .ensures))
+
+pub fill-spec : {M : Type 1} → statement M
+fill-spec =
+    tie.close
+    (tie.spec
+    Inv-loop
+    μ-loop
+    top-requires
+    most-requires
+    loop-holds
+    at-requires
+    row-requires
+    same-length
+    returns
+    same-length-2
+    returns-2
+    add-p
+    add-counter
+    loop-less
+    loop-again
+    same-length-3
+    returns-3)

@@ -1,0 +1,17 @@
+-- Words put into a buffer. A route: what a listing writes is said elsewhere.
+use mathlib.Core.Bool.{cond}
+use mathlib.Core.List.{List, [], _++_}
+use Prim.Native.Nat.{ℕ, suc, _+_, _-_}
+use lib.ListN.{drop, length, take}
+use Rattle.bits.specs.declared.Fixed.{Fixed}
+use Rattle.bits.specs.Fixed.{hasBits}
+use Rattle.section.specs.declared.Section.{Section}
+use Rattle.fitting.specs.Words.{passing}
+
+-- the buffer with words put from a place on, and every other number as it was
+unfoldable pub putAt : List ℕ → ℕ → List ℕ → List ℕ
+putAt b place xs = take place b ++ (xs ++ drop (place + length xs) b)
+
+-- the words of a section from p on that pass: those that have the bits where the bands hold it, and else none
+unfoldable pub sectionWords : Section → Fixed → ℕ → List ℕ
+sectionWords s f p = cond (s .held) (passing (hasBits f) (suc (s .to) - p) p) []
