@@ -5,8 +5,8 @@ use Prim.Native.Nat.{ℕ, zero, suc, _^_}
 use Rattle.word.specs.Search.{count}
 use Rattle.rule.specs.Meaning.{fits}
 use Rattle.fitting.specs.Words.{howMany}
-use Rattle.counting.specs.declared.Share.{Share}
-use Rattle.counting.specs.Share.{UNIT, shares}
+use Rattle.tally.specs.declared.Share.{Share}
+use Rattle.tally.specs.Share.{UNIT, shares}
 
 all-fit : (w k p : ℕ) → count (fits w []) k p ≡ k
 unfolding count fits

@@ -1,5 +1,3 @@
 pub mod Free
 pub mod Held
-pub mod Rows
-pub mod Sums
 pub mod Unique

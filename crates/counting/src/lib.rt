@@ -3,18 +3,8 @@ ghost use Rattle.counting.specs.Counted.{Counted};
 use places::NUMBERS;
 use rule::Rule;
 use sheet::Sheet;
+pub use tally::Share;
 use word::Width;
-
-mod adding;
-mod tally;
-
-// What a count answers: 0 or the number of a refusal, and how many words fit as quotient and remainder by `UNIT`, since a free word of
-// 64 bits has 2^64.
-pub struct Share {
-    pub number: u64,
-    pub quotient: u64,
-    pub remainder: u64,
-}
 
 // Counts the words that fit the sheet.
 pub fn count(sheet: Sheet) -> Share
@@ -31,7 +21,7 @@ pub fn count(sheet: Sheet) -> Share
         return Share::none(number);
     }
     let fixed = head.fixed;
-    tally::tally(
+    tally::words(
         &from,
         &to,
         &side,

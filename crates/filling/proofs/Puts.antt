@@ -4,7 +4,7 @@ use mathlib.Core.List.{List, [], _∷_, _++_, append-assoc}
 use Prim.Native.Nat.{ℕ, zero, suc, _+_, _-_, _≤_, _<_}
 use native.Mathlib.Omega.{arith}
 use lib.ListN.{drop, getD, length, length-append, length-drop, set, take}
-use lib.Seq.{drop-append-add, drop-cons, drop-drop, length-take-le, set-at, take-all, take-at, take-append-le}
+use lib.Seq.{drop-append-add, drop-cons, drop-drop, length-take-le, set-at, take-at}
 use Rattle.fitting.specs.Words.{atStart}
 use Rattle.filling.specs.Put.{putAt}
 

@@ -15,7 +15,7 @@ use Rattle.verdict.specs.declared.Kept.{Kept}
 use Rattle.verdict.specs.Kept.{kept}
 use Rattle.chain.specs.Findings.{findings}
 use Rattle.page.specs.Calls.{ask, firstThatApplies, isBlank, refusal, rulesOf}
-use Rattle.page.specs.Page.{OpenPage, Page, entriesOf, page, rulesOn, widthOf}
+use Rattle.page.specs.Page.{OpenPage, entriesOf, page, rulesOn, widthOf}
 use Rattle.page.specs.Reached.{Reached}
 use Rattle.sheet.specs.declared.Reply.{Reply}
 use Rattle.sheet.specs.declared.Sheet.{Sheet}
@@ -23,16 +23,16 @@ use Rattle.sheet.specs.Record.{fresh}
 use Rattle.sheet.specs.Statements.{Asked, chainOn, refuses, replies, reply}
 use Rattle.sheet.proofs.WaysOfAsking.{accepted-reply}
 use Rattle.fitting.specs.Agreement.{Agrees}
-use Rattle.fitting.specs.Words.{atStart, fittingFrom, howMany, onward, wordsFrom}
+use Rattle.fitting.specs.Words.{fittingFrom, howMany, onward, wordsFrom}
 use Rattle.fitting.proofs.Agreement.{kept-agrees}
 use Rattle.fitting.proofs.Carried as carried
-use Rattle.counting.specs.declared.Share.{Share}
+use Rattle.tally.specs.declared.Share.{Share}
 use Rattle.counting.specs.Counted.{Counted, countGrounds, shareOf}
-use Rattle.counting.specs.Share.{shares, whole}
-use Rattle.counting.proofs.Sums.{whole-shares}
+use Rattle.tally.specs.Share.{shares, whole}
+use Rattle.tally.proofs.Sums.{whole-shares}
 use Rattle.listing.specs.declared.Listing.{Listing}
 use Rattle.listing.specs.Carried.{CarriedOn, Wrote, further, not-filled, top-written}
-use Rattle.listing.specs.Listed.{Listed, listNumber, listOn}
+use Rattle.listing.specs.Listed.{listNumber, listOn}
 
 -- on a sheet that is not blank
 module _ (o : OpenPage) (reached : Reached (page o)) {s : Sheet} (gives : s ≡ fresh (page o)) where

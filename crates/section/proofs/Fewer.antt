@@ -1,13 +1,14 @@
 -- A band that is laid turns at most twice, and past the end of a section there is one turn less at least; so n bands have at most
 -- 2 n + 1 sections. Assumes nothing.
-use mathlib.Core.Path.{_≡_, refl, sym, ap, _∙_}
+use mathlib.Core.Path.{_≡_, refl, sym, ap, _∙_, subst}
 use mathlib.Core.Bool.{Bool, true, false, true≢false, not, _&&_}
 use mathlib.Core.Logic.{_⊎_, inl, inr, ⊎-elim}
 use mathlib.Core.List.{List, [], _∷_}
-use Prim.Native.Nat.{ℕ, suc, _*_, _-_, _≤_, _<_}
+use Prim.Native.Nat.{ℕ, suc, _+_, _*_, _-_, _≤_, _<_}
 use native.Mathlib.Omega.{arith}
 use borrow.Author.Tests.{not-true, not-false}
-use lib.ListN.{length}
+use lib.ListN.{length, take}
+use lib.Seq.{length-take-le}
 use Rattle.word.specs.Search.{count}
 use Rattle.word.proofs.Climb.{all-miss, climb-is}
 use Rattle.word.proofs.Count.{count-later, count-past}
@@ -16,6 +17,8 @@ use Rattle.word.proofs.Tests.{both-pass}
 use Rattle.band.specs.declared.Band.{Band}
 use Rattle.band.specs.Band.{AllLaid, Laid, allHold, holds, otherSide}
 use Rattle.band.proofs.Runs.{edge, run-ends}
+use Rattle.lent.specs.Lent.{Lie}
+use Rattle.section.specs.declared.Section.{Section}
 use Rattle.section.specs.Section.{sectionAt}
 use Rattle.section.specs.Sides.{fails, firstFailing, someFails}
 use Rattle.section.specs.Turns.{turns, turnsFrom}
@@ -40,7 +43,7 @@ two-turns : (b : Band) (t p : ℕ) → Laid t b → count (turns b) (t - p) p �
 two-turns b t p laid =
     count-two (turns b) (t - p) p (edge b) (edge (otherSide b)) (λ x l h e. turn-edge b t x laid (omega arith) e)
 
-pub turns-few : (t : ℕ) (bs : List Band) (p : ℕ) → AllLaid t bs → turnsFrom t bs p ≤ 2 * length bs
+turns-few : (t : ℕ) (bs : List Band) (p : ℕ) → AllLaid t bs → turnsFrom t bs p ≤ 2 * length bs
 unfolding turnsFrom AllLaid
 turns-few t [] p l = omega arith
 turns-few t (b ∷ bs) p l = omega (arith, two-turns b t p (l .0), turns-few t bs p (l .1))
@@ -94,7 +97,7 @@ module _ (t p q : ℕ) (order : p ≤ q) (below : q < t) where
       go false c rest = here b bs (rw (rw (c, firstFailing) at d, turns) (rw (c, firstFailing) at n))
 
 -- past a section that ends below the top word the bands turn less often
-pub section-fewer : (t : ℕ) (bs : List Band) (p : ℕ) → p ≤ t → (sectionAt t bs p .to ≡ t → ⊥) → turnsFrom t bs (suc (sectionAt t bs p .to)) < turnsFrom t bs p
+section-fewer : (t : ℕ) (bs : List Band) (p : ℕ) → p ≤ t → (sectionAt t bs p .to ≡ t → ⊥) → turnsFrom t bs (suc (sectionAt t bs p .to)) < turnsFrom t bs p
 unfolding someFails
 section-fewer t bs p word = go (allHold bs p) refl
   where
@@ -109,3 +112,13 @@ section-fewer t bs p word = go (allHold bs p) refl
         rw (fail-section t bs p word e)
         (λ d. ⊎-elim (λ s. absurd (d s))
         (λ s. starts t p _ (c .order) (omega (arith, c .bound)) bs e (all-miss (holds (firstFailing bs p)) c (first-fails bs p e) _ (c .order) (omega arith)) s) (c .stop))
+
+-- the same of bands that lie in arrays, and of a section that was found
+pub few-turns : {t n : ℕ} {bands : List Band} → Lie t n bands → (p : ℕ) → 0 + turnsFrom t (take n bands) p ≤ 2 * n
+few-turns {t} {n} {bands} l p =
+    omega (arith, turns-few t (take n bands) p (l .laid), length-take-le n bands (omega (arith, l .places, l .count)))
+
+pub fewer-turns : {t : ℕ} (bs : List Band) {p : ℕ} {s : Section} → p ≤ t → s ≡ sectionAt t bs p → (s .to ≡ t → ⊥)
+    → turnsFrom t bs (suc (s .to)) < turnsFrom t bs p
+fewer-turns {t} bs {p} word e =
+    subst (λ (s : Section). (s .to ≡ t → ⊥) → turnsFrom t bs (suc (s .to)) < turnsFrom t bs p) (sym e) (section-fewer t bs p word)

@@ -35,8 +35,8 @@ returns c =
 none : (c : tie.Else1) → before (c .before .before .lay-out .result .stands) (c .before .before .lay-out .result .width) ≡ 0
 none c = sym (c .before .standing .ensures) ∙ c .if1 .left
 
-tally-requires : tie.Need-tally-requires
-tally-requires c κs =
+words-requires : tie.Need-words-requires
+words-requires c κs =
     let e = c .before .before .before in
     let h = e .before .before .lay-out .ensures .1 in
     let w = swept-so h (none e) in
@@ -46,9 +46,9 @@ returns-2 : tie.Need-returns-2
 returns-2 c =
     let e = c .before .before .before .before in
     let o = e .before .before in
-    subst (λ (s : Sheet). Counted s (c .tally .result)) (o .lay-out .ensures .0) (tallied (o .lay-out .ensures .1) (none e) (c .tally .ensures))
+    subst (λ (s : Sheet). Counted s (c .words .result)) (o .lay-out .ensures .0) (tallied (o .lay-out .ensures .1) (none e) (c .words .ensures))
 
 pub count-spec : {M : Type 1} → statement M
 count-spec =
     tie.close
-    (tie.spec lay-out-requires standing-requires none-requires returns tally-requires returns-2)
+    (tie.spec lay-out-requires standing-requires none-requires returns words-requires returns-2)

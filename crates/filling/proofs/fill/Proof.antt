@@ -1,6 +1,6 @@
 -- `fill` meets its contract. The loop's invariant: the words below p that pass stand at the start of the buffer, as many as it holds,
 -- and the turns so far with those that the bands have left are no more than two a band. Assumes nothing.
-use mathlib.Core.Path.{_≡_, refl, sym, ap, _∙_, subst}
+use mathlib.Core.Path.{_≡_, sym, ap, _∙_, subst}
 use mathlib.Core.Bool.{Bool}
 use mathlib.Core.List.{List, []}
 use Prim.Native.Nat.{ℕ, suc, _+_, _*_, _-_, _≤_, _<_}
@@ -8,16 +8,14 @@ use native.Mathlib.Numerals.{add-one}
 use native.Mathlib.Omega.{arith}
 use borrow.Author.Needs.{needs}
 use lib.ListN.{length, take}
-use lib.Seq.{length-take-le, take-nil}
+use lib.Seq.{take-nil}
 use Rattle.word.specs.Word.{top}
 use Rattle.band.specs.declared.Band.{Band}
-use Rattle.band.specs.Band.{AllLaid}
 use Rattle.lent.specs.Bands.{passes}
 use Rattle.lent.specs.Lent.{Lie, zipped}
-use Rattle.section.specs.declared.Section.{Section}
 use Rattle.section.specs.Turns.{turnsFrom}
 use Rattle.section.proofs.Alike.{Alike, section-alike}
-use Rattle.section.proofs.Fewer.{section-fewer, turns-few}
+use Rattle.section.proofs.Fewer.{few-turns, fewer-turns}
 use Rattle.fitting.specs.Words.{atStart}
 use Rattle.filling.proofs.Rows.{passing-none, section-words, start-length, up-to-fits, up-to-full, up-to-put, upTo}
 use Rattle.filling.proofs.fill.Statement.{statement}
@@ -56,14 +54,6 @@ buffer a = start a .args .out .now
 abbrev pass : Inner → ℕ → Bool
 pass a = passes (bands a) (start a .args .head .fixed)
 
-few : (w n : ℕ) (bs : List Band) → Lie (top w) n bs → (t p : ℕ) → t ≡ top w → 0 + turnsFrom t (take n bs) p ≤ 2 * n
-few w n bs l t p e =
-    omega (
-      arith,
-      turns-few t (take n bs) p (subst (λ (h : ℕ). AllLaid h (take n bs)) (sym e) (l .laid)),
-      length-take-le n bs (omega (arith, l .places, l .count)),
-    )
-
 top-requires : tie.Need-top-requires Inv-loop μ-loop
 top-requires c κs = c .before .pre .0
 
@@ -76,12 +66,13 @@ loop-holds c =
     let s = o .before .before in
     let b : List ℕ = s .args .out .now in
     let f : ℕ → Bool = passes (take (s .args .head .count) (zipped (s .args .from .now) (s .args .to .now) (s .args .side .now))) (s .args .head .fixed) in
+    let lies = subst (λ (t : ℕ). Lie t (s .args .head .count) (zipped (s .args .from .now) (s .args .to .now) (s .args .side .now))) (sym (o .top .ensures)) (s .pre .1 .0 .1) in
     let none : upTo b f (s .args .start) (s .args .start) ≡ [] = ap (take (length b)) (passing-none f (s .args .start)) ∙ take-nil (length b) in (
       omega arith,
       omega (arith, o .top .ensures, s .pre .1 .0 .0),
       ap length (sym none),
       ap (λ (xs : List ℕ). atStart xs b) (sym none),
-      few _ _ _ (s .pre .1 .0 .1) _ _ (o .top .ensures),
+      few-turns lies (s .args .start),
     )
 
 lie : (a : Inner) → Lie (highest a) (start a .args .head .count) (lying a)
@@ -166,13 +157,6 @@ add-p c =
     let e = c .before .before in
     omega (arith, alike (looked (e .before .before .before .before)) .bound, e .if1 .left)
 
--- past a section that ends below the top word the bands turn less often
-fewer : (c : Looked) → (c .at .result .to ≡ highest (inner c) → ⊥) → turnsFrom (highest (inner c)) (bands (inner c)) (suc (c .at .result .to)) < turnsFrom (highest (inner c)) (bands (inner c)) (inner c .loop .p)
-fewer c =
-    subst
-    (λ (s : Section). (s .to ≡ highest (inner c) → ⊥) → turnsFrom (highest (inner c)) (bands (inner c)) (suc (s .to)) < turnsFrom (highest (inner c)) (bands (inner c)) (inner c .loop .p))
-    (sym (c .at .ensures)) (section-fewer _ (bands (inner c)) _ (inner c .loop .inv .1))
-
 add-counter : tie.Need-add-counter Inv-loop μ-loop
 add-counter c = search needs
 
@@ -186,7 +170,7 @@ loop-again c =
     let o = looked r in
     let a = inner o in
     let next = sym (add-one (o .at .result .to)) in
-    let less = fewer o (e .if1 .left) in (
+    let less = fewer-turns (bands a) (a .loop .inv .1) (o .at .ensures) (e .if1 .left) in (
       omega (arith, a .loop .inv .0, alike o .order),
       omega (arith, alike o .bound, e .if1 .left),
       rowed r .0 ∙ ap (λ (q : ℕ). length (words a q)) next,

@@ -1,13 +1,11 @@
 -- `list` meets its contract: what is filled in from the arrays is the listing of the record that was laid out. Assumes nothing.
-use mathlib.Core.Path.{_≡_, sym, ap, _∙_, subst}
-use mathlib.Core.List.{List}
-use Prim.Native.Nat.{ℕ, _≤_, _<_}
+use mathlib.Core.Path.{_≡_, sym, _∙_, subst}
+use Prim.Native.Nat.{ℕ, _≤_}
 use native.Mathlib.Omega.{arith}
 use borrow.Author.Needs.{needs}
 use Rattle.word.specs.Word.{top}
 use Rattle.lent_head.specs.Numbers.{before}
 use Rattle.lent_head.proofs.Holding.{width-so}
-use Rattle.sheet.specs.declared.Sheet.{Sheet}
 use Rattle.sheet.specs.Stands.{Stands}
 use Rattle.sheet.proofs.ByValue.{empty-room}
 use Rattle.sheet.proofs.Holding.{stands-so}

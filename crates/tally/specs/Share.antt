@@ -1,6 +1,6 @@
 -- How many words, "given as two numbers, quotient and remainder by 2^32".
 use Prim.Native.Nat.{ℕ, _+_, _*_, _/_, _%_, _≤_, _<_}
-use Rattle.counting.specs.declared.Share.{Share}
+use Rattle.tally.specs.declared.Share.{Share}
 
 -- 2^32
 abbrev pub UNIT : ℕ

@@ -1,8 +1,8 @@
 -- `Share::plus` meets its contract. Assumes nothing.
 use borrow.Author.Needs.{needs}
-use Rattle.counting.proofs.Sums.{plus-shares}
-use Rattle.counting.proofs.Share.plus.Statement.{statement}
-use Rattle.counting.proofs.Share.plus.Tie as tie
+use Rattle.tally.proofs.Sums.{plus-shares}
+use Rattle.tally.proofs.Share.plus.Statement.{statement}
+use Rattle.tally.proofs.Share.plus.Tie as tie
 
 add-rest : tie.Need-add-rest
 add-rest c = search needs

@@ -3,7 +3,7 @@ ghost use mathlib.Core.Path.{_≡_};
 ghost use Prim.Native.Nat.{suc, _+_, _-_, _≤_};
 ghost use Rattle.word.specs.Search.{count};
 ghost use Rattle.bits.specs.Fixed.{Tidy, hasBits};
-ghost use Rattle.counting.specs.Share.{Carries, shares, whole};
+ghost use Rattle.tally.specs.Share.{Carries, shares, whole};
 use crate::Share;
 use bits::Fixed;
 

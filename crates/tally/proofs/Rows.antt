@@ -14,7 +14,7 @@ use Rattle.lent.specs.Bands.{passes}
 use Rattle.section.specs.declared.Section.{Section}
 use Rattle.section.proofs.Alike.{Alike, failing-passes, held-passes}
 use Rattle.fitting.proofs.Passing.{count-same, none-passing, passing-length}
-use Rattle.counting.proofs.Sums.{below-to}
+use Rattle.tally.proofs.Sums.{below-to}
 
 module _ {t : ℕ} {bs : List Band} {p : ℕ} {s : Section} (a : Alike t bs p s) (f : Fixed) where
   pub held-row : s .held ≡ true → count (passes bs f) (suc (s .to)) 0 ≡ count (passes bs f) p 0 + count (hasBits f) (suc (s .to) - p) p

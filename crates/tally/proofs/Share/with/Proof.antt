@@ -7,11 +7,11 @@ use native.Mathlib.Omega.{arith}
 use borrow.Author.Needs.{needs}
 use Rattle.word.specs.Search.{count}
 use Rattle.bits.specs.Fixed.{hasBits}
-use Rattle.counting.specs.declared.Share.{Share}
-use Rattle.counting.specs.Share.{Carries, shares, whole}
-use Rattle.counting.proofs.Sums.{below-to, carries-shares, count-most, row-with, row-without, whole-shares}
-use Rattle.counting.proofs.Share.with.Statement.{statement}
-use Rattle.counting.proofs.Share.with.Tie as tie
+use Rattle.tally.specs.declared.Share.{Share}
+use Rattle.tally.specs.Share.{Carries, shares, whole}
+use Rattle.tally.proofs.Sums.{below-to, carries-shares, count-most, row-with, row-without, whole-shares}
+use Rattle.tally.proofs.Share.with.Statement.{statement}
+use Rattle.tally.proofs.Share.with.Tie as tie
 
 -- the two numbers below, and what they leave
 abbrev Below : Type 0

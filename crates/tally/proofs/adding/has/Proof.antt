@@ -3,8 +3,8 @@ use mathlib.Core.Path.{sym, ap}
 use borrow.Author.Needs.{needs}
 use Rattle.bits.specs.declared.Fixed.{Fixed}
 use Rattle.bits.specs.Fixed.{hasBits}
-use Rattle.counting.proofs.adding.has.Statement.{statement}
-use Rattle.counting.proofs.adding.has.Tie as tie
+use Rattle.tally.proofs.adding.has.Statement.{statement}
+use Rattle.tally.proofs.adding.has.Tie as tie
 
 enum-known-fixed : tie.Need-enum-known-fixed
 enum-known-fixed c = search needs

@@ -6,8 +6,8 @@ use Prim.Native.Nat.{ℕ, zero, suc, _+_, _-_, _*_, _/_, _%_, _≤_}
 use native.Mathlib.Omega.{arith}
 use Rattle.word.specs.Search.{count}
 use Rattle.fitting.proofs.Passing.{count-split}
-use Rattle.counting.specs.declared.Share.{Share}
-use Rattle.counting.specs.Share.{Carries, UNIT, shares, whole}
+use Rattle.tally.specs.declared.Share.{Share}
+use Rattle.tally.specs.Share.{Carries, UNIT, shares, whole}
 
 pub whole-shares : (n h : ℕ) → whole (shares n h) ≡ h
 whole-shares n h = omega arith

@@ -1,4 +1,4 @@
--- `tally` meets its contract. The loop's invariant: the share is that of the words below p, and the turns so far with those that the
+-- `words` meets its contract. The loop's invariant: the share is that of the words below p, and the turns so far with those that the
 -- bands have left are no more than two a band; so the loop comes to the top word before its turns are used up. Assumes nothing.
 use mathlib.Core.Path.{_≡_, sym, ap, _∙_, subst}
 use mathlib.Core.Logic.{⊎-elim}
@@ -8,23 +8,20 @@ use native.Mathlib.Numerals.{add-one}
 use native.Mathlib.Omega.{arith}
 use borrow.Author.Needs.{needs}
 use lib.ListN.{take}
-use lib.Seq.{length-take-le}
 use Rattle.word.specs.Search.{count}
 use Rattle.word.specs.Word.{top}
 use Rattle.band.specs.declared.Band.{Band}
-use Rattle.band.specs.Band.{AllLaid}
 use Rattle.bits.specs.Fixed.{hasBits}
 use Rattle.lent.specs.Bands.{passes}
 use Rattle.lent.specs.Lent.{Lie, zipped}
-use Rattle.section.specs.declared.Section.{Section}
 use Rattle.section.specs.Turns.{turnsFrom}
 use Rattle.section.proofs.Alike.{Alike, section-alike}
-use Rattle.section.proofs.Fewer.{section-fewer, turns-few}
-use Rattle.counting.specs.Share.{Carries, shares, whole}
-use Rattle.counting.proofs.Rows.{failing-row, held-row}
-use Rattle.counting.proofs.Sums.{carries-shares, count-most, whole-shares}
-use Rattle.counting.proofs.tally.tally.Statement.{statement}
-use Rattle.counting.proofs.tally.tally.Tie as tie
+use Rattle.section.proofs.Fewer.{few-turns, fewer-turns}
+use Rattle.tally.specs.Share.{Carries, shares, whole}
+use Rattle.tally.proofs.Rows.{failing-row, held-row}
+use Rattle.tally.proofs.Sums.{carries-shares, count-most, whole-shares}
+use Rattle.tally.proofs.words.Statement.{statement}
+use Rattle.tally.proofs.words.Tie as tie
 
 abbrev Inv-loop : tie.InvT-loop
 Inv-loop from to side n fixed top most share₀ p₀ counter₀ share p counter =
@@ -55,14 +52,6 @@ bands a = take (start a .args .n) (lying a)
 abbrev below : Inner → ℕ → ℕ
 below a q = count (passes (bands a) (start a .args .fixed)) q 0
 
-few : (w n : ℕ) (bs : List Band) → Lie (top w) n bs → (t : ℕ) → t ≡ top w → 0 + turnsFrom t (take n bs) 0 ≤ 2 * n
-few w n bs l t e =
-    omega (
-      arith,
-      turns-few t (take n bs) 0 (subst (λ (h : ℕ). AllLaid h (take n bs)) (sym e) (l .laid)),
-      length-take-le n bs (omega (arith, l .places, l .count)),
-    )
-
 top-requires : tie.Need-top-requires Inv-loop μ-loop
 top-requires c κs = c .pre .0
 
@@ -76,7 +65,9 @@ loop-holds : tie.Need-loop-holds Inv-loop μ-loop
 unfolding count
 loop-holds c =
     let o = c .before .before in
-    (omega arith, c .none .ensures, few _ _ _ (o .before .pre .1 .0) _ (o .top .ensures))
+    let s = o .before in
+    let lies = subst (λ (t : ℕ). Lie t (s .args .n) (zipped (s .args .from .now) (s .args .to .now) (s .args .side .now))) (sym (o .top .ensures)) (s .pre .1 .0) in
+    (omega arith, c .none .ensures, few-turns lies 0)
 
 lie : (a : Inner) → Lie (highest a) (start a .args .n) (lying a)
 lie a = subst (λ (t : ℕ). Lie t (start a .args .n) (lying a)) (sym (a .before .before .before .top .ensures)) (start a .pre .1 .0)
@@ -136,20 +127,13 @@ add-counter c = search needs
 loop-less : tie.Need-loop-less Inv-loop μ-loop
 loop-less c = omega arith
 
--- past a section that ends below the top word the bands turn less often
-fewer : (c : Looked) → (c .at .result .to ≡ highest (inner c) → ⊥) → turnsFrom (highest (inner c)) (bands (inner c)) (suc (c .at .result .to)) < turnsFrom (highest (inner c)) (bands (inner c)) (inner c .loop .p)
-fewer c =
-    subst
-    (λ (s : Section). (s .to ≡ highest (inner c) → ⊥) → turnsFrom (highest (inner c)) (bands (inner c)) (suc (s .to)) < turnsFrom (highest (inner c)) (bands (inner c)) (inner c .loop .p))
-    (sym (c .at .ensures)) (section-fewer _ (bands (inner c)) _ (inner c .loop .inv .0))
-
 loop-again : tie.Need-loop-again Inv-loop μ-loop
 loop-again c =
     let j = c .before .before .before in
     let o = j .before in
     let a = inner o in
     let next : o .at .result .to + 1 ≡ suc (o .at .result .to) = add-one (o .at .result .to) in
-    let less = fewer o (c .before .if2 .left) in (
+    let less = fewer-turns (bands a) (a .loop .inv .0) (o .at .ensures) (c .before .if2 .left) in (
       omega (arith, row o .bound),
       shared j ∙ ap (λ (q : ℕ). shares 0 (below a q)) (sym next),
       subst (λ (q : ℕ). a .loop .counter + 1 + turnsFrom (highest a) (bands a) q ≤ 2 * start a .args .n) (sym next) (omega (arith, less, a .loop .inv .2)),
@@ -158,8 +142,8 @@ loop-again c =
 returns-2 : tie.Need-returns-2 Inv-loop μ-loop
 returns-2 c = absurd (omega (arith, c .before .loop .inv .2, c .before .before .before .most .ensures))
 
-pub tally-spec : {M : Type 1} → statement M
-tally-spec =
+pub words-spec : {M : Type 1} → statement M
+words-spec =
     tie.close
     (tie.spec
     Inv-loop

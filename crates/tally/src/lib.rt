@@ -1,4 +1,4 @@
-// The sections of all words, one after another.
+// Words that pass bands and bits, counted section by section, with quotient and remainder: there may be 2^64.
 ghost use mathlib.Core.Path.{_≡_};
 ghost use Prim.Native.Nat.{suc};
 ghost use lib.ListN.{take};
@@ -7,14 +7,23 @@ ghost use Rattle.word.specs.Search.{count};
 ghost use Rattle.bits.specs.Fixed.{Tidy};
 ghost use Rattle.lent.specs.Bands.{passes};
 ghost use Rattle.lent.specs.Lent.{Lie, zipped};
-ghost use Rattle.counting.specs.Share.{shares};
-use crate::Share;
+ghost use Rattle.tally.specs.Share.{shares};
 use bits::Fixed;
 use rule::Rule;
 use word::Width;
 
+mod adding;
+
+// What a count answers: 0 or the number of a refusal, and how many words there are as quotient and remainder by `UNIT`, since a free
+// word of 64 bits has 2^64.
+pub struct Share {
+    pub number: u64,
+    pub quotient: u64,
+    pub remainder: u64,
+}
+
 // How many words the first n bands hold that have the bits. It looks at no more sections than n bands can have, whatever the width.
-pub fn tally(
+pub fn words(
     from: &[u64; Rule::LIMIT],
     to: &[u64; Rule::LIMIT],
     side: &[bool; Rule::LIMIT],
