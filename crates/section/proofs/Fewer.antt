@@ -1,12 +1,14 @@
 -- A band that is laid turns at most twice, and past the end of a section there is one turn less at least; so n bands have at most
 -- 2 n + 1 sections. Assumes nothing.
 use mathlib.Core.Path.{_≡_, refl, sym, ap, _∙_, subst}
-use mathlib.Core.Bool.{Bool, true, false, true≢false, not, _&&_}
+use mathlib.Core.Bool.{Bool, true, false, true≢false, not, _&&_, cond}
 use mathlib.Core.Logic.{_⊎_, inl, inr, ⊎-elim}
 use mathlib.Core.List.{List, [], _∷_}
-use Prim.Native.Nat.{ℕ, suc, _+_, _*_, _-_, _≤_, _<_}
+use Prim.Native.Nat.{ℕ, zero, suc, _+_, _*_, _-_, _≤_, _<_}
+use native.Mathlib.Decide.{ℕ-discrete}
 use native.Mathlib.Omega.{arith}
-use borrow.Author.Tests.{not-true, not-false}
+use borrow.Author.Tests.{eq-eqb, ne-eqb, not-false, not-true}
+use lib.Dec.{eqb}
 use lib.ListN.{length, take}
 use lib.Seq.{length-take-le}
 use Rattle.word.specs.Search.{count}
@@ -21,8 +23,8 @@ use Rattle.lent.specs.Lent.{Lie}
 use Rattle.section.specs.declared.Section.{Section}
 use Rattle.section.specs.Section.{sectionAt}
 use Rattle.section.specs.Sides.{fails, firstFailing, someFails}
-use Rattle.section.specs.Turns.{turns, turnsFrom}
-use Rattle.section.proofs.Alike.{fail-section, first-fails, held-section}
+use Rattle.section.specs.Turns.{mostSections, sectionEnds, turns, turnsFrom}
+use Rattle.section.proofs.Alike.{fail-section, first-fails, held-section, section-alike}
 use Rattle.section.proofs.Scan.{other-holds}
 
 -- where a band turns, its run ends or that of its other side
@@ -122,3 +124,22 @@ pub fewer-turns : {t : ℕ} (bs : List Band) {p : ℕ} {s : Section} → p ≤ t
     → turnsFrom t bs (suc (s .to)) < turnsFrom t bs p
 fewer-turns {t} bs {p} word e =
     subst (λ (s : Section). (s .to ≡ t → ⊥) → turnsFrom t bs (suc (s .to)) < turnsFrom t bs p) (sym e) (section-fewer t bs p word)
+
+-- so however far one goes there are no more sections than one more than the turns left
+ends-few : (t : ℕ) (bs : List Band) (k p : ℕ) → p ≤ t → length (sectionEnds t bs k p) ≤ suc (turnsFrom t bs p)
+unfolding sectionEnds
+ends-few t bs zero p h = omega arith
+ends-few t bs (suc k) p h =
+    go (ℕ-discrete (sectionAt t bs p .to) t) (λ d. ends-few t bs k (suc (sectionAt t bs p .to)) (omega (arith, d, section-alike t bs p h .bound)))
+  where
+    q : ℕ
+    q = sectionAt t bs p .to
+
+    go : Dec (q ≡ t) → ((q ≡ t → ⊥) → length (sectionEnds t bs k (suc q)) ≤ suc (turnsFrom t bs (suc q)))
+        → length (q ∷ cond (eqb q t) [] (sectionEnds t bs k (suc q))) ≤ suc (turnsFrom t bs p)
+    go (yes e) later = rw (eq-eqb q t e) (omega arith)
+    go (no d) later = rw (ne-eqb q t d) (omega (arith, later d, section-fewer t bs p h d))
+
+-- never word by word: whatever the width, n bands have at most 2 n + 1 sections
+pub few-sections : {t n : ℕ} {bands : List Band} → Lie t n bands → (k p : ℕ) → p ≤ t → length (sectionEnds t (take n bands) k p) ≤ mostSections n
+few-sections {t} {n} {bands} l k p h = omega (arith, ends-few t (take n bands) k p h, few-turns l p)
