@@ -23,9 +23,11 @@ use Rattle.sheet.specs.Record.{fresh}
 use Rattle.sheet.specs.Statements.{Asked, chainOn, refuses, replies, reply}
 use Rattle.sheet.proofs.WaysOfAsking.{accepted-reply}
 use Rattle.fitting.specs.Agreement.{Agrees}
+use Rattle.fitting.specs.Next.{EachNext}
 use Rattle.fitting.specs.Words.{fittingFrom, howMany, onward, wordsFrom}
 use Rattle.fitting.proofs.Agreement.{kept-agrees}
 use Rattle.fitting.proofs.Carried as carried
+use Rattle.fitting.proofs.Only.{each-next}
 use Rattle.tally.specs.declared.Share.{Share}
 use Rattle.counting.specs.Counted.{Counted, countGrounds, shareOf}
 use Rattle.tally.specs.Share.{shares, whole}
@@ -56,6 +58,10 @@ module _ (o : OpenPage) (reached : Reached (page o)) {s : Sheet} (gives : s ≡ 
       ∙ take-at ls (drop (length ls) (h .b)) (length ls) refl
       ∙ own
       ∙ ap (wordsFrom w rs p) (h .size)
+
+  -- each word that it wrote is the next that fits, and no other list is so (fitting: `only-list`)
+  pub wrote-each-next : {p room : ℕ} {xs : List ℕ} → Wrote s p room xs → EachNext w rs p room xs
+  wrote-each-next {p} {room} h = subst (EachNext w rs p room) (sym (wrote h)) (each-next w rs p room)
 
   -- all that listings write is all that fits
   pub all-written : {p : ℕ} {xs : List ℕ} → CarriedOn s p xs → xs ≡ fittingFrom w rs p

@@ -6,6 +6,8 @@ use borrow.Author.Needs.{needs}
 use Rattle.word.specs.Word.{top}
 use Rattle.lent_head.specs.Numbers.{before}
 use Rattle.lent_head.proofs.Holding.{width-so}
+use Rattle.sheet.specs.declared.Sheet.{Sheet}
+use Rattle.sheet.specs.Held.{packed}
 use Rattle.sheet.specs.Stands.{Stands}
 use Rattle.sheet.proofs.ByValue.{empty-room}
 use Rattle.sheet.proofs.Holding.{stands-so}
@@ -24,7 +26,10 @@ standing-requires c κs = search needs
 refusal-requires : tie.Need-refusal-requires
 refusal-requires c κs = search needs
 
--- where the listing starts
+-- the record that was laid out, and where the listing starts
+abbrev laid : tie.After-lay-out → Sheet
+laid o = packed (o .lay-out .result) (o .lay-out .last .1 .0) (o .lay-out .last .1 .1 .0)
+
 abbrev from-word : tie.After-lay-out → ℕ
 from-word o = o .before .before .before .before .before .before .before .args .start
 
@@ -32,7 +37,7 @@ returns : tie.Need-returns
 returns c =
     let f = c .before .before in
     let o = f .before in
-    listed-by-value (o .lay-out .ensures .0)
+    listed-by-value {t = laid o} (o .lay-out .ensures .0)
     (subst (Listed _ _ _ _) (sym (c .refusal .ensures)) (refused-list (subst (Stands _) (sym (f .standing .ensures)) (stands-so (o .lay-out .ensures .1))) (c .before .if1 .taken) _ _))
 
 none : (c : tie.Else1) → before (c .before .before .lay-out .result .stands) (c .before .before .lay-out .result .width) ≡ 0
@@ -49,7 +54,7 @@ returns-2 c =
     let t = c .before .before in
     let e = t .before in
     let o = e .before .before in
-    listed-by-value (o .lay-out .ensures .0)
+    listed-by-value {t = laid o} (o .lay-out .ensures .0)
     (subst (Listed _ _ _ _) (sym (c .refusal2 .ensures)) (high-list (o .lay-out .ensures .1) (none e) (from-word o) _ (omega (arith, t .top .ensures, c .before .if2 .taken))))
 
 low : (c : tie.Else2) → from-word (c .before .before .before .before) ≤ top (c .before .before .before .before .lay-out .result .width)
@@ -72,7 +77,7 @@ returns-3 c =
     let t = f .before .before .before .before .before in
     let e = t .before .before in
     let o = e .before .before in
-    listed-by-value (o .lay-out .ensures .0)
+    listed-by-value {t = laid o} (o .lay-out .ensures .0)
     (own-list (o .lay-out .ensures .1) (none e) _ _ (low t) (f .fill .ensures .0) (f .fill .ensures .1))
 
 pub list-spec : {M : Type 1} → statement M
