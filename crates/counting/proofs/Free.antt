@@ -1,12 +1,18 @@
--- Without a rule every word fits: 2^w of them, and at 64 bits that is 2^32 and 0. Assumes nothing.
+-- The two numbers together are the words counted; and without a rule every word fits: 2^w of them, which at 64 bits is 2^32 and 0.
+-- Assumes nothing.
 use mathlib.Core.Path.{_≡_, refl, ap}
 use mathlib.Core.List.{[]}
 use Prim.Native.Nat.{ℕ, zero, suc, _^_}
+use native.Mathlib.Omega.{arith}
 use Rattle.word.specs.Search.{count}
 use Rattle.rule.specs.Meaning.{fits}
 use Rattle.fitting.specs.Words.{howMany}
-use Rattle.tally.specs.declared.Share.{Share}
-use Rattle.tally.specs.Share.{UNIT, shares}
+use Rattle.counting.specs.declared.Share.{Share}
+use Rattle.tally.specs.Total.{UNIT}
+use Rattle.counting.specs.Share.{shares, together}
+
+pub together-shares : (n h : ℕ) → together (shares n h) ≡ h
+together-shares n h = omega arith
 
 all-fit : (w k p : ℕ) → count (fits w []) k p ≡ k
 unfolding count fits

@@ -30,9 +30,9 @@ use Rattle.sheet.proofs.OnePage.{one-page}
 use Rattle.sheet.proofs.Stands.{known}
 use Rattle.fitting.specs.Words.{howMany}
 use Rattle.fitting.proofs.Passing.{count-same}
-use Rattle.tally.specs.declared.Share.{Share}
+use Rattle.counting.specs.declared.Share.{Share}
 use Rattle.counting.specs.Counted.{Counted, countGrounds, shareOf}
-use Rattle.tally.specs.Share.{shares}
+use Rattle.counting.specs.Share.{shares}
 
 -- what holds of the one page is all that is asked
 counted-on : (pg : Page) → Reached pg → {s : Sheet} → s ≡ fresh pg → {r : Share} → r ≡ shareOf pg → Counted s r

@@ -4,7 +4,7 @@ use mathlib.Core.Path.{_≡_, sym, _∙_}
 use Rattle.sheet.specs.declared.Sheet.{Sheet}
 use Rattle.sheet.specs.Statements.{IsSheet}
 use Rattle.sheet.proofs.Tested.{sheet-dec}
-use Rattle.tally.specs.declared.Share.{Share}
+use Rattle.counting.specs.declared.Share.{Share}
 use Rattle.counting.specs.Counted.{Counted}
 
 pub counted-unique : {s : Sheet} {r₁ r₂ : Share} → Counted s r₁ → Counted s r₂ → r₁ ≡ r₂

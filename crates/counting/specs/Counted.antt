@@ -11,8 +11,8 @@ use Rattle.sheet.specs.declared.Sheet.{Sheet}
 use Rattle.sheet.specs.Record.{fresh}
 use Rattle.sheet.specs.Statements.{IsSheet}
 use Rattle.fitting.specs.Words.{howMany}
-use Rattle.tally.specs.declared.Share.{Share}
-use Rattle.tally.specs.Share.{shares}
+use Rattle.counting.specs.declared.Share.{Share}
+use Rattle.counting.specs.Share.{shares}
 
 -- the table, of a count on the sheet that a page gives
 unfoldable pub countGrounds : Page → List Ground

@@ -28,10 +28,10 @@ use Rattle.fitting.specs.Words.{fittingFrom, howMany, onward, wordsFrom}
 use Rattle.fitting.proofs.Agreement.{kept-agrees}
 use Rattle.fitting.proofs.Carried as carried
 use Rattle.fitting.proofs.Only.{each-next}
-use Rattle.tally.specs.declared.Share.{Share}
+use Rattle.counting.specs.declared.Share.{Share}
 use Rattle.counting.specs.Counted.{Counted, countGrounds, shareOf}
-use Rattle.tally.specs.Share.{shares, whole}
-use Rattle.tally.proofs.Sums.{whole-shares}
+use Rattle.counting.specs.Share.{shares, together}
+use Rattle.counting.proofs.Free.{together-shares}
 use Rattle.listing.specs.declared.Listing.{Listing}
 use Rattle.listing.specs.Carried.{CarriedOn, Wrote, further, not-filled, top-written}
 use Rattle.listing.specs.Listed.{listNumber, listOn}
@@ -86,9 +86,9 @@ module _ (o : OpenPage) (reached : Reached (page o)) {s : Sheet} (gives : s ≡ 
   shared c = c .on-page (page o) reached gives
 
   -- "Counting must agree with the listing, carried on to the end."
-  pub count-agrees : {r : Share} {xs : List ℕ} → Counted s r → CarriedOn s 0 xs → whole r ≡ length xs
+  pub count-agrees : {r : Share} {xs : List ℕ} → Counted s r → CarriedOn s 0 xs → together r ≡ length xs
   count-agrees c on =
-      ap whole (shared c) ∙ whole-shares 0 (howMany w rs) ∙ sym (carried.counted w rs) ∙ ap length (sym (all-written on))
+      ap together (shared c) ∙ together-shares 0 (howMany w rs) ∙ sym (carried.counted w rs) ∙ ap length (sym (all-written on))
 
   -- what an accepted asking says
   replied : {b b′ : List ℕ} {r : Reply} → Asked s b b′ r → r .number ≡ 0 → r .kept ≡ kept w rs
@@ -107,10 +107,10 @@ module _ (o : OpenPage) (reached : Reached (page o)) {s : Sheet} (gives : s ≡ 
 
   -- verdict, smallest and largest agree with count and listing: "none" is 0, "one" is 1, else more, and the ends are the listing's
   pub answers-agree : {b b′ : List ℕ} {r : Reply} {c : Share} {xs : List ℕ} → Asked s b b′ r → r .number ≡ 0 → Counted s c → CarriedOn s 0 xs
-      → Agrees (r .kept) (whole c) xs
+      → Agrees (r .kept) (together c) xs
   answers-agree {c = share} {xs = xs} a z c on =
-      subst (λ (k : Kept). Agrees k (whole share) xs) (sym (replied a z))
-      (subst₂ (Agrees (kept w rs)) (sym (ap whole (shared c) ∙ whole-shares 0 (howMany w rs))) (sym (all-written on)) (kept-agrees w rs))
+      subst (λ (k : Kept). Agrees k (together share) xs) (sym (replied a z))
+      (subst₂ (Agrees (kept w rs)) (sym (ap together (shared c) ∙ together-shares 0 (howMany w rs))) (sym (all-written on)) (kept-agrees w rs))
 
   -- the first listed from 0 is the smallest
   pub first-smallest : {b b′ : List ℕ} {r : Reply} {room : ℕ} {xs : List ℕ} → Asked s b b′ r → r .number ≡ 0 → Wrote s 0 room xs → 0 < length xs

@@ -6,23 +6,23 @@ use Prim.Native.Nat.{ℕ, zero, suc, _+_, _-_, _*_, _/_, _%_, _≤_}
 use native.Mathlib.Omega.{arith}
 use Rattle.word.specs.Search.{count}
 use Rattle.fitting.proofs.Passing.{count-split}
-use Rattle.tally.specs.declared.Share.{Share}
-use Rattle.tally.specs.Share.{Carries, UNIT, shares, whole}
+use Rattle.tally.specs.declared.Total.{Total}
+use Rattle.tally.specs.Total.{Carries, UNIT, totals, whole}
 
-pub whole-shares : (n h : ℕ) → whole (shares n h) ≡ h
-whole-shares n h = omega arith
+pub whole-totals : (h : ℕ) → whole (totals h) ≡ h
+whole-totals h = omega arith
 
-pub carries-shares : (n h : ℕ) → h ≤ UNIT * UNIT → Carries (shares n h)
-carries-shares n h l = record { carried = omega arith; bounded = omega arith }
+pub carries-totals : (h : ℕ) → h ≤ UNIT * UNIT → Carries (totals h)
+carries-totals h l = record { carried = omega arith; bounded = omega arith }
 
 -- the sum of two numbers, with the carry
-pub plus-shares : (s : Share) (more : ℕ)
-    → _≡_ {A = Share} (record { number = 0; quotient = s .quotient + more / UNIT + (s .remainder + more % UNIT) / UNIT; remainder = (s .remainder + more % UNIT) % UNIT })
-    (shares 0 (whole s + more))
-plus-shares s more =
+pub plus-totals : (s : Total) (more : ℕ)
+    → _≡_ {A = Total} (record { quotient = s .quotient + more / UNIT + (s .remainder + more % UNIT) / UNIT; remainder = (s .remainder + more % UNIT) % UNIT })
+    (totals (whole s + more))
+plus-totals s more =
     let q : s .quotient + more / UNIT + (s .remainder + more % UNIT) / UNIT ≡ (whole s + more) / UNIT = omega arith in
     let r : (s .remainder + more % UNIT) % UNIT ≡ (whole s + more) % UNIT = omega arith in
-    λ i. record { number = 0; quotient = q i; remainder = r i }
+    λ i. record { quotient = q i; remainder = r i }
 
 module _ (f : ℕ → Bool) where
   -- no more pass than there are

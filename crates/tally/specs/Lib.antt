@@ -1,1 +1,1 @@
-pub mod Share
+pub mod Total

@@ -7,17 +7,15 @@ ghost use Rattle.word.specs.Search.{count};
 ghost use Rattle.bits.specs.Fixed.{Tidy};
 ghost use Rattle.lent.specs.Bands.{passes};
 ghost use Rattle.lent.specs.Lent.{Lie, zipped};
-ghost use Rattle.tally.specs.Share.{shares};
+ghost use Rattle.tally.specs.Total.{totals};
 use bits::Fixed;
 use rule::Rule;
 use word::Width;
 
 mod adding;
 
-// What a count answers: 0 or the number of a refusal, and how many words there are as quotient and remainder by `UNIT`, since a free
-// word of 64 bits has 2^64.
-pub struct Share {
-    pub number: u64,
+// How many words there are, as quotient and remainder by `UNIT`.
+pub struct Total {
     pub quotient: u64,
     pub remainder: u64,
 }
@@ -30,25 +28,25 @@ pub fn words(
     n: usize,
     fixed: Fixed,
     width: Width,
-) -> Share
+) -> Total
     requires { ⌜ IsWidth (width .bits) ⌝ }
     requires { ⌜ Lie (top (width .bits)) n (zipped (now from) (now to) (now side)) ⌝ }
     requires { ⌜ Tidy fixed ⌝ }
-    ensures { λ r. ⌜ r ≡ shares 0 (count (passes (take n (zipped (now (from .entry)) (now (to .entry)) (now (side .entry)))) fixed) (suc (top (width .bits))) 0) ⌝ }
+    ensures { λ r. ⌜ r ≡ totals (count (passes (take n (zipped (now (from .entry)) (now (to .entry)) (now (side .entry)))) fixed) (suc (top (width .bits))) 0) ⌝ }
 {
     let top = width.top();
     let most = section::most(n);
-    let mut share = Share::none(0);
+    let mut total = Total::none();
     let mut p = 0;
     for _ in 0..most {
         let section = section::at(from, to, side, n, top, p);
         if section.held {
-            share = share.with(fixed, p, section.to);
+            total = total.with(fixed, p, section.to);
         }
         if section.to == top {
-            return share;
+            return total;
         }
         p = section.to + 1;
     }
-    share
+    total
 }

@@ -1,5 +1,5 @@
 -- `count` meets its contract: what is tallied on the arrays is the count of the record that was laid out. Assumes nothing.
-use mathlib.Core.Path.{_≡_, sym, _∙_, subst}
+use mathlib.Core.Path.{_≡_, sym, ap, _∙_, subst}
 use borrow.Author.Needs.{needs}
 use Rattle.lent_head.specs.Numbers.{before}
 use Rattle.lent_head.proofs.Holding.{width-so}
@@ -7,6 +7,8 @@ use Rattle.sheet.specs.declared.Sheet.{Sheet}
 use Rattle.sheet.specs.Stands.{Stands}
 use Rattle.sheet.proofs.ByValue.{empty-room}
 use Rattle.sheet.proofs.Holding.{stands-so}
+use Rattle.tally.specs.declared.Total.{Total}
+use Rattle.counting.specs.declared.Share.{Share}
 use Rattle.counting.specs.Counted.{Counted}
 use Rattle.counting.proofs.Held.{refused-count, swept-so, tallied}
 use Rattle.counting.proofs.count.Statement.{statement}
@@ -18,8 +20,12 @@ lay-out-requires c κs = empty-room
 standing-requires : tie.Need-standing-requires
 standing-requires c κs = search needs
 
-none-requires : tie.Need-none-requires
-none-requires c κs = search needs
+refusal-requires : tie.Need-refusal-requires
+refusal-requires c κs = search needs
+
+-- what a count answers of a total
+abbrev shared : Total → Share
+shared t = record { number = 0; quotient = t .quotient; remainder = t .remainder }
 
 -- the record's arrays, once it is laid out, and what was found of it
 abbrev Found : Type 0
@@ -29,8 +35,8 @@ returns : tie.Need-returns
 returns c =
     let f : Found = c .before .before in
     let o = f .before in
-    subst (λ (s : Sheet). Counted s (c .none .result)) (o .lay-out .ensures .0)
-    (subst (Counted _) (sym (c .none .ensures)) (refused-count (subst (Stands _) (sym (f .standing .ensures)) (stands-so (o .lay-out .ensures .1))) (c .before .if1 .taken)))
+    subst (λ (s : Sheet). Counted s (c .refusal .result)) (o .lay-out .ensures .0)
+    (subst (Counted _) (sym (c .refusal .ensures)) (refused-count (subst (Stands _) (sym (f .standing .ensures)) (stands-so (o .lay-out .ensures .1))) (c .before .if1 .taken)))
 
 none : (c : tie.Else1) → before (c .before .before .lay-out .result .stands) (c .before .before .lay-out .result .width) ≡ 0
 none c = sym (c .before .standing .ensures) ∙ c .if1 .left
@@ -46,9 +52,9 @@ returns-2 : tie.Need-returns-2
 returns-2 c =
     let e = c .before .before .before .before in
     let o = e .before .before in
-    subst (λ (s : Sheet). Counted s (c .words .result)) (o .lay-out .ensures .0) (tallied (o .lay-out .ensures .1) (none e) (c .words .ensures))
+    subst (λ (s : Sheet). Counted s (shared (c .words .result))) (o .lay-out .ensures .0) (tallied (o .lay-out .ensures .1) (none e) (ap shared (c .words .ensures)))
 
 pub count-spec : {M : Type 1} → statement M
 count-spec =
     tie.close
-    (tie.spec lay-out-requires standing-requires none-requires returns words-requires returns-2)
+    (tie.spec lay-out-requires standing-requires refusal-requires returns words-requires returns-2)

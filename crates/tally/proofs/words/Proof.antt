@@ -1,4 +1,4 @@
--- `words` meets its contract. The loop's invariant: the share is that of the words below p, and the turns so far with those that the
+-- `words` meets its contract. The loop's invariant: the total is that of the words below p, and the turns so far with those that the
 -- bands have left are no more than two a band; so the loop comes to the top word before its turns are used up. Assumes nothing.
 use mathlib.Core.Path.{_≡_, sym, ap, _∙_, subst}
 use mathlib.Core.Logic.{⊎-elim}
@@ -17,20 +17,20 @@ use Rattle.lent.specs.Lent.{Lie, zipped}
 use Rattle.section.specs.Turns.{turnsFrom}
 use Rattle.section.proofs.Alike.{Alike, section-alike}
 use Rattle.section.proofs.Fewer.{few-turns, fewer-turns}
-use Rattle.tally.specs.Share.{Carries, shares, whole}
+use Rattle.tally.specs.Total.{Carries, totals, whole}
 use Rattle.tally.proofs.Rows.{failing-row, held-row}
-use Rattle.tally.proofs.Sums.{carries-shares, count-most, whole-shares}
+use Rattle.tally.proofs.Sums.{carries-totals, count-most, whole-totals}
 use Rattle.tally.proofs.words.Statement.{statement}
 use Rattle.tally.proofs.words.Tie as tie
 
 abbrev Inv-loop : tie.InvT-loop
-Inv-loop from to side n fixed top most share₀ p₀ counter₀ share p counter =
+Inv-loop from to side n fixed top most total₀ p₀ counter₀ total p counter =
     (p ≤ top)
-    × (share ≡ shares 0 (count (passes (take n (zipped from to side)) fixed) p 0))
+    × (total ≡ totals (count (passes (take n (zipped from to side)) fixed) p 0))
     × (counter + turnsFrom top (take n (zipped from to side)) p ≤ 2 * n)
 
 abbrev μ-loop : tie.MeasureT-loop
-μ-loop from to side n fixed top most share₀ p₀ counter₀ share p counter = most - counter
+μ-loop from to side n fixed top most total₀ p₀ counter₀ total p counter = most - counter
 
 -- what is known in the loop
 abbrev Inner : Type 0
@@ -91,24 +91,24 @@ with-requires c κs =
     let most = count-most (passes (bands a) (start a .args .fixed)) (a .loop .p) 0 in (
       start a .pre .1 .1,
       row (c .before) .order,
-      subst Carries (sym (a .loop .inv .1)) (carries-shares 0 _ (omega arith)),
-      omega (arith, whole-shares 0 (below a (a .loop .p)), ap whole (a .loop .inv .1)),
+      subst Carries (sym (a .loop .inv .1)) (carries-totals _ (omega arith)),
+      omega (arith, whole-totals (below a (a .loop .p)), ap whole (a .loop .inv .1)),
     )
 
--- the share of the words up to the section's end
-shared : (c : tie.Joined1 Inv-loop μ-loop) → c .if1 .share ≡ shares 0 (below (inner (c .before)) (suc (c .before .at .result .to)))
+-- the total of the words up to the section's end
+shared : (c : tie.Joined1 Inv-loop μ-loop) → c .if1 .total ≡ totals (below (inner (c .before)) (suc (c .before .at .result .to)))
 shared c =
     let o = c .before in
     let a = inner o in
     let f = start a .args .fixed in
     let p = a .loop .p in
     let more : ℕ = count (hasBits f) (suc (o .at .result .to) - p) p in
-    let old : whole (a .loop .share) ≡ below a p = ap whole (a .loop .inv .1) ∙ whole-shares 0 (below a p) in
+    let old : whole (a .loop .total) ≡ below a p = ap whole (a .loop .inv .1) ∙ whole-totals (below a p) in
     ⊎-elim
     (λ h.
-    let e : whole (a .loop .share) + more ≡ below a (suc (o .at .result .to)) = omega (arith, old, held-row (row o) f (h .0 .taken)) in
-    h .2 ∙ h .1 .ensures ∙ ap (shares 0) e)
-    (λ h. h .1 ∙ a .loop .inv .1 ∙ ap (shares 0) (sym (failing-row (row o) f (h .0 .left))))
+    let e : whole (a .loop .total) + more ≡ below a (suc (o .at .result .to)) = omega (arith, old, held-row (row o) f (h .0 .taken)) in
+    h .2 ∙ h .1 .ensures ∙ ap totals e)
+    (λ h. h .1 ∙ a .loop .inv .1 ∙ ap totals (sym (failing-row (row o) f (h .0 .left))))
     (c .if1 .came)
 
 returns : tie.Need-returns Inv-loop μ-loop
@@ -116,7 +116,7 @@ returns c =
     let j = c .before .before in
     let a = inner (j .before) in
     let e : j .before .at .result .to ≡ top (start a .args .width .bits) = c .if2 .taken ∙ a .before .before .before .top .ensures in
-    shared j ∙ ap (λ (q : ℕ). shares 0 (below a (suc q))) e
+    shared j ∙ ap (λ (q : ℕ). totals (below a (suc q))) e
 
 add-p : tie.Need-add-p Inv-loop μ-loop
 add-p c = omega (arith, row (c .before .before .before .before) .bound)
@@ -135,7 +135,7 @@ loop-again c =
     let next : o .at .result .to + 1 ≡ suc (o .at .result .to) = add-one (o .at .result .to) in
     let less = fewer-turns (bands a) (a .loop .inv .0) (o .at .ensures) (c .before .if2 .left) in (
       omega (arith, row o .bound),
-      shared j ∙ ap (λ (q : ℕ). shares 0 (below a q)) (sym next),
+      shared j ∙ ap (λ (q : ℕ). totals (below a q)) (sym next),
       subst (λ (q : ℕ). a .loop .counter + 1 + turnsFrom (highest a) (bands a) q ≤ 2 * start a .args .n) (sym next) (omega (arith, less, a .loop .inv .2)),
     )
 

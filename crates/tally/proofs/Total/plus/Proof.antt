@@ -1,8 +1,8 @@
--- `Share::plus` meets its contract. Assumes nothing.
+-- `Total::plus` meets its contract. Assumes nothing.
 use borrow.Author.Needs.{needs}
-use Rattle.tally.proofs.Sums.{plus-shares}
-use Rattle.tally.proofs.Share.plus.Statement.{statement}
-use Rattle.tally.proofs.Share.plus.Tie as tie
+use Rattle.tally.proofs.Sums.{plus-totals}
+use Rattle.tally.proofs.Total.plus.Statement.{statement}
+use Rattle.tally.proofs.Total.plus.Tie as tie
 
 add-rest : tie.Need-add-rest
 add-rest c = search needs
@@ -14,7 +14,7 @@ add-t7 : tie.Need-add-t7
 add-t7 c = search needs
 
 returns : tie.Need-returns
-returns c = plus-shares (c .before .before .args .self) _
+returns c = plus-totals (c .before .before .args .self) _
 
 pub plus-spec : {M : Type 1} → statement M
 plus-spec = tie.close (tie.spec add-rest add-t5 add-t7 returns)

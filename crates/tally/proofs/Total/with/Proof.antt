@@ -1,4 +1,4 @@
--- `Share::with` meets its contract: the words of a row that have the bits are those below its last word that are not below its first,
+-- `Total::with` meets its contract: the words of a row that have the bits are those below its last word that are not below its first,
 -- and the last one if it has them. Assumes nothing.
 use mathlib.Core.Path.{_≡_, sym, ap, _∙_, subst}
 use mathlib.Core.Bool.{Bool}
@@ -7,11 +7,11 @@ use native.Mathlib.Omega.{arith}
 use borrow.Author.Needs.{needs}
 use Rattle.word.specs.Search.{count}
 use Rattle.bits.specs.Fixed.{hasBits}
-use Rattle.tally.specs.declared.Share.{Share}
-use Rattle.tally.specs.Share.{Carries, shares, whole}
-use Rattle.tally.proofs.Sums.{below-to, carries-shares, count-most, row-with, row-without, whole-shares}
-use Rattle.tally.proofs.Share.with.Statement.{statement}
-use Rattle.tally.proofs.Share.with.Tie as tie
+use Rattle.tally.specs.declared.Total.{Total}
+use Rattle.tally.specs.Total.{Carries, totals, whole}
+use Rattle.tally.proofs.Sums.{below-to, carries-totals, count-most, row-with, row-without, whole-totals}
+use Rattle.tally.proofs.Total.with.Statement.{statement}
+use Rattle.tally.proofs.Total.with.Tie as tie
 
 -- the two numbers below, and what they leave
 abbrev Below : Type 0
@@ -46,7 +46,7 @@ plus-requires-2 c κs =
     let b = u .before in
     let s = b .before .before in
     let most = count-most (has b) (s .args .last - s .args .first) (s .args .first) in
-    subst Carries (sym (u .plus .ensures)) (carries-shares 0 _ (omega (arith, between b, most, s .pre .1, s .pre .3)))
+    subst Carries (sym (u .plus .ensures)) (carries-totals _ (omega (arith, between b, most, s .pre .1, s .pre .3)))
 
 returns : tie.Need-returns
 returns c =
@@ -55,9 +55,9 @@ returns c =
     let b = u .before in
     let s = b .before .before in
     let more : ℕ = b .before .below .result - b .below2 .result in
-    let e : whole (shares 0 (whole (s .args .self) + more)) + 1 ≡ whole (s .args .self) + count (has b) (suc (s .args .last) - s .args .first) (s .args .first) =
-    omega (arith, whole-shares 0 (whole (s .args .self) + more), row-with (has b) (s .args .first) (s .args .last) (s .pre .1) (sym (h .has .ensures) ∙ c .before .if1 .taken), b .before .below .ensures, b .below2 .ensures) in
-    c .plus2 .ensures ∙ ap (λ (t : Share). shares 0 (whole t + 1)) (u .plus .ensures) ∙ ap (shares 0) e
+    let e : whole (totals (whole (s .args .self) + more)) + 1 ≡ whole (s .args .self) + count (has b) (suc (s .args .last) - s .args .first) (s .args .first) =
+    omega (arith, whole-totals (whole (s .args .self) + more), row-with (has b) (s .args .first) (s .args .last) (s .pre .1) (sym (h .has .ensures) ∙ c .before .if1 .taken), b .before .below .ensures, b .below2 .ensures) in
+    c .plus2 .ensures ∙ ap (λ (t : Total). totals (whole t + 1)) (u .plus .ensures) ∙ ap totals e
 
 returns-2 : tie.Need-returns-2
 returns-2 c =
@@ -68,7 +68,7 @@ returns-2 c =
     let more : ℕ = b .before .below .result - b .below2 .result in
     let e : whole (s .args .self) + more ≡ whole (s .args .self) + count (has b) (suc (s .args .last) - s .args .first) (s .args .first) =
     omega (arith, row-without (has b) (s .args .first) (s .args .last) (s .pre .1) (sym (h .has .ensures) ∙ c .if1 .left), b .before .below .ensures, b .below2 .ensures) in
-    u .plus .ensures ∙ ap (shares 0) e
+    u .plus .ensures ∙ ap totals e
 
 pub with-spec : {M : Type 1} → statement M
 with-spec =
