@@ -85,7 +85,7 @@ pub fn answered(
 }
 
 // The sheet, or the first refusal.
-fn filled(edition: Edition, bits: u64, rules: [Rule; Rule::LIMIT], n: usize) -> Answer
+pub fn filled(edition: Edition, bits: u64, rules: [Rule; Rule::LIMIT], n: usize) -> Answer
     requires { ⌜ n ≤ RULES ⌝ }
 {
     let opening = Opening {

@@ -14,7 +14,7 @@ use trial_wheel::wheel::Wheel;
 use word::Found;
 
 // The most stretches of a sheet.
-const STRETCHES: u64 = TURNS * FEW as u64 + 1;
+pub const STRETCHES: u64 = TURNS * FEW as u64 + 1;
 
 // The reason of a link whose words fail a form 7 rule.
 const BITS: u64 = 255;
@@ -28,7 +28,7 @@ struct Link {
 
 // The verdict and its words, and for none the chain. Puts its links into the buffer.
 pub fn searched(rules: [Rule; FEW], wheel: Wheel, out: &mut [u64; NUMBERS]) -> Expected {
-    let Found::At(smallest) = smallest(rules, wheel) else {
+    let Found::At(smallest) = next(rules, wheel, 0) else {
         return Expected::none(chain(rules, wheel, &mut *out));
     };
     let Found::At(largest) = largest(rules, wheel) else {
@@ -38,7 +38,7 @@ pub fn searched(rules: [Rule; FEW], wheel: Wheel, out: &mut [u64; NUMBERS]) -> E
 }
 
 // Whether x meets all rules outside form 7.
-fn holds(rules: [Rule; FEW], wheel: Wheel, x: u64) -> bool {
+pub fn holds(rules: [Rule; FEW], wheel: Wheel, x: u64) -> bool {
     for i in 0..FEW {
         if fails(wheel, rules[i], x) {
             return false;
@@ -56,7 +56,7 @@ fn fails(wheel: Wheel, rule: Rule, x: u64) -> bool {
 }
 
 // The words around x within which no rule turns.
-fn around(rules: [Rule; FEW], wheel: Wheel, x: u64) -> Stretch {
+pub fn around(rules: [Rule; FEW], wheel: Wheel, x: u64) -> Stretch {
     let mut from = 0;
     let mut to = wheel.top;
     for i in 0..FEW {
@@ -101,10 +101,10 @@ fn last(rules: [Rule; FEW], wheel: Wheel, from: u64, to: u64) -> Found {
     }
 }
 
-// The smallest word that fits.
-fn smallest(rules: [Rule; FEW], wheel: Wheel) -> Found {
+// The smallest word at or above p that fits.
+pub fn next(rules: [Rule; FEW], wheel: Wheel, p: u64) -> Found {
     let top = wheel.top;
-    let mut x = 0;
+    let mut x = p;
     for _ in 0..STRETCHES {
         let end = around(rules, wheel, x).to;
         if let Found::At(word) = first(rules, wheel, x, end) {

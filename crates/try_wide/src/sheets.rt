@@ -2,7 +2,6 @@
 ghost use Prim.Native.Nat.{_≤_};
 ghost use Rattle.word.specs.Word.{IsWidth};
 ghost use Rattle.rule.specs.Meaning.{RULES};
-use crate::corners;
 use rule::Rule;
 use trial_direct::draw;
 use trial_editions::asked;
@@ -11,6 +10,7 @@ use trial_editions::counts::Both;
 use trial_sheets::expected::NUMBERS;
 use trial_wheel::bit_rules::FEW;
 use trial_wheel::wheel::Wheel;
+use trial_wide::corners;
 use trial_wide::search;
 use trial_wide::sheets;
 

@@ -1,10 +1,10 @@
 // Rules whose constants are corners, and sheets whose rules part the words among them, by number.
+use crate::sheets;
 use rule::Rule;
 use trial_direct::rules;
 use trial_direct::rules::rule;
 use trial_wheel::bit_rules::FEW;
 use trial_wheel::wheel::Wheel;
-use trial_wide::sheets;
 
 // How many numbers there are for rules with corners: each form in two senses, with two of six words.
 pub const CORNERS: u64 = 36 * rules::KINDS;

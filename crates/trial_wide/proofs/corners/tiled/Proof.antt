@@ -2,8 +2,8 @@
 use Prim.Native.Nat.{_-_, _≤_}
 use Rattle.trial_wheel.specs.Limits.{FEW}
 use borrow.Author.Needs.{needs}
-use Rattle.try_wide.proofs.corners.tiled.Statement.{statement}
-use Rattle.try_wide.proofs.corners.tiled.Tie as tie
+use Rattle.trial_wide.proofs.corners.tiled.Statement.{statement}
+use Rattle.trial_wide.proofs.corners.tiled.Tie as tie
 
 pub tiled-spec : {M : Type 1} → statement M
 tiled-spec =
