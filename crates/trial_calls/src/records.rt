@@ -20,6 +20,9 @@ pub const NUMBERS: usize = MARKS + 8;
 // What is raised by it is far off: a count of rules or of marks passes its limit.
 pub const FAR: u64 = Rule::LIMIT as u64;
 
+// What is raised by it is the same in its low half.
+pub const SAME_LOW: u64 = 0x1_0000_0000;
+
 // The top word of 63 bits, the widest that has numbers above it.
 pub const TOP: u64 = 0x7fff_ffff_ffff_ffff;
 

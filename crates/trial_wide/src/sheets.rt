@@ -1,4 +1,6 @@
 // Sheets of few rules, as they are walked over from turn to turn, and sheets that are drawn.
+ghost use Prim.Native.Nat.{_≤_};
+ghost use Rattle.rule.specs.Meaning.{RULES};
 use rule::Rule;
 use trial_direct::draw::next;
 use trial_direct::rules;
@@ -15,6 +17,17 @@ pub fn taken(some: Rule) -> Rule {
         return rule(form, 0, c1, c1 & some.c2);
     }
     rules::used(some)
+}
+
+// The first n rules, changed where a sheet would refuse them.
+pub fn all_taken(rules: [Rule; Rule::LIMIT], n: usize) -> [Rule; Rule::LIMIT]
+    requires { ⌜ n ≤ RULES ⌝ }
+{
+    let mut all = rules;
+    for i in 0..n {
+        all[i] = taken(rules[i]);
+    }
+    all
 }
 
 // The first n rules. In the places after them stands a rule that every word meets.

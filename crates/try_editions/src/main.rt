@@ -3,9 +3,6 @@
 //
 // The counts: drawn has as many sheets as its loop makes, 4000, of up to 200 rules, and ways 8000, of up to six. known has the right
 // answer to a sheet, and seven wrong ones.
-ghost use Prim.Native.Nat.{_≤_};
-ghost use Rattle.rule.specs.Meaning.{RULES};
-use rule::Rule;
 use trial_direct::direct;
 use trial_direct::draw;
 use trial_direct::rules;
@@ -49,7 +46,7 @@ fn drawn() -> Both {
 fn drawn_sheet(s: u64, table: &mut [u8; direct::TABLE]) -> Both {
     let width = Width { bits: 1 + s % 8 };
     let n = draws::count(s >> 8);
-    let rules = taken(draws::rules(s, n, width), n);
+    let rules = sheets::all_taken(draws::rules(s, n, width), n);
     if !rules::all_lawful(rules, n, width) {
         return Both::none();
     }
@@ -58,17 +55,6 @@ fn drawn_sheet(s: u64, table: &mut [u8; direct::TABLE]) -> Both {
     direct::fill(rules, n, width, &mut *table);
     let walked = walk::walked(&*table, n, size as usize, &mut buffer);
     asked::in_editions(width.bits, size - 1, rules, n, walked, &buffer)
-}
-
-// The first n rules, changed where a sheet would refuse them.
-fn taken(rules: [Rule; Rule::LIMIT], n: usize) -> [Rule; Rule::LIMIT]
-    requires { ⌜ n ≤ RULES ⌝ }
-{
-    let mut taken = rules;
-    for i in 0..n {
-        taken[i] = sheets::taken(rules[i]);
-    }
-    taken
 }
 
 // The two walks on sheets of up to six rules.

@@ -16,6 +16,7 @@ use trial_calls::answers::refused;
 use trial_calls::answers::same_sheet;
 use trial_calls::records::FAR;
 use trial_calls::records::NUMBERS;
+use trial_calls::records::SAME_LOW;
 use trial_calls::records::TOP;
 use trial_calls::records::raised;
 use trial_calls::records::stands;
@@ -102,7 +103,7 @@ fn over_numbers(sheet: Sheet) -> Tally {
 fn over_amounts(sheet: Sheet, at: usize) -> Tally {
     looks(raised(sheet, at, 1))
         .plus(looks(raised(sheet, at, FAR)))
-        .plus(looks(raised(sheet, at, 0x1_0000_0000)))
+        .plus(looks(raised(sheet, at, SAME_LOW)))
 }
 
 // What is_sheet and each call but an opening say of a record that is no sheet.
