@@ -1,0 +1,14 @@
+-- `drawn` is safe and ends: the measure is what is left. Assumes nothing.
+use Prim.Native.Nat.{_-_}
+use borrow.Author.Needs.{needs}
+use Rattle.try_wide_counts.proofs.drawn.Statement.{statement}
+use Rattle.try_wide_counts.proofs.drawn.Tie as tie
+
+pub drawn-spec : {M : Type 1} → statement M
+drawn-spec =
+    tie.close
+    (tie.spec
+    (λ bits seen₀ wheel seed₀ counter₀ seen seed counter. Unit)
+    (λ bits seen₀ wheel seed₀ counter₀ seen seed counter. 500 - counter)
+    (search needs) (search needs) (search needs) (search needs) (search needs) (search needs) (search needs) (search needs)
+    (search needs) (search needs) (search needs) (search needs) (search needs) (search needs))
