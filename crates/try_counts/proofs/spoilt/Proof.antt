@@ -1,0 +1,15 @@
+-- `spoilt` is safe and ends: the measure is what is left. Assumes nothing.
+use Prim.Native.Nat.{_-_}
+use borrow.Author.Needs.{needs}
+use Rattle.try_counts.proofs.spoilt.Statement.{statement}
+use Rattle.try_counts.proofs.spoilt.Tie as tie
+
+pub spoilt-spec : {M : Type 1} → statement M
+spoilt-spec =
+    tie.close
+    (tie.spec
+    (λ wrong list₀ i₀ list i. Unit)
+    (λ wrong list₀ i₀ list i. 5 - i)
+    (search needs) (search needs) (search needs) (search needs) (search needs) (search needs) (search needs) (search needs)
+    (search needs) (search needs) (search needs) (search needs) (search needs) (search needs) (search needs) (search needs)
+    (search needs))
