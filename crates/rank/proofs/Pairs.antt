@@ -35,7 +35,7 @@ module _ (f : ℕ → Bool) where
       omega (arith, count-first (suc k) p, count-first k p, count-last k (suc p), ap (λ (x : ℕ). one (f x)) e)
 
   -- at most all of them pass
-  count-most : (k p : ℕ) → count f k p ≤ k
+  pub count-most : (k p : ℕ) → count f k p ≤ k
   unfolding count
   count-most zero p = omega arith
   count-most (suc k) p = go (f p) refl (count-most k (suc p))

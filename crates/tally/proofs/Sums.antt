@@ -1,8 +1,8 @@
 -- Words added up: quotient and remainder stand for one number, which a carry keeps, and a row of words has as many with the bits as
 -- there are below its last word and not below its first, and the last one if it has them. Assumes nothing.
-use mathlib.Core.Path.{_≡_, refl, ap, _∙_}
+use mathlib.Core.Path.{_≡_, ap, _∙_}
 use mathlib.Core.Bool.{Bool, true, false}
-use Prim.Native.Nat.{ℕ, zero, suc, _+_, _-_, _*_, _/_, _%_, _≤_}
+use Prim.Native.Nat.{ℕ, suc, _+_, _-_, _*_, _/_, _%_, _≤_}
 use native.Mathlib.Omega.{arith}
 use Rattle.word.specs.Search.{count}
 use Rattle.fitting.proofs.Passing.{count-split}
@@ -25,16 +25,6 @@ plus-totals s more =
     λ i. record { quotient = q i; remainder = r i }
 
 module _ (f : ℕ → Bool) where
-  -- no more pass than there are
-  pub count-most : (k p : ℕ) → count f k p ≤ k
-  unfolding count
-  count-most zero p = omega arith
-  count-most (suc k) p = go (f p) refl (count-most k (suc p))
-    where
-      go : (b : Bool) → f p ≡ b → count f k (suc p) ≤ k → count f (suc k) p ≤ suc k
-      go true e later = rw (e, count) (omega arith)
-      go false e later = rw (e, count) (omega arith)
-
   -- below a word, and from there to another
   pub below-to : (p q : ℕ) → p ≤ q → count f q 0 ≡ count f p 0 + count f (q - p) p
   below-to p q l =

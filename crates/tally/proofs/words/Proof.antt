@@ -19,7 +19,8 @@ use Rattle.section.proofs.Alike.{Alike, section-alike}
 use Rattle.section.proofs.Fewer.{few-turns, fewer-turns}
 use Rattle.tally.specs.Total.{Carries, totals, whole}
 use Rattle.tally.proofs.Rows.{failing-row, held-row}
-use Rattle.tally.proofs.Sums.{carries-totals, count-most, whole-totals}
+use Rattle.rank.proofs.Pairs.{count-most}
+use Rattle.tally.proofs.Sums.{carries-totals, whole-totals}
 use Rattle.tally.proofs.words.Statement.{statement}
 use Rattle.tally.proofs.words.Tie as tie
 

@@ -9,7 +9,8 @@ use Rattle.word.specs.Search.{count}
 use Rattle.bits.specs.Fixed.{hasBits}
 use Rattle.tally.specs.declared.Total.{Total}
 use Rattle.tally.specs.Total.{Carries, totals, whole}
-use Rattle.tally.proofs.Sums.{below-to, carries-totals, count-most, row-with, row-without, whole-totals}
+use Rattle.rank.proofs.Pairs.{count-most}
+use Rattle.tally.proofs.Sums.{below-to, carries-totals, row-with, row-without, whole-totals}
 use Rattle.tally.proofs.Total.with.Statement.{statement}
 use Rattle.tally.proofs.Total.with.Tie as tie
 
