@@ -1,10 +1,9 @@
 -- The sheets worked by hand that 01 marks P, and K8's, as one table: width, rules, verdict, smallest, largest and links, and the number
 -- with which the desk refuses the last rule.
 use mathlib.Core.List.{List, [], _∷_}
-use mathlib.Core.Bool.{true, false}
-use Prim.Native.Nat.{ℕ, zero, suc}
+use Prim.Native.Nat.{ℕ}
 use Rattle.rule.specs.declared.Rule.{Rule}
-use Rattle.rule.specs.Meaning.{fits, rule}
+use Rattle.rule.specs.Meaning.{rule}
 use Rattle.verdict.specs.Kept.{keeps}
 use Rattle.chain.specs.Findings.{Findings, says}
 use Rattle.chain.specs.Links.{BITS, link}
@@ -59,11 +58,6 @@ cases =
     -- K8: "With negated form 3, 0, 9 and then form 3, 0, 4 at width 4"
     ∷ case 4 (rule 3 1 0 9 ∷ rule 3 0 0 4 ∷ []) (says (keeps 0 0 0) (link 0 9 0 ∷ link 5 15 1 ∷ []))
     ∷ []
-
--- those of k words from p that fit, in rising order
-unfoldable pub fitting : ℕ → List Rule → (k p : ℕ) → List ℕ
-fitting w rs zero p = []
-fitting w rs (suc k) p = elim (fits w rs p) [ true ↦ p ∷ fitting w rs k (suc p) | false ↦ fitting w rs k (suc p) ]
 
 -- "seven words: 0 to 3, 13 to 15"
 abbrev pub case6Words : List ℕ

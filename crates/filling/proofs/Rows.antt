@@ -6,6 +6,7 @@ use mathlib.Core.List.{List, [], _∷_, _++_, append-nil}
 use Prim.Native.Nat.{ℕ, suc, _+_, _-_, _≤_, _<_}
 use native.Mathlib.Omega.{arith}
 use lib.ListN.{drop, length, length-append, length-drop, length-take, take}
+use Rattle.word.specs.Search.{passing}
 use Rattle.word.proofs.Searched.{First}
 use Rattle.band.specs.declared.Band.{Band}
 use Rattle.bits.specs.declared.Fixed.{Fixed}
@@ -13,7 +14,7 @@ use Rattle.bits.specs.Fixed.{hasBits}
 use Rattle.lent.specs.Bands.{passes}
 use Rattle.section.specs.declared.Section.{Section}
 use Rattle.section.proofs.Alike.{Alike, failing-passes, held-passes}
-use Rattle.fitting.specs.Words.{atStart, passing}
+use Rattle.fitting.specs.Words.{atStart}
 use Rattle.fitting.proofs.Passing.{first-passing, none-passing, passing-same, passing-split}
 use Rattle.filling.specs.Put.{putAt, sectionWords}
 use Rattle.filling.proofs.Puts.{put-after, take-more}

@@ -3,10 +3,10 @@ use mathlib.Core.Bool.{cond}
 use mathlib.Core.List.{List, [], _++_}
 use Prim.Native.Nat.{ℕ, suc, _+_, _-_}
 use lib.ListN.{drop, length, take}
+use Rattle.word.specs.Search.{passing}
 use Rattle.bits.specs.declared.Fixed.{Fixed}
 use Rattle.bits.specs.Fixed.{hasBits}
 use Rattle.section.specs.declared.Section.{Section}
-use Rattle.fitting.specs.Words.{passing}
 
 -- the buffer with words put from a place on, and every other number as it was
 unfoldable pub putAt : List ℕ → ℕ → List ℕ → List ℕ

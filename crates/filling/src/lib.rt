@@ -3,11 +3,12 @@
 ghost use mathlib.Core.Path.{_≡_};
 ghost use Prim.Native.Nat.{suc, _+_, _-_, _≤_};
 ghost use lib.ListN.{length, take};
+ghost use Rattle.word.specs.Search.{passing};
 ghost use Rattle.word.specs.Word.{IsWidth, top};
 ghost use Rattle.bits.specs.Fixed.{Tidy};
 ghost use Rattle.lent.specs.Bands.{passes};
 ghost use Rattle.lent.specs.Lent.{Lie, zipped};
-ghost use Rattle.fitting.specs.Words.{atStart, passing};
+ghost use Rattle.fitting.specs.Words.{atStart};
 ghost use Rattle.filling.specs.Put.{putAt, sectionWords};
 use bits::Fixed;
 use lent_head::Head;

@@ -11,7 +11,7 @@ use lib.ListN.{getD, length, length-append}
 use lib.Seq.{getD-append-add}
 use Rattle.word.specs.declared.Found.{Found}
 use Rattle.word.specs.declared.Found.the-variants.{At, Nothing}
-use Rattle.word.specs.Search.{first, last}
+use Rattle.word.specs.Search.{first, last, passing}
 use Rattle.word.proofs.Count.{count-past}
 use Rattle.word.proofs.Searched.{First, Last, first-is, first-nothing, last-is, last-nothing}
 use Rattle.rule.specs.declared.Rule.{Rule}
@@ -19,7 +19,7 @@ use Rattle.rule.specs.Meaning.{fits}
 use Rattle.verdict.specs.declared.Kept.{Kept}
 use Rattle.verdict.specs.Kept.{keeps, kept, verdictOf}
 use Rattle.fitting.specs.Agreement.{Agrees}
-use Rattle.fitting.specs.Words.{fittingFrom, howMany, passing}
+use Rattle.fitting.specs.Words.{fittingFrom, howMany}
 use Rattle.fitting.proofs.Passing.{first-passing, last-passing, none-passing, passing-length}
 
 agrees-none : Agrees (keeps 0 0 0) 0 []

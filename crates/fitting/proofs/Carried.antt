@@ -6,11 +6,12 @@ use mathlib.Core.List.{List, [], _∷_, _++_}
 use Prim.Native.Nat.{ℕ, zero, suc, _-_, _^_, _<_}
 use native.Mathlib.Omega.{arith}
 use lib.ListN.{length, take}
+use Rattle.word.specs.Search.{passing}
 use Rattle.word.specs.Word.{top}
 use Rattle.word.proofs.Widths.{top-suc}
 use Rattle.rule.specs.declared.Rule.{Rule}
 use Rattle.rule.specs.Meaning.{fits}
-use Rattle.fitting.specs.Words.{fittingFrom, howMany, onward, passing, wordsFrom}
+use Rattle.fitting.specs.Words.{fittingFrom, howMany, onward, wordsFrom}
 use Rattle.fitting.proofs.Passing.{passing-length}
 
 -- a list of which fewer than asked could be taken was taken whole

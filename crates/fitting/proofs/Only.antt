@@ -7,12 +7,13 @@ use Prim.Native.Nat.{ℕ, zero, suc, _-_, _^_, _≤_}
 use native.Mathlib.Decide.{ℕ-discrete}
 use native.Mathlib.Omega.{arith}
 use lib.ListN.{take}
+use Rattle.word.specs.Search.{passing}
 use Rattle.word.proofs.Widths.{top-suc}
 use Rattle.rule.specs.declared.Rule.{Rule}
 use Rattle.rule.specs.Meaning.{fits}
 use Rattle.verdict.specs.Demand.{Fits}
 use Rattle.fitting.specs.Next.{EachNext, next, no-more, no-room}
-use Rattle.fitting.specs.Words.{fittingFrom, passing, wordsFrom}
+use Rattle.fitting.specs.Words.{fittingFrom, wordsFrom}
 
 module _ (w : ℕ) (rs : List Rule) where
   -- where p does not fit, from one above it is as well as from p

@@ -6,9 +6,8 @@ use mathlib.Core.List.{List, [], _∷_, _++_}
 use Prim.Native.Nat.{ℕ, zero, suc, _+_, _-_, _≤_, _<_}
 use native.Mathlib.Omega.{arith}
 use lib.ListN.{length}
-use Rattle.word.specs.Search.{count}
+use Rattle.word.specs.Search.{count, passing}
 use Rattle.word.proofs.Searched.{First, Last}
-use Rattle.fitting.specs.Words.{passing}
 
 module _ (f : ℕ → Bool) where
   pub passing-length : (k p : ℕ) → length (passing f k p) ≡ count f k p

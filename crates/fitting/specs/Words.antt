@@ -1,20 +1,14 @@
 -- How many words fit, and which (02, K10), by search over all words of the width.
-use mathlib.Core.Bool.{Bool, true, false}
 use mathlib.Core.List.{List, [], _∷_, _++_}
-use Prim.Native.Nat.{ℕ, zero, suc, _-_, _^_}
+use Prim.Native.Nat.{ℕ, suc, _-_, _^_}
 use lib.ListN.{drop, length, take}
-use Rattle.word.specs.Search.{count}
+use Rattle.word.specs.Search.{count, passing}
 use Rattle.rule.specs.declared.Rule.{Rule}
 use Rattle.rule.specs.Meaning.{fits}
 
 -- "a count of the fitting words"
 unfoldable pub howMany : ℕ → List Rule → ℕ
 howMany w rs = count (fits w rs) (2 ^ w) 0
-
--- those of k words from p that pass, in rising order
-unfoldable pub passing : (ℕ → Bool) → (k p : ℕ) → List ℕ
-passing f zero p = []
-passing f (suc k) p = elim (f p) [ true ↦ p ∷ passing f k (suc p) | false ↦ passing f k (suc p) ]
 
 -- all fitting words from a given word upward
 unfoldable pub fittingFrom : ℕ → List Rule → (start : ℕ) → List ℕ

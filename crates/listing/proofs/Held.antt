@@ -6,6 +6,7 @@ use Prim.Native.Nat.{ℕ, suc, _-_, _≤_, _<_}
 use native.Mathlib.Omega.{arith}
 use borrow.Author.Tests.{le-ltb, lt-ltb}
 use lib.ListN.{length, take}
+use Rattle.word.specs.Search.{passing}
 use Rattle.word.specs.Word.{top}
 use Rattle.word.proofs.Widths.{top-suc}
 use Rattle.rule.specs.declared.Rule.{Rule}
@@ -26,7 +27,7 @@ use Rattle.sheet.specs.Stands.{Stands, blank-sheet, no-sheet, on-page}
 use Rattle.sheet.proofs.Holding.{on-sheet}
 use Rattle.sheet.proofs.OnePage.{one-page}
 use Rattle.sheet.proofs.Stands.{known}
-use Rattle.fitting.specs.Words.{atStart, fittingFrom, passing, wordsFrom}
+use Rattle.fitting.specs.Words.{atStart, fittingFrom, wordsFrom}
 use Rattle.fitting.proofs.Passing.{passing-same}
 use Rattle.counting.proofs.Held.{passes-so}
 use Rattle.listing.specs.declared.Listing.{Listing}

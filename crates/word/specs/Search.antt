@@ -1,5 +1,6 @@
 -- Search, word by word. A test says of each number whether it passes.
 use mathlib.Core.Bool.{Bool, true, false}
+use mathlib.Core.List.{List, [], _∷_}
 use Prim.Native.Nat.{ℕ, zero, suc}
 use Rattle.word.specs.declared.Found.{Found}
 use Rattle.word.specs.declared.Found.the-variants.{At, Nothing}
@@ -28,3 +29,8 @@ sink f (suc p) = elim (f p) [ true ↦ suc p | false ↦ sink f p ]
 unfoldable pub count : (ℕ → Bool) → ℕ → ℕ → ℕ
 count f zero p = zero
 count f (suc k) p = elim (f p) [ true ↦ suc (count f k (suc p)) | false ↦ count f k (suc p) ]
+
+-- those of k words from p that pass, in rising order
+unfoldable pub passing : (ℕ → Bool) → (k p : ℕ) → List ℕ
+passing f zero p = []
+passing f (suc k) p = elim (f p) [ true ↦ p ∷ passing f k (suc p) | false ↦ passing f k (suc p) ]

@@ -10,10 +10,10 @@ use borrow.Author.Needs.{needs}
 use borrow.Author.Tests.{not-false, not-true}
 use lib.ListN.{length, length-append, length-set, set, take}
 use lib.Seq.{take-all, take-at, take-nil}
+use Rattle.word.specs.Search.{passing}
 use Rattle.word.specs.Word.{top}
 use Rattle.word.proofs.Searched.{First, first-is, first-nothing}
 use Rattle.bits.specs.Fixed.{hasBits}
-use Rattle.fitting.specs.Words.{passing}
 use Rattle.filling.specs.Put.{putAt, sectionWords}
 use Rattle.filling.proofs.Puts.{put-length, put-more, put-none}
 use Rattle.filling.proofs.Rows.{held-words, no-words, passing-found, passing-none, passing-on, passing-over}
