@@ -1,4 +1,4 @@
--- How many sections there are: each but the last ends where a band turns.
+-- How many sections there are: each but the last ends where a band turns. A route, as a band is.
 use mathlib.Core.Bool.{Bool, not, cond}
 use mathlib.Core.List.{List, [], _∷_}
 use Prim.Native.Nat.{ℕ, zero, suc, _+_, _*_, _-_}

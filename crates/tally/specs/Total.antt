@@ -1,4 +1,4 @@
--- How many words, "given as two numbers, quotient and remainder by 2^32".
+-- How many words, "given as two numbers, quotient and remainder by 2^32". A route: what a count answers is said elsewhere.
 use Prim.Native.Nat.{ℕ, _+_, _*_, _/_, _%_, _≤_, _<_}
 use Rattle.tally.specs.declared.Total.{Total}
 
