@@ -1,0 +1,11 @@
+pub mod Asked
+pub mod Closed
+pub mod Examples
+pub mod FormThree
+pub mod Halves
+pub mod Language
+pub mod Limits
+pub mod Magnitude
+pub mod Order
+pub mod Reading
+pub mod Through
