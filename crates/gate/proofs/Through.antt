@@ -14,8 +14,8 @@ use Rattle.rule.specs.declared.Rule.{Rule}
 use Rattle.rule.specs.Meaning.{fits, meets}
 use Rattle.gate.specs.declared.Gate.{Gate}
 use Rattle.gate.specs.declared.Gate.the-variants.{AtLeast, AtMost, Within}
-use Rattle.gate.specs.Gate.{fourOf, meetsGate, notNumbers, through, worth}
-use Rattle.gate.specs.Paper.{FailsJust, IsFour, Over, Single, Under, compares, rulesOf}
+use Rattle.gate.specs.Gate.{fourOf, gateRules, listed, meetsGate, notNumbers, through, worth}
+use Rattle.gate.specs.Paper.{FailsJust, IsFour, Over, Single, Under, compares}
 use Rattle.gate.specs.Value.{leV, value}
 use Rattle.gate.proofs.Asked.{from-zero, is-four}
 use Rattle.gate.proofs.Closed.{limits, through-span}
@@ -69,8 +69,8 @@ module _ (fit : ℕ → Bool) (s from past : ℕ) (run : Runs (λ y. fit (s + y)
 -- so the four decide
 module _ (fit : ℕ → Bool) (from past from′ past′ : ℕ) (lower : Runs fit from past) (upper : Runs (λ y. fit (half 32 + y)) from′ past′)
     (x : ℕ) (word : x ≤ top 32) where
-  decide : fits 32 (rulesOf (fourOf fit)) x ≡ fit x
-  unfolding fits rulesOf
+  decide : fits 32 (listed (fourOf fit)) x ≡ fit x
+  unfolding fits listed
   decide = go (fit x) refl
     where
       all : IsFour fit (fourOf fit)
@@ -104,10 +104,11 @@ module _ (fit : ℕ → Bool) (from past from′ past′ : ℕ) (lower : Runs fi
 
 module _ (g : Gate) (single : Single g) (x : ℕ) where
   -- "a bit pattern meets them all exactly when its value meets the gate"
-  pub exactly : notNumbers g ≡ false → x ≤ top 32 → fits 32 (rulesOf (fourOf (through g))) x ≡ through g x
+  pub exactly : notNumbers g ≡ false → x ≤ top 32 → fits 32 (gateRules g) x ≡ through g x
+  unfolding gateRules
   exactly numbers word =
       let two = limits g single numbers in
-      subst (λ (fit : ℕ → Bool). fits 32 (rulesOf (fourOf fit)) x ≡ fit x) (sym (through-span g))
+      subst (λ (fit : ℕ → Bool). fits 32 (listed (fourOf fit)) x ≡ fit x) (sym (through-span g))
       (decide _ _ _ _ _ (lower-runs _ _ (two .0) (two .1)) (upper-runs _ _ (two .0) (two .1)) x word)
 
   -- "A reading meets a gate by IEEE 754 comparison"

@@ -1,5 +1,6 @@
 -- When a reading meets a gate, and the four rules that a gate is turned into (02, K9).
 use mathlib.Core.Bool.{Bool, _&&_, _||_, cond}
+use mathlib.Core.List.{List, [], _∷_}
 use Prim.Native.Nat.{ℕ, suc, _+_, _-_}
 use lib.Dec.{ltb}
 use lib.Ieee.{Float, binary32, isNan, toBits}
@@ -66,3 +67,11 @@ fourOf fit =
 -- "Turn each gate into exactly four rules over the 32 bits of the reading"; and 14 where a limit is not a number
 unfoldable pub turned : Gate → Turned
 turned g = cond (notNumbers g) NotANumber (Rules (fourOf (through g)))
+
+-- the four in their order, as a sheet has them
+unfoldable pub listed : Four → List Rule
+listed f = f .first ∷ f .second ∷ f .third ∷ f .fourth ∷ []
+
+-- the rules of a gate whose limits are numbers
+unfoldable pub gateRules : Gate → List Rule
+gateRules g = listed (fourOf (through g))
