@@ -16,7 +16,7 @@ use Rattle.verdict.proofs.Right.{kept-right}
 use Rattle.sheet.specs.declared.Answer.{Answer}
 use Rattle.sheet.specs.declared.Reply.{Reply}
 use Rattle.sheet.specs.declared.Sheet.{Sheet}
-use Rattle.page.specs.Calls.{Call, accepts, add, after, ask, back, clerk, forward, grounds, mark, open-at, refusal, replay, written}
+use Rattle.page.specs.Calls.{Call, accepts, add, after, ask, back, clerk, forward, grounds, mark, open-at, refusal, replay, set-gate, written}
 use Rattle.demands.specs.Demands.{FreshlyGiven}
 use Rattle.page.specs.declared.Opening.{Opening}
 use Rattle.page.specs.Page.{OpenPage, Page, no-page, page, rulesOn}
@@ -54,6 +54,7 @@ module _ {s : Sheet} (pg : Page) (e : s ≡ fresh pg) where
   outcome-on h back p = p .on-page pg h e
   outcome-on h forward p = p .on-page pg h e
   outcome-on h (ask m) p = absurd p
+  outcome-on h (set-gate g) p = p .on-page pg h e
 
 -- ---- calls one after another
 
@@ -91,6 +92,7 @@ module _ {s : Sheet} (pg : Page) (h : Reached pg) (e : s ≡ fresh pg) where
   some-outcome back = inl (_, sheet-reads pg h e back refl)
   some-outcome forward = inl (_, sheet-reads pg h e forward refl)
   some-outcome (ask m) = inr (m, refl)
+  some-outcome (set-gate g) = inl (_, sheet-reads pg h e (set-gate g) refl)
 
 some-sequence : (s : Sheet) (pg : Page) → Reached pg → s ≡ fresh pg → (cs : List Call) → (t : Sheet) × Sequence s cs t
 some-sequence s pg h e [] = (s, done)

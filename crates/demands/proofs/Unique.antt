@@ -11,7 +11,7 @@ use Rattle.chain.specs.Links.{numbersOf}
 use Rattle.sheet.specs.declared.Answer.{Answer}
 use Rattle.sheet.specs.declared.Reply.{Reply}
 use Rattle.sheet.specs.declared.Sheet.{Sheet}
-use Rattle.page.specs.Calls.{Call, add, ask, back, forward, mark, open-at, refusal}
+use Rattle.page.specs.Calls.{Call, add, ask, back, forward, mark, open-at, refusal, set-gate}
 use Rattle.page.specs.declared.Opening.{Opening}
 use Rattle.page.specs.Page.{Page, no-page}
 use Rattle.sheet.specs.Record.{fresh}
@@ -34,6 +34,7 @@ outcome-unique s mark a a′ = reads-unique a a′
 outcome-unique s back a a′ = reads-unique a a′
 outcome-unique s forward a a′ = reads-unique a a′
 outcome-unique s (ask m) a a′ = absurd a
+outcome-unique s (set-gate g) a a′ = reads-unique a a′
 
 pub asked-unique : {s : Sheet} {b b₁ b₂ : List ℕ} {r₁ r₂ : Reply} → Asked s b b₁ r₁ → Asked s b b₂ r₂
     → (r₁ ≡ r₂) × (b₁ ≡ b₂)
@@ -70,6 +71,7 @@ outcome-leaves mark r a k = reads-leaves a k
 outcome-leaves back r a k = reads-leaves a k
 outcome-leaves forward r a k = reads-leaves a k
 outcome-leaves (ask m) r a k = absurd a
+outcome-leaves (set-gate g) r a k = reads-leaves a k
 
 -- no link is written where asking is refused
 reply-leaves : (pg : Page) (b : List ℕ) → (reply pg (length b) .number ≡ 0 → ⊥) → overlaid (chainOn pg (length b)) b ≡ b

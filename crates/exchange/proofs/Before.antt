@@ -16,7 +16,7 @@ use Rattle.word.specs.Edition.{same, terms}
 use Rattle.rule.specs.declared.Rule.{Rule}
 use Rattle.accept.specs.Accept.{badConstant, badForm, badSense, ruleGrounds, strayBit}
 use Rattle.chain.specs.declared.Link.{Link}
-use Rattle.page.specs.Calls.{Call, add, after, ask, back, changed, firstThatApplies, forward, grounds, mark, open-at, refusal, written}
+use Rattle.page.specs.Calls.{Call, add, after, ask, back, changed, firstThatApplies, forward, grounds, mark, open-at, refusal, set-gate, written}
 use Rattle.page.specs.declared.Opening.{Opening}
 use Rattle.page.specs.Page.{Entry, OpenPage, Page, at-width, editionOf, laidAside, no-page, page, takenUp}
 use Rattle.hex.specs.Hex.{allDigits, glyph, hex, number}
@@ -80,6 +80,7 @@ OfOld mark = Unit
 OfOld back = Unit
 OfOld forward = Unit
 OfOld (ask m) = Unit
+OfOld (set-gate g) = ⊥
 
 OldCall : MadeCall → Type 0
 OldCall none = Unit
@@ -139,6 +140,7 @@ module _ (pg : Page) (h : editionOf pg ≡ Old) where
   same-refusal back e = refl
   same-refusal forward e = refl
   same-refusal (ask m) e = refl
+  same-refusal (set-gate g) e = absurd e
 
   same-page : (c : MadeCall) → OldCall c → pageAfter pg c ≡ pageBefore pg c
   unfolding OldCall pageAfter pageBefore after
@@ -169,6 +171,7 @@ module _ (pg : Page) (h : editionOf pg ≡ Old) where
   written-old back e = changed-old _ (λ o. refl)
   written-old forward e = changed-old _ (λ o. taken-opening (o .pile) o)
   written-old (ask m) e = h
+  written-old (set-gate g) e = absurd e
 
   still-old : (c : MadeCall) → OldCall c → editionOf (pageBefore pg c) ≡ Old
   unfolding OldCall pageBefore

@@ -17,7 +17,7 @@ use Rattle.rule.specs.Meaning.{rule}
 use Rattle.verdict.specs.declared.Kept.{Kept}
 use Rattle.chain.specs.declared.Link.{Link}
 use Rattle.chain.specs.Findings.{findings}
-use Rattle.page.specs.Calls.{Call, Ground, add, ask, back, firstThatApplies, forward, ground, isBlank, mark, marksOf, open-at, rulesOf, written}
+use Rattle.page.specs.Calls.{Call, Ground, add, ask, back, firstThatApplies, forward, ground, isBlank, mark, marksOf, open-at, rulesOf, set-gate, written}
 use Rattle.page.specs.Page.{Page, at-width, no-page, pileOf, widthOf}
 use Rattle.hex.specs.Hex.{allDigits, number}
 use Rattle.frame.specs.declared.Frame.{Frame}
@@ -60,7 +60,7 @@ fifthBefore w r =
     || eqb (r .form) 7 && not (eqb (bitAnd (r .c2) (r .c1)) (r .c2))
     || not (eqb (r .c2) 0) && (leb 4 (r .form) && leb (r .form) 6)
 
--- the table: 2 with the widths 1 to 32, an add without 11, the limits of K6, and 12 of K1
+-- the table: 2 with the widths 1 to 32, an add without 11, the limits of K6, and 12 of K1; no line sets a gate
 unfoldable pub groundsBefore : Page → Call → List Ground
 groundsBefore pg (open-at g) = ground 2 (not (leb 1 (g .width) && leb (g .width) 32)) ∷ []
 groundsBefore pg (add e r) =
@@ -74,6 +74,7 @@ groundsBefore pg mark = ground 1 (isBlank pg) ∷ ground 7 (leb 32 (length (mark
 groundsBefore pg back = ground 1 (isBlank pg) ∷ ground 8 (eqb (length (marksOf pg)) 0) ∷ []
 groundsBefore pg forward = ground 1 (isBlank pg) ∷ ground 12 (eqb (length (pileOf pg)) 0) ∷ []
 groundsBefore pg (ask m) = ground 1 (isBlank pg) ∷ ground 9 (ltb m (3 * (4 * length (rulesOf pg) + 1))) ∷ []
+groundsBefore pg (set-gate g) = []
 
 unfoldable pub refusalBefore : Page → Call → ℕ
 refusalBefore pg c = firstThatApplies (groundsBefore pg c)

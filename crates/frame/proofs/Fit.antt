@@ -32,7 +32,7 @@ use Rattle.chain.specs.Links.{links}
 use Rattle.chain.proofs.Cover.{chain-covers}
 use Rattle.chain.proofs.Steps.{chain-is}
 use Rattle.chain.proofs.Walk.{none-fits}
-use Rattle.page.specs.Calls.{Call, Ground, add, ask, back, firstThatApplies, forward, grounds, mark, open-at, refusal, rulesOf}
+use Rattle.page.specs.Calls.{Call, Ground, add, ask, back, firstThatApplies, forward, grounds, mark, open-at, refusal, rulesOf, set-gate}
 use Rattle.page.specs.Page.{Page, editionOf, entriesOf, no-page, page, rulesOn, widthOf}
 use Rattle.page.specs.Reached.{Reached}
 use Rattle.page.proofs.Lawful.{reached-lawful}
@@ -128,6 +128,7 @@ table-small pg mark = (omega arith, (omega arith, tt))
 table-small pg back = (omega arith, (omega arith, tt))
 table-small pg forward = (omega arith, (omega arith, tt))
 table-small pg (ask m) = (omega arith, (omega arith, tt))
+table-small pg (set-gate g) = (omega arith, (omega arith, (omega arith, (omega arith, tt))))
 
 refusal-small : (pg : Page) (c : Call) → refusal pg c < 16 ^ BYTE
 unfolding refusal

@@ -1,10 +1,10 @@
 -- Which pages accepted calls give: those with a width from 1 to the widest of their edition on which, with every waiting stretch written back, there are at
 -- most so many rules and marks, and no rule that would be refused. Each accepted call keeps that: a step back and a step forward
 -- because what is so restored stays the same, the others because they clear the pile. Assumes nothing.
-use mathlib.Core.Path.{_≡_, refl, sym, ap₂, subst}
+use mathlib.Core.Path.{_≡_, refl, sym, ap, ap₂, subst, _∙_}
 use mathlib.Core.Bool.{true, _&&_}
 use mathlib.Core.List.{List, [], _∷_, _++_}
-use Prim.Native.Nat.{_≤_, _<_}
+use Prim.Native.Nat.{ℕ, _≤_, _<_}
 use native.Mathlib.Omega.{arith}
 use borrow.Author.Tests.{eq-eqb, eqb-true}
 use lib.ListN.{length, length-append}
@@ -17,9 +17,11 @@ use Rattle.rule.specs.Meaning.{AllLawful, RULES}
 use Rattle.accept.specs.Accept.{acceptable, every, refusalOf}
 use Rattle.accept.proofs.Accepted.{all-lawful}
 use Rattle.accept.proofs.Every.{every-append}
-use Rattle.page.specs.Calls.{Call, add, ask, back, changed, forward, mark, open-at, refusal, written}
+use Rattle.gate.specs.Gate.{gateRules}
+use Rattle.page.specs.Calls.{Call, add, ask, back, changed, forward, mark, open-at, refusal, set-gate, withRules, written}
 use Rattle.page.specs.Page.{Entry, MARKS, OpenPage, Page, a-mark, a-rule, laidAside, marksOn, newPage, no-page, page, restored, rulesOn, takenUp, withEntries, withPile}
 use Rattle.page.specs.Reached.{Reached, start, step}
+use Rattle.page.proofs.Gates.{blank-gate, gate-acceptable, gate-four, gate-set, with-marks, with-rules}
 use Rattle.page.proofs.Refusals.{added-rule, back-marked, blank-add, blank-back, blank-forward, blank-mark, marked-room, opened-width}
 use Rattle.page.proofs.Stretches.{Stretches, is-stretch, stretch-struck}
 
@@ -131,6 +133,22 @@ writes-lawful (page o) back l e = aside-lawful o (back-marked o e) l
 writes-lawful no-page forward l e = absurd (omega (arith, blank-forward))
 writes-lawful (page o) forward l e = taken-lawful o (o .entries) (o .pile) l
 writes-lawful pg (ask m) l e = l
+writes-lawful no-page (set-gate g) l e = absurd (omega (arith, blank-gate g))
+writes-lawful (page o) (set-gate g) l e =
+    let h = gate-set o g e in
+    let k = standing-lawful l in
+    let rs = gateRules g in
+    cleared-lawful o _
+    (record {
+      low = k .low;
+      high = k .high;
+      rules-fit = omega (arith, ap length (with-rules rs (o .entries)), length-append (rulesOn (o .entries)) rs, gate-four g);
+      marks-fit = omega (arith, ap length (with-marks rs (o .entries)), k .marks-fit);
+      allowed =
+          ap (every (acceptable (o .opening .width))) (with-rules rs (o .entries))
+          ∙ every-append (acceptable (o .opening .width)) (rulesOn (o .entries)) rs
+          ∙ ap₂ _&&_ (k .allowed) (ap (λ (w : ℕ). every (acceptable w) rs) (h .0) ∙ gate-acceptable g);
+    })
 
 pub reached-page : {pg : Page} → Reached pg → LawfulPage pg
 reached-page start = tt

@@ -1,5 +1,7 @@
 pub mod Accepted
+pub mod Counted
 pub mod Freed
+pub mod Gates
 pub mod Lawful
 pub mod Lowest
 pub mod Refusals

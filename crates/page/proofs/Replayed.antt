@@ -27,15 +27,15 @@ pub record Leads (pg : Page) (cs : List Call) (qg : Page) : Type 0 where
   pub accepted : accepts pg cs ≡ true
   pub comes-to : clerk pg cs ≡ qg
 
-leads-none : (pg : Page) → Leads pg [] pg
+pub leads-none : (pg : Page) → Leads pg [] pg
 unfolding accepts clerk
 leads-none pg = record { accepted = refl; comes-to = refl }
 
-leads-one : (pg : Page) (c : Call) {qg : Page} → refusal pg c ≡ 0 → written pg c ≡ qg → Leads pg (c ∷ []) qg
+pub leads-one : (pg : Page) (c : Call) {qg : Page} → refusal pg c ≡ 0 → written pg c ≡ qg → Leads pg (c ∷ []) qg
 unfolding accepts clerk
 leads-one pg c e d = record { accepted = rw (eq-eqb (refusal pg c) 0 e); comes-to = after-accepted pg c e ∙ d }
 
-leads-on : {pg qg rg : Page} {cs ds : List Call} → Leads pg cs qg → Leads qg ds rg → Leads pg (cs ++ ds) rg
+pub leads-on : {pg qg rg : Page} {cs ds : List Call} → Leads pg cs qg → Leads qg ds rg → Leads pg (cs ++ ds) rg
 unfolding accepts clerk
 leads-on {rg = rg} {cs = []} {ds = ds} l k = subst (λ (p : Page). Leads p ds rg) (sym (l .comes-to)) k
 leads-on {pg = pg} {cs = c ∷ cs} l k =

@@ -13,7 +13,7 @@ use Rattle.chain.specs.Findings.{findings}
 use Rattle.sheet.specs.declared.Answer.{Answer}
 use Rattle.sheet.specs.declared.Reply.{Reply}
 use Rattle.sheet.specs.declared.Sheet.{Sheet}
-use Rattle.page.specs.Calls.{Call, add, after, ask, back, forward, mark, open-at, refusal, rulesOf}
+use Rattle.page.specs.Calls.{Call, add, after, ask, back, forward, mark, open-at, refusal, rulesOf, set-gate}
 use Rattle.page.specs.declared.Opening.{Opening}
 use Rattle.page.specs.Page.{Page, newPage, no-page, page, widthOf}
 use Rattle.page.specs.Reached.{Reached}
@@ -48,6 +48,7 @@ Outcome s mark r = Reads s mark r
 Outcome s back r = Reads s back r
 Outcome s forward r = Reads s forward r
 Outcome s (ask m) r = ⊥
+Outcome s (set-gate g) r = Reads s (set-gate g) r
 
 abbrev pub replies : ℕ → Kept → ℕ → Reply
 replies n k l = record { number = n; kept = k; links = l }
