@@ -1,7 +1,7 @@
 -- A rule of form 3, sense 0 fails one run of words: those that its first constant carries past its second. So its constants are read off
 -- the run, and no other such rule fails just these words. Assumes nothing.
 use mathlib.Core.Path.{_≡_, refl, sym, ap, ap₂, _∙_}
-use mathlib.Core.Bool.{Bool, true, false, not, _&&_, and-false, cond}
+use mathlib.Core.Bool.{true, not, _&&_, and-false, cond}
 use mathlib.Core.Logic.{_⊎_, inl, inr, ⊎-elim}
 use Prim.Native.Nat.{ℕ, suc, _+_, _-_, _^_, _≤_, _<_}
 use native.Mathlib.Decide.{decLe, decLt, ℕ-discrete}
@@ -10,7 +10,6 @@ use lib.Dec.{leb, ltb}
 use borrow.Author.Tests.{le-leb, le-ltb, leb-false, leb-true, lt-leb, lt-ltb}
 use Rattle.word.specs.Word.{minus, plus, top}
 use Rattle.word.proofs.Sums.{minus-cases, minus-word, plus-cases}
-use Rattle.rule.specs.declared.Rule.{Rule}
 use Rattle.rule.specs.Meaning.{meets, rows, rule}
 use Rattle.rule.proofs.Rows.{as-written, at-row}
 use Rattle.rule.proofs.Slips.{form-3-top}

@@ -1,20 +1,20 @@
 -- The patterns of a half whose values lie between those of two patterns that are numbers: in the lower half they rise with their bits,
 -- and the upper half is the lower one with the signs turned. Assumes nothing.
 use mathlib.Core.Path.{_≡_, refl, sym, ap, ap₂, _∙_}
-use mathlib.Core.Bool.{Bool, true, false, not, _&&_, and-comm, and-false, and-true, cond}
+use mathlib.Core.Bool.{Bool, true, false, not, _&&_, and-comm, and-false, cond}
 use mathlib.Core.Logic.{⊎-elim}
 use Prim.Native.Nat.{ℕ, zero, suc, _+_, _-_, _%_, _^_, _≤_, _<_}
 use native.Mathlib.Decide.{decLe, decLt, ℕ-discrete}
 use native.Mathlib.Omega.{arith}
 use lib.Dec.{eqb, eqb·suc-zero, leb, leb·zero, ltb}
-use borrow.Author.Tests.{eq-eqb, eqb-true, le-leb, le-ltb, leb-true, lt-leb, lt-ltb, ltb-true, ne-eqb}
+use borrow.Author.Tests.{eq-eqb, le-leb, le-ltb, leb-true, lt-leb, lt-ltb, ltb-true, ne-eqb}
 use Rattle.word.specs.Word.{half, plus, top}
 use Rattle.word.proofs.Sums.{plus-cases, plus-word}
 use Rattle.word.proofs.Tests.{same-test}
 use Rattle.gate.specs.Route.{IsLimit, fromOf, pastOf, runOf}
 use Rattle.gate.specs.Value.{Value, finite, infinity, leV, notANumber, sign, value}
 use Rattle.gate.proofs.Halves.{Runs}
-use Rattle.gate.proofs.Order.{inOrder, turn-order}
+use Rattle.gate.proofs.Order.{turn-order}
 use Rattle.gate.proofs.Reading.{INFINITY, no-number, reading, reading-order, value-is}
 
 -- the words whose values lie from that of one pattern to that of another

@@ -4,7 +4,6 @@ use mathlib.Core.Path.{_≡_, refl, sym, ap, ap₂, _∙_}
 use mathlib.Core.Bool.{Bool, true, false, not, _&&_, and-comm}
 use Prim.Native.Nat.{ℕ, zero, suc}
 use lib.Dec.{eqb, leb, leb·suc-suc, leb·suc-zero, leb·zero, eqb·suc-zero}
-use lib.IntN.{negℤ, pos}
 use lib.Signed.{leZ}
 use Rattle.gate.specs.Value.{signed}
 

@@ -1,14 +1,14 @@
 -- A pattern's value by its sign and its other 31 bits; and the order of the values of numbers is that of sign and bits. Assumes nothing.
 use mathlib.Core.Path.{_≡_, refl, sym, ap, ap₂, _∙_}
-use mathlib.Core.Bool.{Bool, true, false, not, _&&_, _||_, and-false, cond}
-use Prim.Native.Nat.{ℕ, _+_, _/_, _%_, _^_, _≤_, _<_}
+use mathlib.Core.Bool.{Bool, true, false, not, _||_, and-false, cond}
+use Prim.Native.Nat.{ℕ, _/_, _%_, _^_, _≤_, _<_}
 use native.Mathlib.Decide.{decLt}
 use native.Mathlib.Omega.{arith}
-use lib.Dec.{eqb, leb, ltb}
-use borrow.Author.Tests.{eq-eqb, le-leb, le-ltb, lt-leb, lt-ltb, ne-eqb}
+use lib.Dec.{eqb, ltb}
+use borrow.Author.Tests.{le-leb, le-ltb, lt-leb, lt-ltb, ne-eqb}
 use Rattle.gate.specs.Value.{Value, exponent, finite, fraction, infinity, leV, notANumber, sign, signed, value}
 use Rattle.gate.proofs.Magnitude.{mag, mag-order, mag-zero}
-use Rattle.gate.proofs.Order.{inOrder, same-order, signed-order, turn-order}
+use Rattle.gate.proofs.Order.{inOrder, same-order, signed-order}
 
 -- the bits of an infinity, without the sign
 abbrev pub INFINITY : ℕ

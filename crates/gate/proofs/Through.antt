@@ -5,10 +5,9 @@ use mathlib.Core.Bool.{Bool, true, false, _&&_, and-false, false≢true}
 use Prim.Native.Nat.{ℕ, _+_, _-_, _≤_, _<_}
 use native.Mathlib.Decide.{decLt}
 use native.Mathlib.Omega.{arith}
-use lib.Dec.{T, leb, ltb}
+use lib.Dec.{T}
 use lib.Ieee.{binary32, le, ofBits, toBits, Float, fits as isSingle}
 use lib.Ieee.Bits.{ofBits-toBits}
-use borrow.Author.Tests.{le-leb, lt-ltb}
 use Rattle.word.specs.Word.{half, top}
 use Rattle.rule.specs.declared.Rule.{Rule}
 use Rattle.rule.specs.Meaning.{fits, meets}

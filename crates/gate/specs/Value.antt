@@ -1,8 +1,10 @@
 -- What a bit pattern is worth, and the order of what patterns are worth (02, K9: "Define the value over whole numbers: finite
 -- values times 2^149, infinities beyond all").
+use mathlib.Core.Path.{_≡_}
 use mathlib.Core.Bool.{Bool, true, false, not, _||_, cond}
 use Prim.Native.Nat.{ℕ, zero, suc, _+_, _*_, _/_, _%_, _^_}
 use lib.Dec.{eqb, leb, ltb}
+use lib.Ieee.{Float, nan, inf, fin, down, up}
 use lib.IntN.{ℤ, pos, negℤ}
 use lib.Signed.{leZ}
 
@@ -48,3 +50,10 @@ leV (infinity s) (finite b) = s
 leV (infinity s) (infinity t) = s || not t
 leV (infinity s) notANumber = false
 leV notANumber v = false
+
+-- "finite values times 2^149": the value of a float that is m 2^e, with a sign, is the whole number a with that sign for which
+-- m 2^e 2^149 = a; "infinities beyond all" are apart, and so is what is not a number
+pub data ValueOf : Float → Value → Type 0 where
+  times : (s : Bool) (m : ℕ) (e : ℤ) (a : ℕ) → m * up e * 2 ^ 149 ≡ a * down e → ValueOf (fin s m e) (finite (signed s a))
+  beyond : (s : Bool) → ValueOf (inf s) (infinity s)
+  apart : ValueOf nan notANumber

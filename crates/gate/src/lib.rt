@@ -42,7 +42,7 @@ struct Run {
 }
 
 // A reading has the bits of a single-precision float.
-const READING: Width = Width { bits: 32 };
+const READING: Width = Width { bits: Gate::WIDTH };
 
 // The patterns of the infinities.
 const ABOVE_ALL: u64 = 0x7f80_0000;
@@ -50,7 +50,12 @@ const ABOVE_ALL: u64 = 0x7f80_0000;
 const BELOW_ALL: u64 = 0xff80_0000;
 
 impl Gate {
-    // The gate as rules on a sheet of width 32.
+    // The width of a sheet that takes a gate, and how many rules it adds.
+    pub const WIDTH: u64 = 32;
+
+    pub const RULES: usize = 4;
+
+    // The gate as rules on a sheet of that width.
     pub fn rules(self) -> Turned
         ensures { λ r. ⌜ r ≡ turned self ⌝ }
     {

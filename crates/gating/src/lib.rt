@@ -9,10 +9,8 @@ use rule::Rule;
 use sheet::Answer;
 use sheet::Sheet;
 
-// The width of a reading, and the most rules that leave room for a gate's.
-const READING: u64 = 32;
-
-const ROOM: usize = Rule::LIMIT - 4;
+// The most rules that leave room for those of a gate.
+const ROOM: usize = Rule::LIMIT - Gate::RULES;
 
 // Sets a gate on any record.
 pub fn set(sheet: Sheet, gate: Gate) -> Answer
@@ -49,7 +47,7 @@ fn refusal_of(sheet: Sheet, none: bool) -> u64
 {
     let stands = sheet.is_sheet();
     let blank = sheet.width == 0;
-    let other = sheet.width != READING;
+    let other = sheet.width != Gate::WIDTH;
     let full = ROOM < sheet.count;
     if !stands {
         return 17;

@@ -2,7 +2,7 @@
 -- adding its rules one after the other writes, and none of these adds is refused. Assumes nothing.
 use mathlib.Core.Path.{_≡_, refl}
 use mathlib.Core.List.{List, [], _∷_, map}
-use Prim.Native.Nat.{ℕ, _<_}
+use Prim.Native.Nat.{_<_}
 use lib.ListN.{length}
 use Rattle.word.specs.declared.Edition.{Edition}
 use Rattle.word.proofs.Editions.{same-self}
@@ -10,7 +10,7 @@ use Rattle.rule.specs.declared.Rule.{Rule}
 use Rattle.rule.specs.Meaning.{RULES}
 use Rattle.accept.specs.Accept.{refusalOf}
 use Rattle.gate.specs.declared.Gate.{Gate}
-use Rattle.gate.specs.Gate.{fourOf, gateRules, listed, through}
+use Rattle.gate.specs.Gate.{gateRules, listed}
 use Rattle.page.specs.Calls.{add, changed, refusal, set-gate, withRules, written}
 use Rattle.page.specs.Page.{Entry, OpenPage, a-rule, page, pileOf, restored, rulesOn, withEntries}
 use Rattle.page.specs.Reached.{Reached, step}

@@ -1,11 +1,11 @@
 -- A gate on the page: when it is refused, and that it counts as its four rules, each of which would be accepted by itself. Assumes nothing.
 use mathlib.Core.Path.{_≡_, refl, sym, ap, ap₂, _∙_}
-use mathlib.Core.Bool.{Bool, true, false, not, _&&_, _||_, and-false}
+use mathlib.Core.Bool.{true, false, not, and-false}
 use mathlib.Core.List.{List, [], _∷_, _++_, append-assoc, append-nil}
 use Prim.Native.Nat.{ℕ, _+_, _-_, _≤_, _<_}
 use native.Mathlib.Omega.{arith}
 use borrow.Author.Tests.{eq-eqb, eqb-true, le-ltb, lt-ltb, ltb-false, ne-eqb, not-false}
-use lib.Dec.{eqb, ltb}
+use lib.Dec.{eqb}
 use lib.ListN.{length}
 use Rattle.word.specs.Word.{top}
 use Rattle.rule.specs.declared.Rule.{Rule}
@@ -17,7 +17,7 @@ use Rattle.gate.specs.Gate.{fourOf, gateRules, listed, notNumbers, through}
 use Rattle.gate.specs.Paper.{FailsJust}
 use Rattle.gate.proofs.Asked.{is-four}
 use Rattle.page.specs.Calls.{firstThatApplies, grounds, isBlank, refusal, rulesOf, set-gate, withRules}
-use Rattle.page.specs.Page.{Entry, OpenPage, Page, a-rule, entriesOf, marksOn, no-page, page, rulesOn, widthOf}
+use Rattle.page.specs.Page.{Entry, OpenPage, a-rule, entriesOf, marksOn, no-page, page, rulesOn, widthOf}
 
 pub blank-gate : (g : Gate) → refusal no-page (set-gate g) ≡ 1
 unfolding refusal grounds firstThatApplies isBlank

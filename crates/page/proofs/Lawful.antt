@@ -18,7 +18,7 @@ use Rattle.accept.specs.Accept.{acceptable, every, refusalOf}
 use Rattle.accept.proofs.Accepted.{all-lawful}
 use Rattle.accept.proofs.Every.{every-append}
 use Rattle.gate.specs.Gate.{gateRules}
-use Rattle.page.specs.Calls.{Call, add, ask, back, changed, forward, mark, open-at, refusal, set-gate, withRules, written}
+use Rattle.page.specs.Calls.{Call, add, ask, back, changed, forward, mark, open-at, refusal, set-gate, written}
 use Rattle.page.specs.Page.{Entry, MARKS, OpenPage, Page, a-mark, a-rule, laidAside, marksOn, newPage, no-page, page, restored, rulesOn, takenUp, withEntries, withPile}
 use Rattle.page.specs.Reached.{Reached, start, step}
 use Rattle.page.proofs.Gates.{blank-gate, gate-acceptable, gate-four, gate-set, with-marks, with-rules}
