@@ -1,4 +1,4 @@
--- The number that a call is given is the lowest of those that apply, 11 right after 1: the rows stand in that order, and the first that
+-- The number that a call is given is the lowest of those that apply, 11 right after 1, 13 and 14 before 6: the rows stand in that order, and the first that
 -- applies gives the number. Assumes nothing.
 use mathlib.Core.Path.{_≡_, refl, sym, _∙_, subst}
 use mathlib.Core.Bool.{Bool, true, false, true≢false}
@@ -7,7 +7,7 @@ use mathlib.Core.Logic.{inl, inr}
 use Prim.Native.Nat.{ℕ, _≤_}
 use native.Mathlib.Omega.{arith}
 use Rattle.accept.specs.Accept.{ruleGrounds}
-use Rattle.page.specs.Calls.{Call, Ground, add, ask, back, firstThatApplies, forward, grounds, mark, open-at, refusal}
+use Rattle.page.specs.Calls.{Call, Ground, add, ask, back, firstThatApplies, forward, grounds, mark, open-at, refusal, set-gate}
 use Rattle.page.specs.Lowest.{Applies, Lowest, place}
 use Rattle.page.specs.Page.{Page}
 
@@ -77,8 +77,9 @@ rows-rise pg mark = (omega arith, (omega arith, tt))
 rows-rise pg back = (omega arith, (omega arith, tt))
 rows-rise pg forward = (omega arith, (omega arith, tt))
 rows-rise pg (ask m) = (omega arith, (omega arith, tt))
+rows-rise pg (set-gate g) = (omega arith, (omega arith, (omega arith, (omega arith, tt))))
 
--- "where several apply, the lowest number is given", and 11 right after 1
+-- "where several apply, the lowest number is given", 11 right after 1, and 13 and 14 before 6
 pub lowest-given : (pg : Page) (c : Call) → Lowest (grounds pg c) (refusal pg c)
 unfolding refusal
 lowest-given pg c = rising-lowest 1 (omega arith) (grounds pg c) (rows-rise pg c)

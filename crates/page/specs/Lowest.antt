@@ -7,9 +7,10 @@ use Prim.Native.Nat.{ℕ, _*_, _≤_}
 use lib.Dec.{eqb}
 use Rattle.page.specs.Calls.{Ground}
 
--- the order of the numbers: the lowest first, but 11 is "checked right after 1" (K7)
+-- the order of the numbers: the lowest first, but 11 is "checked right after 1" (K7), and 13 and 14 come before 6: "In the order 17, 1,
+-- 13, 14, 6" (K9)
 unfoldable pub place : ℕ → ℕ
-place n = cond (eqb n 11) 3 (2 * n)
+place n = cond (eqb n 11) 5 (cond (eqb n 13) 21 (cond (eqb n 14) 22 (4 * n)))
 
 -- a row with the number n applies
 unfoldable pub Applies : ℕ → List Ground → Type 0

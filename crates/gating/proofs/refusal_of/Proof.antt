@@ -1,23 +1,23 @@
 -- `refusal_of` meets its contract: its tests are the rows of the table, in their order. Assumes nothing.
 use mathlib.Core.Path.{_≡_, sym, _∙_}
 use mathlib.Core.Bool.{Bool, true, false, false≢true}
+use mathlib.Core.Logic.{_↔_}
 use borrow.Author.Needs.{needs}
 use borrow.Author.Tests.{eqb-false, eqb-true, ltb-false, ltb-true, not-false, not-true}
 use Rattle.sheet.specs.declared.Sheet.{Sheet}
-use Rattle.sheet.specs.Shape.{Whole, isSheet}
+use Rattle.sheet.specs.Shape.{isSheet}
 use Rattle.sheet.specs.Statements.{IsSheet}
-use Rattle.sheet.proofs.Tested.{passes-sheet, sheet-passes}
 use Rattle.gating.specs.Seen.{SeenFor}
 use Rattle.gating.proofs.Gating.{seen-blank, seen-fits, seen-full, seen-limit, seen-none, seen-other}
 use Rattle.gating.proofs.refusal_of.Statement.{statement}
 use Rattle.gating.proofs.refusal_of.Tie as tie
 
-module _ (s : Sheet) (t : Bool) (e : (t ≡ isSheet s) × (t ≡ true → Whole (s .rules) (s .marks))) where
+module _ (s : Sheet) (t : Bool) (e : (t ≡ isSheet s) × ((t ≡ true) ↔ IsSheet s)) where
   told : t ≡ true → IsSheet s
-  told q = passes-sheet s (e .1 q .rules-length) (e .1 q .marks-length) (sym (e .0) ∙ q)
+  told q = e .1 .0 q
 
   untold : t ≡ false → IsSheet s → ⊥
-  untold q i = false≢true (sym q ∙ e .0 ∙ sheet-passes s i)
+  untold q i = false≢true (sym q ∙ e .1 .1 i)
 
 is-sheet-requires : tie.Need-is-sheet-requires
 is-sheet-requires c κs = search needs
