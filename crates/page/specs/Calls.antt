@@ -52,12 +52,7 @@ grounds pg mark = ground 1 (isBlank pg) ∷ ground 7 (leb MARKS (length (marksOf
 grounds pg back = ground 1 (isBlank pg) ∷ ground 8 (eqb (length (marksOf pg)) 0) ∷ []
 grounds pg forward = ground 1 (isBlank pg) ∷ ground 12 (eqb (length (pileOf pg)) 0) ∷ []
 grounds pg (ask m) = ground 1 (isBlank pg) ∷ ground 9 (ltb m (chainRoom (length (rulesOf pg)))) ∷ []
-grounds pg (set-gate g) =
-    ground 1 (isBlank pg)
-    ∷ ground 13 (not (eqb (widthOf pg) 32))
-    ∷ ground 14 (notNumbers g)
-    ∷ ground 6 (ltb (RULES - length (rulesOf pg)) 4)
-    ∷ []
+grounds pg (set-gate g) = ground 1 (isBlank pg) ∷ ground 13 (not (eqb (widthOf pg) 32)) ∷ ground 14 (notNumbers g) ∷ ground 6 (ltb (RULES - length (rulesOf pg)) 4) ∷ []
 
 -- the number that is given, 0 where the call is accepted
 unfoldable pub refusal : Page → Call → ℕ

@@ -1,7 +1,7 @@
 // Tries gates against a plain reading of IEEE 754 by integers: all pairs of forty corner patterns as the limits of a span, and each as the
 // limit of a gate with one, on each of these patterns and its two neighbours.
 //
-// The counts (tests/models/gates_counts.py). gates: the 1600 spans and 40 gates of each other kind, whether a limit is not a number. fit
+// The counts (tests/models/try_gates.py). gates: the 1600 spans and 40 gates of each other kind, whether a limit is not a number. fit
 // and unfit: of those with numbers, 30 * 30 + 30 + 30 gates on 120 words, the words that meet the gate and those that do not. known has
 // two wrong expectations: that the zeros differ, and that a pattern above an infinity's is at least zero.
 mod direct;
