@@ -1,9 +1,6 @@
-"""Power gates by a plain reading of IEEE 754, written apart from the crates: what K9 says of each gate, word by word.
-
-A pattern's value is read from its three fields as an exact fraction. In each half the fitting words are found by looking at the
-words themselves, in the order of their bits, with bisection where the fields make the order plain. Prints the rules of gates given as
-kind and patterns in hexadecimal: `gates.py least 3f800000`, `gates.py most 80000000`, `gates.py within 00000001 7f800000`.
-"""
+# Power gates by a plain reading of IEEE 754: what K9 says of each gate. A pattern's value is read from its three fields as an exact fraction; the
+# ends of the fitting words of a half are found by bisection, since the numbers of a half rise or fall with their bits. Written from the paper;
+# nothing here is taken from crates/. By itself it prints the rules of a gate, given as a kind and patterns: `gates.py within 00000001 7f800000`.
 import sys
 from fractions import Fraction
 
@@ -11,8 +8,8 @@ HALF, WHOLE = 1 << 31, 1 << 32
 TOP = WHOLE - 1
 
 
+# None, or a pair that Python orders: (-1, 0) and (1, 0) for the infinities, (0, number) for the others.
 def value(p):
-    """None, or a pair that Python orders: (-1, 0) and (1, 0) for the infinities, (0, number) for the others."""
     sign, exponent, fraction = p >> 31, (p >> 23) & 255, p & 0x7FFFFF
     if exponent == 255:
         if fraction:
@@ -22,17 +19,8 @@ def value(p):
     return (0, -size if sign else size)
 
 
-def meets(kind, limits, p):
-    v = value(p)
-    if v is None:
-        return False
-    low = value(limits[0]) if kind != "most" else None
-    high = value(limits[-1]) if kind != "least" else None
-    return (low is None or low <= v) and (high is None or v <= high)
-
-
+# The first number from low on and before high that passes a test which stays true once it is; high where none does.
 def first_true(low, high, test):
-    """The first number from low on and before high that passes a test which stays true once it is; high where none does."""
     while low < high:
         middle = (low + high) // 2
         if test(middle):
@@ -42,8 +30,8 @@ def first_true(low, high, test):
     return low
 
 
+# The smallest and the largest fitting word of the half from start, or None.
 def ends(kind, limits, start):
-    """The smallest and the largest fitting word of the half from start, or None. Numbers of a half rise or fall with their bits."""
     numbers = 0x7F800001
     low = value(limits[0]) if kind != "most" else (-1, 0)
     high = value(limits[-1]) if kind != "least" else (1, 0)
@@ -56,10 +44,12 @@ def ends(kind, limits, start):
     return (start + a, start + b - 1) if a < b else None
 
 
+# The constants of the rule of form 3, sense 0 that fails just the words from a on and before b; one that fails none is 0, top.
 def failing(a, b):
     return (0, TOP) if a >= b else ((WHOLE - b) % WHOLE, TOP - (b - a))
 
 
+# The constants of the four rules, or None where a limit is not a number.
 def rules(kind, limits):
     if any(value(p) is None for p in limits):
         return None
@@ -71,10 +61,6 @@ def rules(kind, limits):
         else:
             out += [failing(start, e[0]), failing(e[1] + 1, start + HALF)]
     return out
-
-
-def holds(rule, x):
-    return (rule[0] + x) % WHOLE <= rule[1]
 
 
 if __name__ == "__main__":

@@ -1,4 +1,4 @@
-"""Foretells what try_gates prints: the same limits and words, by the plain reading of IEEE 754 in gates.py."""
+# Foretells crates/try_gates: the same limits and words, by the plain reading of IEEE 754 in gates.py.
 from gates import value
 
 PATTERNS = [0x00000000, 0x00000001, 0x00000002, 0x007FFFFE, 0x007FFFFF, 0x00800000, 0x00800001, 0x3F7FFFFF, 0x3F800000, 0x3F800001,
