@@ -7,8 +7,9 @@ use Prim.Native.Nat.{ℕ, suc, _+_}
 use native.Mathlib.Decide.{ℕ-discrete}
 use lib.ListN.{length, length-append}
 use Rattle.rule.specs.declared.Rule.{Rule}
+use Rattle.gate.specs.Gate.{gateRules}
 use Rattle.page.specs.declared.Opening.{Opening}
-use Rattle.page.specs.Calls.{Call, add, after, ask, back, changed, forward, grounds, isBlank, mark, marksOf, open-at, refusal, rulesOf, written}
+use Rattle.page.specs.Calls.{Call, add, after, ask, back, changed, forward, grounds, isBlank, mark, marksOf, open-at, refusal, rulesOf, set-gate, withRules, written}
 use Rattle.page.specs.Page.{Entry, Page, a-mark, a-rule, editionOf, entriesOf, laidAside, marksOn, newPage, no-page, page, pileOf, rulesOn, stretch, struck, takenUp, widthOf, withPile}
 use Rattle.page.proofs.Refusals.{after-accepted, after-refused}
 
@@ -82,6 +83,12 @@ below-right : {cs ds : List Entry} (es : List Entry) → Alike cs ds → Alike (
 below-right [] d = d
 below-right (e ∷ es) d = one-more e (below-right es d)
 
+-- rules written below what stands
+rules-below : (rs : List Rule) {es ds : List Entry} → Alike es ds → Alike (withRules rs es) (withRules rs ds)
+unfolding withRules
+rules-below [] d = d
+rules-below (r ∷ rs) d = rules-below rs (one-more (a-rule r) d)
+
 -- ---- stretches that wait
 
 pub data Waiting : List (List Entry) → List (List Entry) → Type 0 where
@@ -125,6 +132,7 @@ same-grounds (pages g d p) mark = rw (marks-alike d)
 same-grounds (pages g d p) back = rw (marks-alike d)
 same-grounds (pages g d p) forward = rw (waiting-many p)
 same-grounds (pages g d p) (ask m) = rw (rules-many d)
+same-grounds (pages g d p) (set-gate k) = rw (rules-many d)
 
 pub same-refusal : {pg qg : Page} → Pages pg qg → (c : Call) → refusal pg c ≡ refusal qg c
 unfolding refusal
@@ -148,6 +156,8 @@ same-written (pages g d p) back = pages g (struck-alike d) (one-waits (stretch-a
 same-written no-pages forward = no-pages
 same-written (pages g d p) forward = taken-alike g d p
 same-written d (ask m) = d
+same-written no-pages (set-gate k) = no-pages
+same-written (pages g d p) (set-gate k) = pages g (rules-below (gateRules k) d) nothing-waits
 
 -- after a call, accepted or refused
 pub same-after : {pg qg : Page} → Pages pg qg → (c : Call) → Pages (after pg c) (after qg c)

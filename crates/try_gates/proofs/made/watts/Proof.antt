@@ -1,5 +1,5 @@
 -- `watts` is safe: without its sign bit the pattern is not above that of an infinity. Assumes nothing.
-use mathlib.Core.Path.{_≡_, sym, subst, _∙_}
+use mathlib.Core.Path.{sym, subst, _∙_}
 use mathlib.Core.Bool.{Bool, not}
 use Prim.Native.Nat.{ℕ, _%_, _^_, _≤_}
 use borrow.Author.Needs.{needs}
