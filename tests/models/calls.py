@@ -2,6 +2,7 @@
 from collections import namedtuple
 from functools import lru_cache
 
+from gates import rules as four
 from paper import FORMS, MARKS, NONE, RULES, answer, top
 
 # The editions: `01` opens a sheet of the old one, `11` of the new (K7).
@@ -95,6 +96,18 @@ def forward(page):
     return 0, page._replace(stands=page.stands + page.pile[-1], pile=page.pile[:-1])
 
 
+# "In the order 17, 1, 13, 14, 6"; "On the clerk's page a gate counts as its four rules, and as an accepted add it empties what waits."
+def set_gate(page, kind, *limits):
+    found = four(kind, limits)
+    rows = [(1, lambda: blank(page)), (13, lambda: page.width != 32), (14, lambda: found is None), (6, lambda: RULES - len(in_force(page)) < 4)]
+    number = first(rows)
+    if number:
+        return number, page
+    for c1, c2 in found:
+        number, page = add(page, page.edition, (3, 0, c1, c2))
+    return number, page
+
+
 @lru_cache(1 << 12)
 def said(width, rules):
     return answer(width, list(rules))
@@ -172,6 +185,14 @@ def fresh(width, edition, lines, times):
             return None
         number, page = call(page, *numbers)
     return None if number else page
+
+
+# The page is the one that a fresh sheet comes to, given what stands on it and what waits, and taken back once for each stretch that waits.
+def is_fresh(page):
+    if page.width == 0:
+        return page == BLANK
+    lines = page.stands + sum(reversed(page.pile), ())
+    return fresh(page.width, page.edition, lines, len(page.pile)) == page
 
 
 # "A record is a sheet when some page of accepted calls gives it": the page that the record's own lines give, or None where there is none, or

@@ -1,7 +1,7 @@
 # Foretells crates/try_gating: gates set on sheets, against what the program expects.
 import struct
 
-from calls import NEW, OLD, add, blank, first, forward, in_force, on
+from calls import NEW, OLD, forward, on, set_gate
 from gates import rules as four
 from paper import RULES
 from sheets import BLANK_SHEET, CASE2_RULE, accepted, added, gone_back, marked, opened, refused
@@ -15,18 +15,6 @@ def bits(x):
 
 NO_NUMBER = 0x7FC00000
 ONE, TWO = bits(1.0), bits(2.0)
-
-
-# "In the order 17, 1, 13, 14, 6"; "On the clerk's page a gate counts as its four rules, and as an accepted add it empties what waits."
-def set_gate(page, kind, *limits):
-    found = four(kind, limits)
-    rows = [(1, lambda: blank(page)), (13, lambda: page.width != 32), (14, lambda: found is None), (6, lambda: RULES - len(in_force(page)) < 4)]
-    number = first(rows)
-    if number:
-        return number, page
-    for c1, c2 in found:
-        number, page = add(page, page.edition, (3, 0, c1, c2))
-    return number, page
 
 
 def keeps(tally, sheet, gate, *expected):
