@@ -1,7 +1,4 @@
-// The gates and the words that are tried.
-use crate::direct;
-use gate::Gate;
-use gate::Span;
+// The limits and the words that are tried.
 use std::num::wrapping_add_u64;
 
 // How many corners there are, and how many words: each corner and its neighbours.
@@ -47,25 +44,4 @@ pub fn corner(i: usize) -> u32 {
 pub fn word(k: usize) -> u64 {
     let c = corner(k / 3) as u64;
     wrapping_add_u64(c, 0xffff_ffff + (k % 3) as u64) % 0x1_0000_0000
-}
-
-// The float of a pattern.
-fn watts(pattern: u32) -> f32 {
-    if 0x7f80_0000 < pattern % 0x8000_0000 {
-        return 0.0 / 0.0;
-    }
-    f32::from_bits(pattern)
-}
-
-pub fn gate(kind: u64, low: u32, high: u32) -> Gate {
-    if kind == direct::LEAST {
-        return Gate::AtLeast(watts(low));
-    }
-    if kind == direct::MOST {
-        return Gate::AtMost(watts(high));
-    }
-    Gate::Within(Span {
-        low: watts(low),
-        high: watts(high),
-    })
 }

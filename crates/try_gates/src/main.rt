@@ -4,12 +4,13 @@
 // The counts (tests/models/try_gates.py). gates: the 1600 spans and 40 gates of each other kind, whether a limit is not a number. fit
 // and unfit: of those with numbers, 30 * 30 + 30 + 30 gates on 120 words, the words that meet the gate and those that do not. known has
 // two wrong expectations: that the zeros differ, and that a pattern above an infinity's is at least zero.
-mod direct;
 mod made;
 
 use gate::Four;
 use gate::Turned;
 use trial_direct::tally::Tally;
+use trial_gates::direct;
+use trial_gates::made::gate;
 
 fn main() {
     over_kinds(direct::GATES).print(b"gates");
@@ -51,7 +52,7 @@ fn spans(looked_at: u64) -> Tally {
 fn gated(kind: u64, i: usize, j: usize, looked_at: u64) -> Tally {
     let low = made::corner(i);
     let high = made::corner(j);
-    let turned = made::gate(kind, low, high).rules();
+    let turned = gate(kind, low, high).rules();
     let number = direct::limits(kind, low, high);
     match turned {
         Turned::Rules(four) => {
@@ -88,7 +89,7 @@ fn known() -> Tally {
 
 // What is expected, wrongly, of a word and the gate at least zero.
 fn wrong(x: u64, expected: bool) -> Tally {
-    match made::gate(direct::LEAST, 0, 0).rules() {
+    match gate(direct::LEAST, 0, 0).rules() {
         Turned::Rules(four) => Tally::one(direct::all_hold(four, x) == expected),
         Turned::NotANumber => Tally::none(),
     }

@@ -7,8 +7,8 @@ use borrow.Author.Tests.{le-ltb}
 use lib.Dec.{T}
 use lib.Ieee.{binary32, nanBits}
 use lib.Ieee.Bits.{nanBits-above}
-use Rattle.try_gates.proofs.made.watts.Statement.{statement}
-use Rattle.try_gates.proofs.made.watts.Tie as tie
+use Rattle.trial_gates.proofs.made.watts.Statement.{statement}
+use Rattle.trial_gates.proofs.made.watts.Tie as tie
 
 number : (p : ℕ) → p % 2 ^ 31 ≤ 0x7f800000 → T (not (nanBits binary32 p))
 number p h = subst (λ (b : Bool). T (not b)) (sym (nanBits-above binary32 p ∙ le-ltb 0x7f800000 (p % 2 ^ 31) h)) tt
