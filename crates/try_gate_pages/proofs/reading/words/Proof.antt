@@ -1,0 +1,14 @@
+-- `words` is safe and ends: the measure is the words left. Assumes nothing.
+use Prim.Native.Nat.{_-_}
+use borrow.Author.Needs.{needs}
+use Rattle.try_gate_pages.proofs.reading.words.Statement.{statement}
+use Rattle.try_gate_pages.proofs.reading.words.Tie as tie
+
+pub words-spec : {M : Type 1} → statement M
+words-spec =
+    tie.close
+    (tie.spec
+    (λ limits seed looked-at tally₀ k₀ tally k. Unit)
+    (λ limits seed looked-at tally₀ k₀ tally k. 24 - k)
+    (search needs) (search needs) (search needs) (search needs) (search needs) (search needs) (search needs) (search needs)
+    (search needs) (search needs) (search needs) (search needs))
