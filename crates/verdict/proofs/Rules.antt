@@ -19,8 +19,8 @@ use Rattle.band.specs.declared.Band.{Band}
 use Rattle.band.specs.Band.{bandOf}
 use Rattle.bits.specs.declared.Fixed.{Fixed}
 use Rattle.bits.specs.Fixed.{fixedBits}
-use Rattle.lent.specs.Bands.{passes}
-use Rattle.lent.proofs.Passes.{passes-fits}
+use Rattle.rows.specs.Bands.{passes}
+use Rattle.rows.proofs.Passes.{passes-fits}
 use Rattle.verdict.specs.Kept.{kept, verdictOf}
 use Rattle.verdict.specs.OnBands.{Bounds, Ends, keptBy}
 

@@ -18,8 +18,8 @@ use Rattle.band.specs.declared.Band.{Band}
 use Rattle.band.specs.Band.{AllLaid, turnedBand}
 use Rattle.bits.specs.declared.Fixed.{Fixed}
 use Rattle.bits.specs.Fixed.{Tidy, Within, turnedBits}
-use Rattle.lent.specs.Bands.{passes}
-use Rattle.lent.proofs.Passes.{passes-turned}
+use Rattle.rows.specs.Bands.{passes}
+use Rattle.rows.proofs.Passes.{passes-turned}
 use Rattle.verdict.specs.Kept.{keeps, verdictOf}
 use Rattle.verdict.specs.OnBands.{Ends, keptBy}
 

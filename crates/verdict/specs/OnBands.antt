@@ -7,7 +7,7 @@ use Rattle.word.specs.Word.{top}
 use Rattle.word.specs.Search.{first, last}
 use Rattle.band.specs.declared.Band.{Band}
 use Rattle.bits.specs.declared.Fixed.{Fixed}
-use Rattle.lent.specs.Bands.{passes}
+use Rattle.rows.specs.Bands.{passes}
 use Rattle.verdict.specs.declared.Kept.{Kept}
 use Rattle.verdict.specs.Kept.{verdictOf}
 

@@ -1,9 +1,10 @@
-// The verdict found on bands that are laid in lent arrays, swept as often as is asked: nothing is copied on the way.
+// The verdict found on bands that are laid in lent rows, swept as often as is asked: nothing is copied on the way.
 ghost use mathlib.Core.Path.{_≡_};
 ghost use lib.ListN.{take};
 ghost use Rattle.word.specs.Word.{IsWidth, top};
 ghost use Rattle.bits.specs.Fixed.{Tidy, Within};
-ghost use Rattle.lent.specs.Lent.{Lie, zipped};
+ghost use Rattle.rows.specs.Bands.{Lie};
+ghost use Rattle.rows.specs.Rows.{bandsIn};
 ghost use Rattle.verdict.specs.Kept.{keeps};
 ghost use Rattle.verdict.specs.OnBands.{Bounds, Ends, keptBy};
 use crate::Kept;
@@ -26,9 +27,7 @@ fn none() -> Kept
 // What is kept of the first n bands and the bits, where no word below low and none above high passes. The largest word that
 // passes is the smallest on the wheel turned round, turned back.
 pub fn solve(
-    from: &[u64; Rule::LIMIT],
-    to: &[u64; Rule::LIMIT],
-    side: &[bool; Rule::LIMIT],
+    rows: &[[u64; rows::NUMBERS]; Rule::LIMIT],
     n: usize,
     fixed: Fixed,
     width: Width,
@@ -36,17 +35,17 @@ pub fn solve(
     high: u64,
 ) -> Kept
     requires { ⌜ IsWidth (width .bits) ⌝ }
-    requires { ⌜ Lie (top (width .bits)) n (zipped (now from) (now to) (now side)) ⌝ }
+    requires { ⌜ Lie (top (width .bits)) n (bandsIn (now rows)) ⌝ }
     requires { ⌜ Tidy fixed × Within (width .bits) fixed ⌝ }
-    requires { ⌜ Ends (width .bits) (take n (zipped (now from) (now to) (now side))) fixed low high ⌝ }
-    ensures { λ r. ⌜ r ≡ keptBy (width .bits) (take n (zipped (now (from .entry)) (now (to .entry)) (now (side .entry)))) fixed ⌝ }
+    requires { ⌜ Ends (width .bits) (take n (bandsIn (now rows))) fixed low high ⌝ }
+    ensures { λ r. ⌜ r ≡ keptBy (width .bits) (take n (bandsIn (now (rows .entry)))) fixed ⌝ }
 {
-    let Found::At(smallest) = lent::sweep(from, to, side, n, false, fixed, width, low) else {
+    let Found::At(smallest) = sweep::sweep(rows, n, false, fixed, width, low) else {
         return none();
     };
     let top = width.top();
     let mirrored = fixed.turned();
-    let Found::At(last) = lent::sweep(from, to, side, n, true, mirrored, width, top - high) else {
+    let Found::At(last) = sweep::sweep(rows, n, true, mirrored, width, top - high) else {
         return none();
     };
     let largest = top - last;
@@ -60,31 +59,20 @@ pub fn solve(
 
 // What is kept once there are more rules, from what was kept before: none stays none, and the search starts at the old ends.
 pub fn narrowed(
-    from: &[u64; Rule::LIMIT],
-    to: &[u64; Rule::LIMIT],
-    side: &[bool; Rule::LIMIT],
+    rows: &[[u64; rows::NUMBERS]; Rule::LIMIT],
     n: usize,
     fixed: Fixed,
     width: Width,
     before: Kept,
 ) -> Kept
     requires { ⌜ IsWidth (width .bits) ⌝ }
-    requires { ⌜ Lie (top (width .bits)) n (zipped (now from) (now to) (now side)) ⌝ }
+    requires { ⌜ Lie (top (width .bits)) n (bandsIn (now rows)) ⌝ }
     requires { ⌜ Tidy fixed × Within (width .bits) fixed ⌝ }
-    requires { ⌜ Bounds (width .bits) (take n (zipped (now from) (now to) (now side))) fixed before ⌝ }
-    ensures { λ r. ⌜ r ≡ keptBy (width .bits) (take n (zipped (now (from .entry)) (now (to .entry)) (now (side .entry)))) fixed ⌝ }
+    requires { ⌜ Bounds (width .bits) (take n (bandsIn (now rows))) fixed before ⌝ }
+    ensures { λ r. ⌜ r ≡ keptBy (width .bits) (take n (bandsIn (now (rows .entry)))) fixed ⌝ }
 {
     if before.verdict == 0 {
         return none();
     }
-    solve(
-        from,
-        to,
-        side,
-        n,
-        fixed,
-        width,
-        before.smallest,
-        before.largest,
-    )
+    solve(rows, n, fixed, width, before.smallest, before.largest)
 }

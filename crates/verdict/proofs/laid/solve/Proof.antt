@@ -18,8 +18,8 @@ use Rattle.band.specs.Band.{turnedBand}
 use Rattle.bits.specs.declared.Fixed.{Fixed}
 use Rattle.bits.specs.Fixed.{Tidy}
 use Rattle.bits.proofs.Turn.{turned-tidy}
-use Rattle.lent.specs.Bands.{passes}
-use Rattle.lent.specs.Lent.{allSeen, zipped}
+use Rattle.rows.specs.Bands.{allSeen, passes}
+use Rattle.rows.specs.Rows.{bandsIn}
 use Rattle.verdict.specs.Kept.{keeps, verdictOf}
 use Rattle.verdict.specs.OnBands.{keptBy}
 use Rattle.verdict.proofs.Solved.{largest-is, smallest-is}
@@ -27,7 +27,7 @@ use Rattle.verdict.proofs.laid.solve.Statement.{statement}
 use Rattle.verdict.proofs.laid.solve.Tie as tie
 
 abbrev bands : tie.Start → List Band
-bands s = take (s .args .n) (zipped (s .args .from .now) (s .args .to .now) (s .args .side .now))
+bands s = take (s .args .n) (bandsIn (s .args .rows .now))
 
 abbrev start : tie.After-sweep2 → tie.Start
 start c = c .before .before .before .before .before .before .before

@@ -1,0 +1,3 @@
+pub mod OneMore
+pub mod Passes
+pub mod Reading

@@ -1,0 +1,73 @@
+// Rows in a lent array, a row a rule: the rule, its band, and a note. Only reading a row's rule or band, and putting a row, know how they lie.
+ghost use mathlib.Core.Path.{_≡_};
+ghost use Prim.Native.Nat.{_<_};
+ghost use lib.ListN.{getD, set};
+ghost use Rattle.rule.specs.Meaning.{RULES};
+ghost use Rattle.accept.specs.Accept.{noRule};
+ghost use Rattle.band.specs.Band.{Laid};
+ghost use Rattle.rows.specs.Bands.{blankBand, seen};
+ghost use Rattle.rows.specs.Rows.{bandsIn, rowOf, rulesIn};
+use band::Band;
+use rule::Rule;
+
+// The rule's form, sense and two constants; where its band starts and ends, and the side that fails; and a note: whether there is one, the
+// verdict and its two words, and the fixed bits by three numbers.
+pub const NUMBERS: usize = 14;
+
+// The rule at a place.
+pub fn rule_at(rows: &[[u64; NUMBERS]; Rule::LIMIT], i: usize) -> Rule
+    requires { ⌜ i < RULES ⌝ }
+    ensures { λ r. ⌜ r ≡ getD (rulesIn (now (rows .entry))) i noRule ⌝ }
+{
+    let form = rows[i][0];
+    let sense = rows[i][1];
+    let c1 = rows[i][2];
+    let c2 = rows[i][3];
+    Rule {
+        form,
+        sense,
+        c1,
+        c2,
+    }
+}
+
+// The band at a place, as it stands or on the wheel of words turned round.
+pub fn band_at(rows: &[[u64; NUMBERS]; Rule::LIMIT], i: usize, turned: bool, top: u64) -> Band
+    requires { ⌜ i < RULES ⌝ }
+    requires { ⌜ Laid top (getD (bandsIn (now rows)) i blankBand) ⌝ }
+    ensures { λ r. ⌜ r ≡ seen turned top (getD (bandsIn (now (rows .entry))) i blankBand) ⌝ }
+{
+    let from = rows[i][4];
+    let to = rows[i][5];
+    let inside = rows[i][6] == 1;
+    let band = Band { from, to, inside };
+    if turned {
+        return band.turned(top);
+    }
+    band
+}
+
+// Puts a rule and its band at a place, with no note.
+pub fn put(rows: &mut [[u64; NUMBERS]; Rule::LIMIT], i: usize, rule: Rule, band: Band)
+    requires { ⌜ i < RULES ⌝ }
+    ensures { λ _. ⌜ now (rows .exit) ≡ set (now (rows .entry)) i (rowOf rule band) ⌝ }
+{
+    let side = band.inside as u64;
+    let row = [
+        rule.form,
+        rule.sense,
+        rule.c1,
+        rule.c2,
+        band.from,
+        band.to,
+        side,
+        0,
+        0,
+        0,
+        0,
+        0,
+        0,
+        0,
+    ];
+    rows[i] = row;
+}
