@@ -30,11 +30,11 @@ map-set f (y ∷ l) zero x = refl
 map-set f (y ∷ l) (suc i) x = ap (λ (m : List _). f y ∷ m) (map-set f l i x)
 
 -- a row has the rule and the band that it was made of
-rule-of : (r : Rule) (b : Band) → ruleIn (rowOf r b) ≡ r
+pub rule-of : (r : Rule) (b : Band) → ruleIn (rowOf r b) ≡ r
 unfolding ruleIn rowOf
 rule-of r b = refl
 
-band-of : (r : Rule) (b : Band) → bandIn (rowOf r b) ≡ b
+pub band-of : (r : Rule) (b : Band) → bandIn (rowOf r b) ≡ b
 unfolding bandIn rowOf
 band-of r b = λ k. record { from = b .from; to = b .to; inside = side (b .inside) k }
   where

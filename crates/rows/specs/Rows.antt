@@ -1,13 +1,15 @@
 -- A row a rule, in a lent array: the rule's four numbers, its band, and a note. A route: what is said of the lists of rules and of bands is
 -- said elsewhere.
 use mathlib.Core.Bool.{cond}
-use mathlib.Core.List.{List, [], _∷_, map}
+use mathlib.Core.List.{List, [], _∷_, map, _++_}
 use Prim.Native.Nat.{ℕ}
 use lib.Dec.{eqb}
-use lib.ListN.{getD}
+use lib.ListN.{drop, getD, take}
 use Rattle.rule.specs.declared.Rule.{Rule}
 use Rattle.rule.specs.Meaning.{rule}
 use Rattle.band.specs.declared.Band.{Band}
+use Rattle.band.specs.Band.{bandOf}
+use Rattle.rows.specs.Bands.{blankBand}
 
 -- form, sense, c1, c2
 unfoldable pub ruleIn : List ℕ → Rule
@@ -46,3 +48,15 @@ rowOf r b =
 -- a row that no rule has taken
 abbrev pub noRow : List ℕ
 noRow = 0 ∷ 0 ∷ 0 ∷ 0 ∷ 0 ∷ 0 ∷ 0 ∷ 0 ∷ 0 ∷ 0 ∷ 0 ∷ 0 ∷ 0 ∷ 0 ∷ []
+
+-- a rule whose band is not laid yet
+unfoldable pub bareRow : Rule → List ℕ
+bareRow r = rowOf r blankBand
+
+-- a row's rule with the band that is the rule's own
+unfoldable pub drawnRow : ℕ → List ℕ → List ℕ
+drawnRow w row = rowOf (ruleIn row) (bandOf w (ruleIn row))
+
+-- the first n rows so
+unfoldable pub drawn : (w n : ℕ) → List (List ℕ) → List (List ℕ)
+drawn w n rows = take n (map (drawnRow w) rows) ++ drop n rows

@@ -1,0 +1,31 @@
+-- Rows whose bands are drawn have the rules that they had, and the bands of those rules; a rule read past what is drawn is as it was.
+-- Assumes nothing.
+use mathlib.Core.Path.{_≡_, refl, sym, ap, ap₂, _∙_}
+use mathlib.Core.List.{List, [], _∷_, map, _++_}
+use Prim.Native.Nat.{ℕ, zero, suc, _≤_}
+use native.Mathlib.Omega.{arith}
+use lib.ListN.{length, take}
+use Rattle.rule.specs.declared.Rule.{Rule}
+use Rattle.band.specs.declared.Band.{Band}
+use Rattle.band.specs.Band.{bandOf}
+use Rattle.rows.specs.Rows.{bandIn, bandsIn, drawn, drawnRow, ruleIn, rulesIn}
+use Rattle.rows.proofs.Reading.{band-of, rule-of}
+
+module _ (w : ℕ) where
+  pub drawn-length : (n : ℕ) (rows : List (List ℕ)) → length (drawn w n rows) ≡ length rows
+  unfolding drawn
+  drawn-length zero rows = refl
+  drawn-length (suc n) [] = refl
+  drawn-length (suc n) (row ∷ rows) = ap suc (drawn-length n rows)
+
+  pub drawn-rules : (n : ℕ) (rows : List (List ℕ)) → rulesIn (drawn w n rows) ≡ rulesIn rows
+  unfolding drawn drawnRow
+  drawn-rules zero rows = refl
+  drawn-rules (suc n) [] = refl
+  drawn-rules (suc n) (row ∷ rows) = ap₂ _∷_ (rule-of (ruleIn row) (bandOf w (ruleIn row))) (drawn-rules n rows)
+
+  pub drawn-bands : (n : ℕ) (rows : List (List ℕ)) → take n (bandsIn (drawn w n rows)) ≡ map (bandOf w) (take n (rulesIn rows))
+  unfolding drawn drawnRow
+  drawn-bands zero rows = refl
+  drawn-bands (suc n) [] = refl
+  drawn-bands (suc n) (row ∷ rows) = ap₂ _∷_ (band-of (ruleIn row) (bandOf w (ruleIn row))) (drawn-bands n rows)
