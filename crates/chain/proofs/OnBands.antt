@@ -24,7 +24,7 @@ use Rattle.band.proofs.Law.{band-law, bit-band, reach-law, start-law}
 use Rattle.bits.specs.declared.Fixed.{Fixed}
 use Rattle.bits.specs.Fixed.{fixedBits, hasBits}
 use Rattle.bits.proofs.Joined.{fixed-bits}
-use Rattle.lent.specs.Bands.{blankBand}
+use Rattle.rows.specs.Bands.{blankBand}
 use Rattle.chain.specs.declared.Far.{Far}
 use Rattle.chain.specs.declared.Far.the-variants.{To, Nowhere}
 use Rattle.chain.specs.Chain.{Plain}

@@ -13,7 +13,7 @@ use Rattle.rule.specs.declared.Rule.{Rule}
 use Rattle.rule.specs.Meaning.{AllLawful, fits}
 use Rattle.band.specs.declared.Band.{Band}
 use Rattle.bits.specs.declared.Fixed.{Fixed}
-use Rattle.lent.specs.OfRules.{OfLawful}
+use Rattle.rows.specs.OfRules.{OfLawful}
 use Rattle.verdict.specs.Kept.{kept}
 use Rattle.verdict.proofs.Right.{kept-right}
 use Rattle.chain.specs.declared.Link.{Link}

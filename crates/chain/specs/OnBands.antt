@@ -9,7 +9,7 @@ use Rattle.band.specs.declared.Band.{Band}
 use Rattle.band.specs.Band.{holds}
 use Rattle.bits.specs.declared.Fixed.{Fixed}
 use Rattle.bits.specs.Fixed.{hasBits}
-use Rattle.lent.specs.Bands.{blankBand}
+use Rattle.rows.specs.Bands.{blankBand}
 use Rattle.chain.specs.declared.Far.{Far}
 use Rattle.chain.specs.declared.Far.the-variants.{Nowhere}
 use Rattle.chain.specs.declared.Link.{Link}

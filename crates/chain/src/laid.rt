@@ -1,12 +1,13 @@
-// The chain written from bands that lie in lent arrays.
+// The chain written from bands that lie in lent rows.
 ghost use mathlib.Core.Path.{_≡_};
 ghost use mathlib.Core.List.{List, _++_};
 ghost use Prim.Native.Nat.{_*_, _≤_};
 ghost use lib.ListN.{drop, length, take};
 ghost use Rattle.word.specs.Word.{IsWidth, top};
 ghost use Rattle.rule.specs.declared.Rule.{Rule as RuleOf};
-ghost use Rattle.lent.specs.Lent.{Lie, zipped};
-ghost use Rattle.lent.specs.OfRules.{OfLawful};
+ghost use Rattle.rows.specs.Bands.{Lie};
+ghost use Rattle.rows.specs.OfRules.{OfLawful};
+ghost use Rattle.rows.specs.Rows.{bandsIn};
 ghost use Rattle.verdict.specs.Kept.{kept};
 ghost use Rattle.chain.specs.Links.{chainRoom, links, numbersOf};
 use crate::Link;
@@ -17,25 +18,23 @@ use word::Width;
 
 // Writes the chain of the first n bands and the bits, which no word passes, three numbers a link, and says how many links it has.
 pub fn write(
-    from: &[u64; Rule::LIMIT],
-    to: &[u64; Rule::LIMIT],
-    side: &[bool; Rule::LIMIT],
+    rows: &[[u64; rows::NUMBERS]; Rule::LIMIT],
     n: usize,
     fixed: Fixed,
     width: Width,
     out: &mut [u64],
 ) -> usize
     requires { ⌜ IsWidth (width .bits) ⌝ }
-    requires { ⌜ Lie (top (width .bits)) n (zipped (now from) (now to) (now side)) ⌝ }
-    requires { ⌜ ((rs : List RuleOf) × OfLawful (width .bits) (take n (zipped (now from) (now to) (now side))) fixed rs × (kept (width .bits) rs .verdict ≡ 0)) ⌝ }
+    requires { ⌜ Lie (top (width .bits)) n (bandsIn (now rows)) ⌝ }
+    requires { ⌜ ((rs : List RuleOf) × OfLawful (width .bits) (take n (bandsIn (now rows))) fixed rs × (kept (width .bits) rs .verdict ≡ 0)) ⌝ }
     requires { ⌜ chainRoom n ≤ length (now out) ⌝ }
-    ensures { λ r. ⌜ ((rs : List RuleOf) → OfLawful (width .bits) (take n (zipped (now (from .entry)) (now (to .entry)) (now (side .entry)))) fixed rs → kept (width .bits) rs .verdict ≡ 0 → (r ≡ length (links (width .bits) rs)) × (now (out .exit) ≡ numbersOf (links (width .bits) rs) ++ drop (3 * r) (now (out .entry)))) ⌝ }
+    ensures { λ r. ⌜ ((rs : List RuleOf) → OfLawful (width .bits) (take n (bandsIn (now (rows .entry)))) fixed rs → kept (width .bits) rs .verdict ≡ 0 → (r ≡ length (links (width .bits) rs)) × (now (out .exit) ≡ numbersOf (links (width .bits) rs) ++ drop (3 * r) (now (out .entry)))) ⌝ }
 {
     let top = width.top();
     let mut count = 0;
     let mut p = 0;
     loop {
-        let link = step::link_at(from, to, side, n, fixed, width, p);
+        let link = step::link_at(rows, n, fixed, width, p);
         step::put(&mut *out, Link::NUMBERS * count, link);
         count += 1;
         if link.to == top {

@@ -3,7 +3,8 @@ ghost use mathlib.Core.Path.{_≡_};
 ghost use Prim.Native.Nat.{_≤_};
 ghost use lib.ListN.{take};
 ghost use Rattle.word.specs.Word.{IsWidth, top};
-ghost use Rattle.lent.specs.Lent.{Lie, zipped};
+ghost use Rattle.rows.specs.Bands.{Lie};
+ghost use Rattle.rows.specs.Rows.{bandsIn};
 ghost use Rattle.chain.specs.Links.{further};
 ghost use Rattle.chain.specs.OnBands.{furthestBand};
 use crate::Far;
@@ -30,23 +31,16 @@ impl Far {
 }
 
 // The furthest reach from p of the first n bands, and that band's number, the lowest on a tie.
-pub fn furthest(
-    from: &[u64; Rule::LIMIT],
-    to: &[u64; Rule::LIMIT],
-    side: &[bool; Rule::LIMIT],
-    n: usize,
-    width: Width,
-    p: u64,
-) -> Far
+pub fn furthest(rows: &[[u64; rows::NUMBERS]; Rule::LIMIT], n: usize, width: Width, p: u64) -> Far
     requires { ⌜ IsWidth (width .bits) ⌝ }
-    requires { ⌜ Lie (top (width .bits)) n (zipped (now from) (now to) (now side)) ⌝ }
+    requires { ⌜ Lie (top (width .bits)) n (bandsIn (now rows)) ⌝ }
     requires { ⌜ p ≤ top (width .bits) ⌝ }
-    ensures { λ r. ⌜ r ≡ furthestBand (take n (zipped (now (from .entry)) (now (to .entry)) (now (side .entry)))) (top (width .bits)) p ⌝ }
+    ensures { λ r. ⌜ r ≡ furthestBand (take n (bandsIn (now (rows .entry)))) (top (width .bits)) p ⌝ }
 {
     let top = width.top();
     let mut far = Far::Nowhere;
     for i in 0..n {
-        let band = lent::band_at(from, to, side, i, false, top);
+        let band = rows::band_at(rows, i, false, top);
         if !band.holds(p) {
             far = far.further(band.run(top, p).to, i as u64);
         }

@@ -5,7 +5,8 @@ ghost use Prim.Native.Nat.{_+_, _≤_};
 ghost use lib.ListN.{drop, length, take};
 ghost use Rattle.word.specs.Word.{IsWidth, top};
 ghost use Rattle.bits.specs.Fixed.{Tidy};
-ghost use Rattle.lent.specs.Lent.{Lie, zipped};
+ghost use Rattle.rows.specs.Bands.{Lie};
+ghost use Rattle.rows.specs.Rows.{bandsIn};
 ghost use Rattle.chain.specs.Links.{linkFrom};
 ghost use Rattle.chain.specs.OnBands.{gapOn, linkOn};
 use crate::Far;
@@ -18,20 +19,18 @@ use word::Width;
 
 // The link at p. Where it names a rule it starts where that rule's run of failing words starts.
 pub fn link_at(
-    from: &[u64; Rule::LIMIT],
-    to: &[u64; Rule::LIMIT],
-    side: &[bool; Rule::LIMIT],
+    rows: &[[u64; rows::NUMBERS]; Rule::LIMIT],
     n: usize,
     fixed: Fixed,
     width: Width,
     p: u64,
 ) -> Link
     requires { ⌜ IsWidth (width .bits) ⌝ }
-    requires { ⌜ Lie (top (width .bits)) n (zipped (now from) (now to) (now side)) ⌝ }
+    requires { ⌜ Lie (top (width .bits)) n (bandsIn (now rows)) ⌝ }
     requires { ⌜ Tidy fixed × (p ≤ top (width .bits)) ⌝ }
-    ensures { λ r. ⌜ r ≡ linkOn (take n (zipped (now (from .entry)) (now (to .entry)) (now (side .entry)))) fixed (top (width .bits)) p ⌝ }
+    ensures { λ r. ⌜ r ≡ linkOn (take n (bandsIn (now (rows .entry)))) fixed (top (width .bits)) p ⌝ }
 {
-    let Far::To { reach, rule } = reach::furthest(from, to, side, n, width, p) else {
+    let Far::To { reach, rule } = reach::furthest(rows, n, width, p) else {
         return Link {
             from: p,
             to: gap(fixed, width, p),
@@ -39,7 +38,7 @@ pub fn link_at(
         };
     };
     let top = width.top();
-    let band = lent::band_at(from, to, side, rule as usize, false, top);
+    let band = rows::band_at(rows, rule as usize, false, top);
     let run = band.run(top, p);
     Link {
         from: run.from,

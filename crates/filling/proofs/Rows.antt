@@ -11,7 +11,7 @@ use Rattle.word.proofs.Searched.{First}
 use Rattle.band.specs.declared.Band.{Band}
 use Rattle.bits.specs.declared.Fixed.{Fixed}
 use Rattle.bits.specs.Fixed.{hasBits}
-use Rattle.lent.specs.Bands.{passes}
+use Rattle.rows.specs.Bands.{passes}
 use Rattle.section.specs.declared.Section.{Section}
 use Rattle.section.proofs.Alike.{Alike, failing-passes, held-passes}
 use Rattle.fitting.specs.Words.{atStart}

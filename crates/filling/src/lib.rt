@@ -6,42 +6,38 @@ ghost use lib.ListN.{length, take};
 ghost use Rattle.word.specs.Search.{passing};
 ghost use Rattle.word.specs.Word.{IsWidth, top};
 ghost use Rattle.bits.specs.Fixed.{Tidy};
-ghost use Rattle.lent.specs.Bands.{passes};
-ghost use Rattle.lent.specs.Lent.{Lie, zipped};
+ghost use Rattle.rows.specs.Bands.{Lie, passes};
+ghost use Rattle.rows.specs.Rows.{bandsIn};
 ghost use Rattle.fitting.specs.Words.{atStart};
 ghost use Rattle.filling.specs.Put.{putAt, sectionWords};
 use bits::Fixed;
-use lent_head::Head;
 use rule::Rule;
 use section::Section;
 use word::Found;
 use word::Width;
 
-// Writes the words from a start on that the bands in force hold and that have the bits, as many as the buffer holds, and says how many.
+// Writes the words from a start on that the first n bands hold and that have the bits, as many as the buffer holds, and says how many.
 // It looks at no more sections than there can be.
 pub fn fill(
-    head: Head,
-    from: &[u64; Rule::LIMIT],
-    to: &[u64; Rule::LIMIT],
-    side: &[bool; Rule::LIMIT],
+    rows: &[[u64; rows::NUMBERS]; Rule::LIMIT],
+    n: usize,
+    fixed: Fixed,
+    width: Width,
     start: u64,
     out: &mut [u64],
 ) -> usize
-    requires { ⌜ IsWidth (head .width) ⌝ }
-    requires { ⌜ (start ≤ top (head .width)) × Lie (top (head .width)) (head .count) (zipped (now from) (now to) (now side)) ⌝ }
-    requires { ⌜ Tidy (head .fixed) ⌝ }
-    ensures { λ r. ⌜ r ≡ length (take (length (now (out .entry))) (passing (passes (take (head .count) (zipped (now (from .entry)) (now (to .entry)) (now (side .entry)))) (head .fixed)) (suc (top (head .width)) - start) start)) ⌝ }
-    ensures { λ _. ⌜ now (out .exit) ≡ atStart (take (length (now (out .entry))) (passing (passes (take (head .count) (zipped (now (from .entry)) (now (to .entry)) (now (side .entry)))) (head .fixed)) (suc (top (head .width)) - start) start)) (now (out .entry)) ⌝ }
+    requires { ⌜ IsWidth (width .bits) ⌝ }
+    requires { ⌜ (start ≤ top (width .bits)) × Lie (top (width .bits)) n (bandsIn (now rows)) ⌝ }
+    requires { ⌜ Tidy fixed ⌝ }
+    ensures { λ r. ⌜ r ≡ length (take (length (now (out .entry))) (passing (passes (take n (bandsIn (now (rows .entry)))) fixed) (suc (top (width .bits)) - start) start)) ⌝ }
+    ensures { λ _. ⌜ now (out .exit) ≡ atStart (take (length (now (out .entry))) (passing (passes (take n (bandsIn (now (rows .entry)))) fixed) (suc (top (width .bits)) - start) start)) (now (out .entry)) ⌝ }
 {
-    let width = Width { bits: head.width };
-    let n = head.count;
-    let fixed = head.fixed;
     let top = width.top();
     let most = section::most(n);
     let mut p = start;
     let mut at = 0;
     for _ in 0..most {
-        let section = section::at(from, to, side, n, top, p);
+        let section = section::at(rows, n, top, p);
         at = row(section, fixed, width, p, &mut *out, at);
         if section.to == top {
             return at;

@@ -12,7 +12,7 @@ use Rattle.band.specs.declared.Band.{Band}
 use Rattle.band.specs.Band.{allHold, holds}
 use Rattle.bits.specs.declared.Fixed.{Fixed}
 use Rattle.bits.specs.Fixed.{hasBits}
-use Rattle.lent.specs.Bands.{passes}
+use Rattle.rows.specs.Bands.{passes}
 use Rattle.section.specs.declared.Section.{Section}
 use Rattle.section.specs.Section.{section, sectionAt}
 use Rattle.section.specs.Sides.{firstFailing, someFails}

@@ -19,7 +19,7 @@ use Rattle.word.proofs.Tests.{both-pass}
 use Rattle.band.specs.declared.Band.{Band}
 use Rattle.band.specs.Band.{AllLaid, Laid, allHold, holds, otherSide}
 use Rattle.band.proofs.Runs.{edge, run-ends}
-use Rattle.lent.specs.Lent.{Lie}
+use Rattle.rows.specs.Bands.{Lie}
 use Rattle.section.specs.declared.Section.{Section}
 use Rattle.section.specs.Section.{sectionAt}
 use Rattle.section.specs.Sides.{fails, firstFailing, someFails}
@@ -115,7 +115,7 @@ section-fewer t bs p word = go (allHold bs p) refl
         (λ d. ⊎-elim (λ s. absurd (d s))
         (λ s. starts t p _ (c .order) (omega (arith, c .bound)) bs e (all-miss (holds (firstFailing bs p)) c (first-fails bs p e) _ (c .order) (omega arith)) s) (c .stop))
 
--- the same of bands that lie in arrays, and of a section that was found
+-- the same of bands that lie in rows, and of a section that was found
 pub few-turns : {t n : ℕ} {bands : List Band} → Lie t n bands → (p : ℕ) → 0 + turnsFrom t (take n bands) p ≤ 2 * n
 few-turns {t} {n} {bands} l p =
     omega (arith, turns-few t (take n bands) p (l .laid), length-take-le n bands (omega (arith, l .places, l .count)))

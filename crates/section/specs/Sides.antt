@@ -4,7 +4,7 @@ use mathlib.Core.List.{List, [], _∷_}
 use Prim.Native.Nat.{ℕ}
 use Rattle.band.specs.declared.Band.{Band}
 use Rattle.band.specs.Band.{allHold, holds}
-use Rattle.lent.specs.Bands.{blankBand}
+use Rattle.rows.specs.Bands.{blankBand}
 
 -- the band fails the word x
 unfoldable pub fails : Band → ℕ → Bool

@@ -6,7 +6,8 @@ ghost use lib.ListN.{take};
 ghost use Rattle.rule.specs.Meaning.{RULES};
 ghost use Rattle.word.specs.Search.{climb};
 ghost use Rattle.band.specs.Band.{Laid, holds};
-ghost use Rattle.lent.specs.Lent.{Lie, zipped};
+ghost use Rattle.rows.specs.Bands.{Lie};
+ghost use Rattle.rows.specs.Rows.{bandsIn};
 ghost use Rattle.section.specs.Section.{sectionAt};
 ghost use Rattle.section.specs.Turns.{mostSections};
 ghost use Rattle.section.specs.Sides.{fails};
@@ -21,20 +22,13 @@ pub struct Section {
 
 // The section from p on, by the first n bands: to the end of the run of the first band that fails p, or where none does to the last
 // word before one of them stops to hold.
-pub fn at(
-    from: &[u64; Rule::LIMIT],
-    to: &[u64; Rule::LIMIT],
-    side: &[bool; Rule::LIMIT],
-    n: usize,
-    top: u64,
-    p: u64,
-) -> Section
-    requires { ⌜ (p ≤ top) × Lie top n (zipped (now from) (now to) (now side)) ⌝ }
-    ensures { λ r. ⌜ r ≡ sectionAt top (take n (zipped (now (from .entry)) (now (to .entry)) (now (side .entry)))) p ⌝ }
+pub fn at(rows: &[[u64; rows::NUMBERS]; Rule::LIMIT], n: usize, top: u64, p: u64) -> Section
+    requires { ⌜ (p ≤ top) × Lie top n (bandsIn (now rows)) ⌝ }
+    ensures { λ r. ⌜ r ≡ sectionAt top (take n (bandsIn (now (rows .entry)))) p ⌝ }
 {
     let mut end = top;
     for i in 0..n {
-        let band = lent::band_at(from, to, side, i, false, top);
+        let band = rows::band_at(rows, i, false, top);
         if !band.holds(p) {
             return Section {
                 held: false,

@@ -5,8 +5,8 @@ ghost use lib.ListN.{take};
 ghost use Rattle.word.specs.Word.{IsWidth, top};
 ghost use Rattle.word.specs.Search.{count};
 ghost use Rattle.bits.specs.Fixed.{Tidy};
-ghost use Rattle.lent.specs.Bands.{passes};
-ghost use Rattle.lent.specs.Lent.{Lie, zipped};
+ghost use Rattle.rows.specs.Bands.{Lie, passes};
+ghost use Rattle.rows.specs.Rows.{bandsIn};
 ghost use Rattle.tally.specs.Total.{totals};
 use bits::Fixed;
 use rule::Rule;
@@ -22,24 +22,22 @@ pub struct Total {
 
 // How many words the first n bands hold that have the bits. It looks at no more sections than n bands can have, whatever the width.
 pub fn words(
-    from: &[u64; Rule::LIMIT],
-    to: &[u64; Rule::LIMIT],
-    side: &[bool; Rule::LIMIT],
+    rows: &[[u64; rows::NUMBERS]; Rule::LIMIT],
     n: usize,
     fixed: Fixed,
     width: Width,
 ) -> Total
     requires { ⌜ IsWidth (width .bits) ⌝ }
-    requires { ⌜ Lie (top (width .bits)) n (zipped (now from) (now to) (now side)) ⌝ }
+    requires { ⌜ Lie (top (width .bits)) n (bandsIn (now rows)) ⌝ }
     requires { ⌜ Tidy fixed ⌝ }
-    ensures { λ r. ⌜ r ≡ totals (count (passes (take n (zipped (now (from .entry)) (now (to .entry)) (now (side .entry)))) fixed) (suc (top (width .bits))) 0) ⌝ }
+    ensures { λ r. ⌜ r ≡ totals (count (passes (take n (bandsIn (now (rows .entry)))) fixed) (suc (top (width .bits))) 0) ⌝ }
 {
     let top = width.top();
     let most = section::most(n);
     let mut total = Total::none();
     let mut p = 0;
     for _ in 0..most {
-        let section = section::at(from, to, side, n, top, p);
+        let section = section::at(rows, n, top, p);
         if section.held {
             total = total.with(fixed, p, section.to);
         }

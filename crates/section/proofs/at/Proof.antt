@@ -14,9 +14,9 @@ use lib.Seq.{drop-cons, getD-take, length-take-le}
 use Rattle.word.specs.Search.{climb}
 use Rattle.band.specs.declared.Band.{Band}
 use Rattle.band.specs.Band.{Laid, holds}
-use Rattle.lent.specs.Bands.{blankBand}
-use Rattle.lent.specs.Lent.{seen, zipped}
-use Rattle.lent.proofs.Steps.{laid-take}
+use Rattle.rows.specs.Bands.{blankBand, seen}
+use Rattle.rows.specs.Rows.{bandsIn}
+use Rattle.rows.proofs.Reading.{laid-take}
 use Rattle.section.specs.Section.{section}
 use Rattle.section.specs.Sides.{fails}
 use Rattle.section.proofs.Scan.{scan, scan-all, scan-fails, scan-held, scan-none}
@@ -24,11 +24,11 @@ use Rattle.section.proofs.at.Statement.{statement}
 use Rattle.section.proofs.at.Tie as tie
 
 abbrev Inv-loop : tie.InvT-loop
-Inv-loop from to side n top p end₀ i₀ end i =
-    (i ≤ n) × (end ≤ top) × (scan top p (drop i (take n (zipped from to side))) end ≡ scan top p (take n (zipped from to side)) top)
+Inv-loop rows n top p end₀ i₀ end i =
+    (i ≤ n) × (end ≤ top) × (scan top p (drop i (take n (bandsIn rows))) end ≡ scan top p (take n (bandsIn rows)) top)
 
 abbrev μ-loop : tie.MeasureT-loop
-μ-loop from to side n top p end₀ i₀ end i = n - i
+μ-loop rows n top p end₀ i₀ end i = n - i
 
 loop-holds : tie.Need-loop-holds Inv-loop μ-loop
 loop-holds c = (omega arith, omega arith, refl)
@@ -41,7 +41,7 @@ abbrev start : Inner → tie.Start Inv-loop μ-loop
 start a = a .before
 
 abbrev lying : Inner → List Band
-lying a = zipped (start a .args .from .now) (start a .args .to .now) (start a .args .side .now)
+lying a = bandsIn (start a .args .rows .now)
 
 abbrev bands : Inner → List Band
 bands a = take (start a .args .n) (lying a)
@@ -57,7 +57,7 @@ band-at-requires : tie.Need-band-at-requires Inv-loop μ-loop
 band-at-requires c κs =
     let a = c .before in
     let l = start a .pre .1 in
-    ((omega (arith, l .count), omega (arith, long a)), one-laid a (omega arith))
+    (omega (arith, l .count), one-laid a (omega arith))
 
 -- the band that was read
 abbrev Read : Type 0

@@ -12,8 +12,8 @@ use Rattle.word.specs.Search.{count}
 use Rattle.word.specs.Word.{top}
 use Rattle.band.specs.declared.Band.{Band}
 use Rattle.bits.specs.Fixed.{hasBits}
-use Rattle.lent.specs.Bands.{passes}
-use Rattle.lent.specs.Lent.{Lie, zipped}
+use Rattle.rows.specs.Bands.{Lie, passes}
+use Rattle.rows.specs.Rows.{bandsIn}
 use Rattle.section.specs.Turns.{turnsFrom}
 use Rattle.section.proofs.Alike.{Alike, section-alike}
 use Rattle.section.proofs.Fewer.{few-turns, fewer-turns}
@@ -25,13 +25,13 @@ use Rattle.tally.proofs.words.Statement.{statement}
 use Rattle.tally.proofs.words.Tie as tie
 
 abbrev Inv-loop : tie.InvT-loop
-Inv-loop from to side n fixed top most total₀ p₀ counter₀ total p counter =
+Inv-loop rows n fixed top most total₀ p₀ counter₀ total p counter =
     (p ≤ top)
-    × (total ≡ totals (count (passes (take n (zipped from to side)) fixed) p 0))
-    × (counter + turnsFrom top (take n (zipped from to side)) p ≤ 2 * n)
+    × (total ≡ totals (count (passes (take n (bandsIn rows)) fixed) p 0))
+    × (counter + turnsFrom top (take n (bandsIn rows)) p ≤ 2 * n)
 
 abbrev μ-loop : tie.MeasureT-loop
-μ-loop from to side n fixed top most total₀ p₀ counter₀ total p counter = most - counter
+μ-loop rows n fixed top most total₀ p₀ counter₀ total p counter = most - counter
 
 -- what is known in the loop
 abbrev Inner : Type 0
@@ -44,7 +44,7 @@ abbrev highest : Inner → ℕ
 highest a = a .before .before .before .top .result
 
 abbrev lying : Inner → List Band
-lying a = zipped (start a .args .from .now) (start a .args .to .now) (start a .args .side .now)
+lying a = bandsIn (start a .args .rows .now)
 
 abbrev bands : Inner → List Band
 bands a = take (start a .args .n) (lying a)
@@ -67,7 +67,7 @@ unfolding count
 loop-holds c =
     let o = c .before .before in
     let s = o .before in
-    let lies = subst (λ (t : ℕ). Lie t (s .args .n) (zipped (s .args .from .now) (s .args .to .now) (s .args .side .now))) (sym (o .top .ensures)) (s .pre .1 .0) in
+    let lies = subst (λ (t : ℕ). Lie t (s .args .n) (bandsIn (s .args .rows .now))) (sym (o .top .ensures)) (s .pre .1 .0) in
     (omega arith, c .none .ensures, few-turns lies 0)
 
 lie : (a : Inner) → Lie (highest a) (start a .args .n) (lying a)

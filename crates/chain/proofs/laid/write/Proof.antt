@@ -15,18 +15,18 @@ use Rattle.bits.specs.Fixed.{Tidy}
 use Rattle.bits.proofs.Joined.{fixed-tidy}
 use Rattle.chain.specs.Links.{linkAt}
 use Rattle.chain.proofs.Walk.{Walked, link-order, none-fits, own-link, walk-end, walk-on, walk-room, walk-start}
-use Rattle.lent.specs.Lent.{zipped}
-use Rattle.lent.specs.OfRules.{OfLawful}
+use Rattle.rows.specs.Rows.{bandsIn}
+use Rattle.rows.specs.OfRules.{OfLawful}
 use Rattle.verdict.specs.Kept.{kept}
 use Rattle.chain.proofs.laid.write.Statement.{statement}
 use Rattle.chain.proofs.laid.write.Tie as tie
 
 abbrev Inv-loop : tie.InvT-loop
-Inv-loop from to side n fixed width out₀ t count₀ p₀ out count p =
-    (p ≤ t) × (length out ≡ length out₀) × ((rs : List Rule) → OfLawful (width .bits) (take n (zipped from to side)) fixed rs → kept (width .bits) rs .verdict ≡ 0 → Walked (width .bits) rs out₀ out count p)
+Inv-loop rows n fixed width out₀ t count₀ p₀ out count p =
+    (p ≤ t) × (length out ≡ length out₀) × ((rs : List Rule) → OfLawful (width .bits) (take n (bandsIn rows)) fixed rs → kept (width .bits) rs .verdict ≡ 0 → Walked (width .bits) rs out₀ out count p)
 
 abbrev μ-loop : tie.MeasureT-loop
-μ-loop from to side n fixed width out₀ t count₀ p₀ out count p = t - p
+μ-loop rows n fixed width out₀ t count₀ p₀ out count p = t - p
 
 abbrev Loop : Type 0
 Loop = tie.At-loop Inv-loop μ-loop
@@ -34,9 +34,9 @@ Loop = tie.At-loop Inv-loop μ-loop
 abbrev start : Loop → tie.Start Inv-loop μ-loop
 start l = l .before .before .before
 
--- the bands that lie in the arrays, and rules that they are those of
+-- the bands that lie in the rows, and rules that they are those of
 abbrev lying : Loop → List Band
-lying l = zipped (start l .args .from .now) (start l .args .to .now) (start l .args .side .now)
+lying l = bandsIn (start l .args .rows .now)
 
 abbrev own : Loop → List Rule
 own l = start l .pre .1 .1 .0 .0

@@ -11,22 +11,22 @@ use borrow.Author.Tests.{not-false, not-true}
 use lib.ListN.{getD, length, take}
 use Rattle.band.specs.Band.{Laid}
 use Rattle.band.specs.declared.Band.{Band}
-use Rattle.lent.proofs.Steps.{laid-take}
-use Rattle.lent.specs.Bands.{blankBand}
+use Rattle.rows.proofs.Reading.{laid-take}
+use Rattle.rows.specs.Bands.{blankBand, seen}
 use Rattle.chain.specs.declared.Far.{Far}
 use Rattle.chain.specs.Links.{further}
 use Rattle.chain.specs.OnBands.{furtherBand, furthestBand, furthestBandOf}
 use Rattle.chain.proofs.OnBands.{far-kept, far-new, furthest-suc}
-use Rattle.lent.specs.Lent.{seen, zipped}
+use Rattle.rows.specs.Rows.{bandsIn}
 use Rattle.rule.specs.Meaning.{RULES}
 use Rattle.chain.proofs.reach.furthest.Statement.{statement}
 use Rattle.chain.proofs.reach.furthest.Tie as tie
 
 abbrev Inv-loop : tie.InvT-loop
-Inv-loop from to side n p t far₀ i₀ far i = (i ≤ n) × (far ≡ furthestBand (take i (zipped from to side)) t p)
+Inv-loop rows n p t far₀ i₀ far i = (i ≤ n) × (far ≡ furthestBand (take i (bandsIn rows)) t p)
 
 abbrev μ-loop : tie.MeasureT-loop
-μ-loop from to side n p t far₀ i₀ far i = n - i
+μ-loop rows n p t far₀ i₀ far i = n - i
 
 top-requires : tie.Need-top-requires Inv-loop μ-loop
 top-requires c κs = search needs
@@ -38,9 +38,9 @@ loop-holds c = (omega arith, refl)
 abbrev Loop : Type 0
 Loop = tie.At-loop Inv-loop μ-loop
 
--- the bands that lie in the arrays
+-- the bands that lie in the rows
 abbrev lying : Loop → List Band
-lying l = let s = l .before .before in zipped (s .args .from .now) (s .args .to .now) (s .args .side .now)
+lying l = let s = l .before .before in bandsIn (s .args .rows .now)
 
 long : (l : Loop) → length (lying l) ≡ RULES
 long l = l .before .before .pre .1 .0 .places
@@ -56,7 +56,7 @@ band-at-requires c κs =
     let l = c .before in
     let h : l .loop .i < l .before .before .args .n = omega arith in
     let few = l .before .before .pre .1 .0 .count in
-    ((omega arith, omega (arith, long l)), one-laid l h)
+    (omega arith, one-laid l h)
 
 read : (c : tie.After-band-at Inv-loop μ-loop) → c .band-at .result ≡ getD (lying (c .before .before)) (c .before .before .loop .i) blankBand
 unfolding seen

@@ -12,9 +12,9 @@ use Rattle.word.specs.Word.{top}
 use Rattle.word.specs.Search.{sink}
 use Rattle.band.specs.Band.{Laid, holds}
 use Rattle.band.specs.declared.Band.{Band}
-use Rattle.lent.specs.Bands.{blankBand}
-use Rattle.lent.specs.Lent.{seen, zipped}
-use Rattle.lent.proofs.Steps.{laid-take}
+use Rattle.rows.specs.Bands.{blankBand, seen}
+use Rattle.rows.specs.Rows.{bandsIn}
+use Rattle.rows.proofs.Reading.{laid-take}
 use Rattle.chain.specs.Links.{link, linkBy}
 use Rattle.chain.specs.OnBands.{gapOn, linkOn}
 use Rattle.chain.proofs.OnBands.{Failing, furthest-fails}
@@ -42,12 +42,12 @@ returns c =
 top-requires : tie.Need-top-requires
 top-requires c κs = search needs
 
--- where a band reaches furthest: the call, the bands that lie in the arrays, and the place of that band
+-- where a band reaches furthest: the call, the bands that lie in the rows, and the place of that band
 abbrev start : tie.After-reach → tie.Start
 start r = r .before .before .before
 
 abbrev lying : tie.After-reach → List Band
-lying r = zipped (start r .args .from .now) (start r .args .to .now) (start r .args .side .now)
+lying r = bandsIn (start r .args .rows .now)
 
 abbrev place : tie.After-reach → ℕ
 place r = r .reach .given .0 .1 .0
@@ -74,7 +74,7 @@ band-at-requires : tie.Need-band-at-requires
 band-at-requires c κs =
     let r = c .before .before in
     let h = start r .pre .1 .0 in
-    ((omega (arith, fails r .0, h .count), omega (arith, fails r .0, h .places, h .count)), laid r _ (c .top .ensures))
+    (omega (arith, fails r .0, h .count), laid r _ (c .top .ensures))
 
 read : (c : tie.After-band-at) → c .band-at .result ≡ chosen (c .before .before .before)
 unfolding seen
