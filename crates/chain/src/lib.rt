@@ -1,20 +1,35 @@
 // The chain of links from zero to the top word that shows why no word fits.
 ghost use mathlib.Core.Path.{_≡_};
-ghost use Prim.Native.Nat.{_≤_};
+ghost use mathlib.Core.List.{_++_, _∷_};
+ghost use Prim.Native.Nat.{_+_, _≤_};
+ghost use lib.ListN.{drop, length, take};
 ghost use Rattle.rule.specs.Meaning.{RULES};
-ghost use Rattle.chain.specs.Links.{chainRoom};
-
-pub mod laid;
-mod reach;
-mod step;
-
+ghost use Rattle.chain.specs.Links.{chainRoom, further, linkFrom};
 use rule::Rule;
-pub use step::link_from;
 
 // The furthest that a rule outside form 7 reaches from a word that fails it, and that rule's number.
 pub enum Far {
     To { reach: u64, rule: u64 },
     Nowhere,
+}
+
+impl Far {
+    // This, or a rule that reaches further.
+    pub fn further(self, reach: u64, rule: u64) -> Far
+        ensures { λ r. ⌜ r ≡ further self reach rule ⌝ }
+    {
+        let Far::To {
+            reach: best,
+            rule: _,
+        } = self
+        else {
+            return Far::To { reach, rule };
+        };
+        if best < reach {
+            return Far::To { reach, rule };
+        }
+        self
+    }
 }
 
 // The words from one to another, and why they fail: a rule's number, or 255.
@@ -46,4 +61,26 @@ pub fn room(n: usize) -> usize
     ensures { λ r. ⌜ r ≡ chainRoom n ⌝ }
 {
     Link::NUMBERS * (Link::PER_RULE * n + 1)
+}
+
+// Writes a link's three numbers.
+pub fn put(out: &mut [u64], at: usize, link: Link)
+    requires { ⌜ at + 3 ≤ length (now out) ⌝ }
+    ensures { λ _. ⌜ now (out .exit) ≡ take at (now (out .entry)) ++ link .from ∷ link .to ∷ link .reason ∷ drop (at + 3) (now (out .entry)) ⌝ }
+{
+    out[at] = link.from;
+    out[at + 1] = link.to;
+    out[at + 2] = link.reason;
+}
+
+// The link whose three numbers stand at a place.
+pub fn link_from(numbers: &[u64], at: usize) -> Link
+    requires { ⌜ at + 3 ≤ length (now numbers) ⌝ }
+    ensures { λ r. ⌜ r ≡ linkFrom (now (numbers .entry)) at ⌝ }
+{
+    Link {
+        from: numbers[at],
+        to: numbers[at + 1],
+        reason: numbers[at + 2],
+    }
 }

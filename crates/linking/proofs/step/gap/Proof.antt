@@ -3,10 +3,10 @@ use mathlib.Core.Path.{sym, ap, _∙_}
 use native.Mathlib.Omega.{arith}
 use borrow.Author.Needs.{needs}
 use Rattle.word.proofs.Searched.{first-is}
 use Rattle.chain.specs.Links.{before}
 use Rattle.chain.proofs.OnBands.{gap-next, gap-top}
-use Rattle.chain.proofs.step.gap.Statement.{statement}
-use Rattle.chain.proofs.step.gap.Tie as tie
+use Rattle.linking.proofs.step.gap.Statement.{statement}
+use Rattle.linking.proofs.step.gap.Tie as tie
 
 top-requires : tie.Need-top-requires
 top-requires c κs = search needs

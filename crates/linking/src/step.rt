@@ -1,18 +1,16 @@
-// One link: where it starts and ends, why, and how it is written.
+// One link: where it starts and ends, and why.
 ghost use mathlib.Core.Path.{_≡_};
-ghost use mathlib.Core.List.{_++_, _∷_};
-ghost use Prim.Native.Nat.{_+_, _≤_};
-ghost use lib.ListN.{drop, length, take};
+ghost use Prim.Native.Nat.{_≤_};
+ghost use lib.ListN.{take};
 ghost use Rattle.word.specs.Word.{IsWidth, top};
 ghost use Rattle.bits.specs.Fixed.{Tidy};
 ghost use Rattle.rows.specs.Bands.{Lie};
 ghost use Rattle.rows.specs.Rows.{bandsIn};
-ghost use Rattle.chain.specs.Links.{linkFrom};
 ghost use Rattle.chain.specs.OnBands.{gapOn, linkOn};
-use crate::Far;
-use crate::Link;
 use crate::reach;
 use bits::Fixed;
+use chain::Far;
+use chain::Link;
 use rule::Rule;
 use word::Found;
 use word::Width;
@@ -61,26 +59,4 @@ pub fn gap(fixed: Fixed, width: Width, p: u64) -> u64
         return top;
     };
     x - 1
-}
-
-// Writes a link's three numbers.
-pub fn put(out: &mut [u64], at: usize, link: Link)
-    requires { ⌜ at + 3 ≤ length (now out) ⌝ }
-    ensures { λ _. ⌜ now (out .exit) ≡ take at (now (out .entry)) ++ link .from ∷ link .to ∷ link .reason ∷ drop (at + 3) (now (out .entry)) ⌝ }
-{
-    out[at] = link.from;
-    out[at + 1] = link.to;
-    out[at + 2] = link.reason;
-}
-
-// The link whose three numbers stand at a place.
-pub fn link_from(numbers: &[u64], at: usize) -> Link
-    requires { ⌜ at + 3 ≤ length (now numbers) ⌝ }
-    ensures { λ r. ⌜ r ≡ linkFrom (now (numbers .entry)) at ⌝ }
-{
-    Link {
-        from: numbers[at],
-        to: numbers[at + 1],
-        reason: numbers[at + 2],
-    }
 }

@@ -6,8 +6,8 @@ use native.Mathlib.Omega.{arith}
 use borrow.Author.Needs.{needs}
 use lib.ListN.{drop, length, length-set, set, take}
 use lib.Seq.{sets-eq}
-use Rattle.chain.proofs.step.put.Statement.{statement}
-use Rattle.chain.proofs.step.put.Tie as tie
+use Rattle.chain.proofs.put.Statement.{statement}
+use Rattle.chain.proofs.put.Tie as tie
 
 mul-out : tie.Need-mul-out
 mul-out c = search needs

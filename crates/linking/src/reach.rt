@@ -5,30 +5,10 @@ ghost use lib.ListN.{take};
 ghost use Rattle.word.specs.Word.{IsWidth, top};
 ghost use Rattle.rows.specs.Bands.{Lie};
 ghost use Rattle.rows.specs.Rows.{bandsIn};
-ghost use Rattle.chain.specs.Links.{further};
 ghost use Rattle.chain.specs.OnBands.{furthestBand};
-use crate::Far;
+use chain::Far;
 use rule::Rule;
 use word::Width;
-
-impl Far {
-    // This, or a rule that reaches further.
-    pub fn further(self, reach: u64, rule: u64) -> Far
-        ensures { λ r. ⌜ r ≡ further self reach rule ⌝ }
-    {
-        let Far::To {
-            reach: best,
-            rule: _,
-        } = self
-        else {
-            return Far::To { reach, rule };
-        };
-        if best < reach {
-            return Far::To { reach, rule };
-        }
-        self
-    }
-}
 
 // The furthest reach from p of the first n bands, and that band's number, the lowest on a tie.
 pub fn furthest(rows: &[[u64; rows::NUMBERS]; Rule::LIMIT], n: usize, width: Width, p: u64) -> Far

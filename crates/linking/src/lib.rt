@@ -1,4 +1,4 @@
-// The chain written from bands that lie in lent rows.
+// The links of the chain found on bands in lent rows, and written one after another.
 ghost use mathlib.Core.Path.{_≡_};
 ghost use mathlib.Core.List.{List, _++_};
 ghost use Prim.Native.Nat.{_*_, _≤_};
@@ -9,10 +9,13 @@ ghost use Rattle.rows.specs.Bands.{Lie};
 ghost use Rattle.rows.specs.OfRules.{OfLawful};
 ghost use Rattle.rows.specs.Rows.{bandsIn};
 ghost use Rattle.verdict.specs.Kept.{kept};
 ghost use Rattle.chain.specs.Links.{chainRoom, links, numbersOf};
-use crate::Link;
-use crate::step;
+
+mod reach;
+mod step;
+
 use bits::Fixed;
+use chain::Link;
 use rule::Rule;
 use word::Width;
 
@@ -35,7 +38,7 @@ pub fn write(
     let mut p = 0;
     loop {
         let link = step::link_at(rows, n, fixed, width, p);
-        step::put(&mut *out, Link::NUMBERS * count, link);
+        chain::put(&mut *out, Link::NUMBERS * count, link);
         count += 1;
         if link.to == top {
             break;

@@ -15,11 +15,11 @@ use Rattle.band.specs.declared.Band.{Band}
 use Rattle.rows.specs.Bands.{blankBand, seen}
 use Rattle.rows.specs.Rows.{bandsIn}
 use Rattle.rows.proofs.Reading.{laid-take}
 use Rattle.chain.specs.Links.{link, linkBy}
 use Rattle.chain.specs.OnBands.{gapOn, linkOn}
 use Rattle.chain.proofs.OnBands.{Failing, furthest-fails}
-use Rattle.chain.proofs.step.link_at.Statement.{statement}
-use Rattle.chain.proofs.step.link_at.Tie as tie
+use Rattle.linking.proofs.step.link_at.Statement.{statement}
+use Rattle.linking.proofs.step.link_at.Tie as tie
 
 furthest-requires : tie.Need-furthest-requires
 furthest-requires c κs = search needs

@@ -13,13 +13,13 @@ use Rattle.band.specs.declared.Band.{Band}
 use Rattle.band.specs.Band.{bandOf}
 use Rattle.bits.specs.Fixed.{Tidy}
 use Rattle.bits.proofs.Joined.{fixed-tidy}
 use Rattle.chain.specs.Links.{linkAt}
 use Rattle.chain.proofs.Walk.{Walked, link-order, none-fits, own-link, walk-end, walk-on, walk-room, walk-start}
 use Rattle.rows.specs.Rows.{bandsIn}
 use Rattle.rows.specs.OfRules.{OfLawful}
 use Rattle.verdict.specs.Kept.{kept}
-use Rattle.chain.proofs.laid.write.Statement.{statement}
-use Rattle.chain.proofs.laid.write.Tie as tie
+use Rattle.linking.proofs.write.Statement.{statement}
+use Rattle.linking.proofs.write.Tie as tie
 
 abbrev Inv-loop : tie.InvT-loop
 Inv-loop rows n fixed width out₀ t count₀ p₀ out count p =

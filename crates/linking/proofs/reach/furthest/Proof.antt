@@ -13,14 +13,14 @@ use Rattle.band.specs.Band.{Laid}
 use Rattle.band.specs.declared.Band.{Band}
 use Rattle.rows.proofs.Reading.{laid-take}
 use Rattle.rows.specs.Bands.{blankBand, seen}
 use Rattle.chain.specs.declared.Far.{Far}
 use Rattle.chain.specs.Links.{further}
 use Rattle.chain.specs.OnBands.{furtherBand, furthestBand, furthestBandOf}
 use Rattle.chain.proofs.OnBands.{far-kept, far-new, furthest-suc}
 use Rattle.rows.specs.Rows.{bandsIn}
 use Rattle.rule.specs.Meaning.{RULES}
-use Rattle.chain.proofs.reach.furthest.Statement.{statement}
-use Rattle.chain.proofs.reach.furthest.Tie as tie
+use Rattle.linking.proofs.reach.furthest.Statement.{statement}
+use Rattle.linking.proofs.reach.furthest.Tie as tie
 
 abbrev Inv-loop : tie.InvT-loop
 Inv-loop rows n p t far₀ i₀ far i = (i ≤ n) × (far ≡ furthestBand (take i (bandsIn rows)) t p)
