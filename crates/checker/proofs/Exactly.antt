@@ -21,8 +21,9 @@ use Rattle.page.specs.Page.{MARKS}
 use Rattle.sheet.specs.Shape.{isSheet}
 use Rattle.sheet.proofs.Tested.{passes-sheet, sheet-passes}
 use Rattle.checker.specs.Accepted.{Accepted, ShownBy, linkNo}
-use Rattle.checker.specs.Check.{accepts, inOrder, largestEnd, linksIn, noGap, rightReason, shown, shownBy}
-use Rattle.checker.proofs.Covering.{order-is, order-shown, shows-is, shows-reason}
+use Rattle.covering.specs.Check.{inOrder, largestEnd, linksIn, noGap, rightReason, shown, shownBy}
+use Rattle.checker.specs.Check.{accepts}
+use Rattle.covering.proofs.Covering.{order-is, order-shown, shows-is, shows-reason}
 
 -- ---- a test of every link
 

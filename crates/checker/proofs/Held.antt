@@ -30,7 +30,8 @@ use Rattle.lent_head.specs.declared.Head.{Head}
 use Rattle.lent_head.specs.Held.{Held}
 use Rattle.sheet.specs.Held.{packed}
 use Rattle.checker.specs.Accepted.{Accepted}
-use Rattle.checker.specs.Check.{accepts, linksIn, shown, shownBy}
+use Rattle.covering.specs.Check.{linksIn, shown, shownBy}
+use Rattle.checker.specs.Check.{accepts}
 use Rattle.checker.proofs.Exactly.{accepted-yes, yes-accepted}
 
 -- what the call promises of its answer

@@ -1,9 +1,5 @@
-pub mod Covering
-pub mod EveryWord
 pub mod Exactly
 pub mod Held
-pub mod Midway
 pub mod NoFit
-pub mod Reasons
 pub mod Worked
 pub mod Written

@@ -13,8 +13,9 @@ use Rattle.rule.specs.Meaning.{fits}
 use Rattle.chain.proofs.Cover.{covers-no-fit}
 use Rattle.sheet.specs.declared.Sheet.{Sheet}
 use Rattle.sheet.specs.Shape.{isSheet}
-use Rattle.checker.specs.Check.{accepts, linksIn, shown, shownBy}
-use Rattle.checker.proofs.Covering.{shown-covers}
+use Rattle.covering.specs.Check.{linksIn, shown, shownBy}
+use Rattle.checker.specs.Check.{accepts}
+use Rattle.covering.proofs.Covering.{shown-covers}
 
 pub yes-no-fit : (s : Sheet) (ns : List ℕ) → accepts s ns ≡ true
     → (x : ℕ) → x ≤ top (s .width) → fits (s .width) (take (s .count) (s .rules)) x ≡ false

@@ -15,7 +15,8 @@ use Rattle.page.specs.Page.{marksOn, restored, rulesOn}
 use Rattle.lent_head.specs.Shape.{inForce, sameKept, standsSo, wellShaped}
 use Rattle.sheet.specs.Shape.{isSheet}
 use Rattle.page.specs.Shape.{marksShaped, rising, rulesShaped}
-use Rattle.checker.specs.Check.{accepts, allOf, everyWord, inOrder, largestEnd, linksIn, namesBits, namesRule, noGap, rightReason, shown, shownBy}
+use Rattle.covering.specs.Check.{allOf, everyWord, inOrder, largestEnd, linksIn, namesBits, namesRule, noGap, rightReason, shown, shownBy}
+use Rattle.checker.specs.Check.{accepts}
 use Rattle.checker.specs.Examples.{Example, examples}
 
 pub worked : (e : Edition) → map (λ (x : Example). accepts (x .sheet) (x .numbers)) (examples e) ≡ map (λ (x : Example). x .answer) (examples e)

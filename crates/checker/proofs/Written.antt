@@ -30,8 +30,9 @@ use Rattle.page.proofs.Lawful.{reached-lawful, reached-page}
 use Rattle.page.proofs.Refusals.{blank-ask}
 use Rattle.sheet.proofs.Tested.{sheet-dec, sheet-passes}
 use Rattle.sheet.proofs.WaysOfAsking.{accepted-reply, the-chain}
-use Rattle.checker.specs.Check.{accepts, shown, shownBy}
-use Rattle.checker.proofs.Covering.{covers-shown}
+use Rattle.covering.specs.Check.{shown, shownBy}
+use Rattle.checker.specs.Check.{accepts}
+use Rattle.covering.proofs.Covering.{covers-shown}
 use Rattle.checker.proofs.Exactly.{in-threes, links-of}
 
 -- the numbers of any chain by 01's definition

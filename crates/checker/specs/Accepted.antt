@@ -11,7 +11,7 @@ use Rattle.chain.specs.Chain.{Shows}
 use Rattle.chain.specs.Links.{link, numbersOf}
 use Rattle.sheet.specs.declared.Sheet.{Sheet}
 use Rattle.sheet.specs.Statements.{IsSheet}
-use Rattle.checker.specs.Check.{largestEnd}
+use Rattle.covering.specs.Check.{largestEnd}
 
 -- link number i of a list
 abbrev pub linkNo : List Link → ℕ → Link

@@ -1,4 +1,3 @@
 pub mod Accepted
 pub mod Check
 pub mod Examples
-pub mod Route

@@ -9,11 +9,11 @@ ghost use Rattle.word.specs.Word.{IsWidth, top};
 ghost use Rattle.rule.specs.declared.Rule.{Rule as RuleOf};
 ghost use Rattle.band.specs.Band.{Laid, holds};
 ghost use Rattle.bits.specs.Fixed.{Tidy, hasBits};
-ghost use Rattle.chain.specs.Links.{link};
-ghost use Rattle.lent.specs.Lent.{Lie, zipped};
-ghost use Rattle.lent.specs.OfRules.{OfLawful};
-ghost use Rattle.checker.specs.Check.{everyWord, rightReason};
-ghost use Rattle.checker.specs.Route.{covered};
+ghost use Rattle.rows.specs.Bands.{Lie};
+ghost use Rattle.rows.specs.OfRules.{OfLawful};
+ghost use Rattle.rows.specs.Rows.{bandsIn};
+ghost use Rattle.covering.specs.Check.{everyWord, rightReason};
+ghost use Rattle.covering.specs.Route.{covered};
 use band::Band;
 use bits::Fixed;
 use chain::Link;
@@ -58,31 +58,28 @@ fn lacks(fixed: Fixed, width: Width, first: u64, last: u64) -> bool
     last < next
 }
 
-// Whether the words from one to another fail for the reason given: the number of one of the first n rules, or that of the bits.
+// Whether the words of a link fail for the reason that it gives: the number of one of the first n rules, or that of the bits.
 // The band of a form 7 rule fails no word, so that its number is never a reason.
 pub fn shows(
-    from: &[u64; Rule::LIMIT],
-    to: &[u64; Rule::LIMIT],
-    side: &[bool; Rule::LIMIT],
+    rows: &[[u64; rows::NUMBERS]; Rule::LIMIT],
     n: usize,
     fixed: Fixed,
     width: Width,
-    first: u64,
-    last: u64,
-    reason: u64,
+    link: Link,
 ) -> bool
     requires { ⌜ IsWidth (width .bits) ⌝ }
-    requires { ⌜ Lie (top (width .bits)) n (zipped (now from) (now to) (now side)) ⌝ }
-    requires { ⌜ Tidy fixed × (first ≤ last) × (last ≤ top (width .bits)) ⌝ }
-    ensures { λ r. ⌜ ((rs : List RuleOf) → OfLawful (width .bits) (take n (zipped (now (from .entry)) (now (to .entry)) (now (side .entry)))) fixed rs → r ≡ rightReason (width .bits) rs (link first last reason)) ⌝ }
+    requires { ⌜ Lie (top (width .bits)) n (bandsIn (now rows)) ⌝ }
+    requires { ⌜ Tidy fixed × (link .from ≤ link .to) × (link .to ≤ top (width .bits)) ⌝ }
+    ensures { λ r. ⌜ ((rs : List RuleOf) → OfLawful (width .bits) (take n (bandsIn (now (rows .entry)))) fixed rs → r ≡ rightReason (width .bits) rs link) ⌝ }
 {
+    let reason = link.reason;
     if reason < n as u64 {
         let top = width.top();
-        let band = lent::band_at(from, to, side, reason as usize, false, top);
-        return fails(band, top, first, last);
+        let band = rows::band_at(rows, reason as usize, false, top);
+        return fails(band, top, link.from, link.to);
     }
     if reason == Link::BITS {
-        return lacks(fixed, width, first, last);
+        return lacks(fixed, width, link.from, link.to);
     }
     false
 }

@@ -4,9 +4,9 @@ use native.Mathlib.Omega.{arith}
 use borrow.Author.Needs.{needs}
 use lib.Dec.{leb}
 use Rattle.band.specs.Band.{holds}
-use Rattle.checker.proofs.EveryWord.{first-passes, run-misses}
-use Rattle.checker.proofs.link.fails.Statement.{statement}
-use Rattle.checker.proofs.link.fails.Tie as tie
+use Rattle.covering.proofs.EveryWord.{first-passes, run-misses}
+use Rattle.covering.proofs.link.fails.Statement.{statement}
+use Rattle.covering.proofs.link.fails.Tie as tie
 
 holds-requires : tie.Need-holds-requires
 holds-requires c κs = search needs

@@ -14,22 +14,22 @@ use Rattle.word.specs.Word.{top}
 use Rattle.word.proofs.Widths.{half-pos, halves}
 use Rattle.rule.specs.declared.Rule.{Rule}
 use Rattle.accept.proofs.Choices.{failed, passed}
-use Rattle.lent.specs.Lent.{zipped}
-use Rattle.lent.specs.OfRules.{OfLawful}
+use Rattle.rows.specs.Rows.{bandsIn}
+use Rattle.rows.specs.OfRules.{OfLawful}
 use Rattle.chain.specs.declared.Link.{Link}
 use Rattle.chain.specs.Links.{linkFrom}
-use Rattle.checker.specs.Check.{rightReason}
-use Rattle.checker.specs.Route.{covered}
-use Rattle.checker.proofs.Midway.{Midway, at-first, at-gap, at-last, at-next, no-threes, out-of-order, wrong-reason}
-use Rattle.checker.proofs.walk.covers.Statement.{statement}
-use Rattle.checker.proofs.walk.covers.Tie as tie
+use Rattle.covering.specs.Check.{rightReason}
+use Rattle.covering.specs.Route.{covered}
+use Rattle.covering.proofs.Midway.{Midway, at-first, at-gap, at-last, at-next, no-threes, out-of-order, wrong-reason}
+use Rattle.covering.proofs.covers.Statement.{statement}
+use Rattle.covering.proofs.covers.Tie as tie
 
 abbrev Inv-loop : tie.InvT-loop
-Inv-loop links from to side n fixed width t end₀ i₀ end i =
-    (i ≤ length links) × (i % 3 ≡ 0) × (i ≡ 0 → end ≡ 0) × ((rs : List Rule) → OfLawful (width .bits) (take n (zipped from to side)) fixed rs → Midway (width .bits) rs links i end)
+Inv-loop links rows n fixed width t end₀ i₀ end i =
+    (i ≤ length links) × (i % 3 ≡ 0) × (i ≡ 0 → end ≡ 0) × ((rs : List Rule) → OfLawful (width .bits) (take n (bandsIn rows)) fixed rs → Midway (width .bits) rs links i end)
 
 abbrev μ-loop : tie.MeasureT-loop
-μ-loop links from to side n fixed width t end₀ i₀ end i = length links - i
+μ-loop links rows n fixed width t end₀ i₀ end i = length links - i
 
 abbrev Loop : Type 0
 Loop = tie.At-loop Inv-loop μ-loop
@@ -53,7 +53,7 @@ room b = omega (arith, b .before .loop .inv .0, b .loop-test .taken)
 
 -- the walk has come to this place, whichever rules the bands and the bits are those of
 abbrev Own : Loop → List Rule → Type 0
-Own l rs = OfLawful (width l) (take (start l .args .n) (zipped (start l .args .from .now) (start l .args .to .now) (start l .args .side .now))) (start l .args .fixed) rs
+Own l rs = OfLawful (width l) (take (start l .args .n) (bandsIn (start l .args .rows .now))) (start l .args .fixed) rs
 
 mid : (l : Loop) (rs : List Rule) → Own l rs → Midway (width l) rs (numbers l) (l .loop .i) (l .loop .end)
 mid l rs h = l .loop .inv .3 rs h

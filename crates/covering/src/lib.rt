@@ -1,14 +1,17 @@
-// The links of a list, one after another.
+// A list of links that somebody else wrote, checked one after another against the bands in lent rows.
 ghost use mathlib.Core.List.{List};
 ghost use mathlib.Core.Path.{_≡_};
 ghost use lib.ListN.{take};
 ghost use Rattle.word.specs.Word.{IsWidth, top};
 ghost use Rattle.rule.specs.declared.Rule.{Rule as RuleOf};
 ghost use Rattle.bits.specs.Fixed.{Tidy};
-ghost use Rattle.lent.specs.Lent.{Lie, zipped};
-ghost use Rattle.lent.specs.OfRules.{OfLawful};
-ghost use Rattle.checker.specs.Check.{shownBy};
-use crate::link;
+ghost use Rattle.rows.specs.Bands.{Lie};
+ghost use Rattle.rows.specs.OfRules.{OfLawful};
+ghost use Rattle.rows.specs.Rows.{bandsIn};
+ghost use Rattle.covering.specs.Check.{shownBy};
+
+mod link;
+
 use bits::Fixed;
 use chain::Link;
 use rule::Rule;
@@ -18,17 +21,15 @@ use word::Width;
 // and, for the bits, one look for the next word that has them.
 pub fn covers(
     links: &[u64],
-    from: &[u64; Rule::LIMIT],
-    to: &[u64; Rule::LIMIT],
-    side: &[bool; Rule::LIMIT],
+    rows: &[[u64; rows::NUMBERS]; Rule::LIMIT],
     n: usize,
     fixed: Fixed,
     width: Width,
 ) -> bool
     requires { ⌜ IsWidth (width .bits) ⌝ }
-    requires { ⌜ Lie (top (width .bits)) n (zipped (now from) (now to) (now side)) ⌝ }
+    requires { ⌜ Lie (top (width .bits)) n (bandsIn (now rows)) ⌝ }
     requires { ⌜ Tidy fixed ⌝ }
-    ensures { λ r. ⌜ ((rs : List RuleOf) → OfLawful (width .bits) (take n (zipped (now (from .entry)) (now (to .entry)) (now (side .entry)))) fixed rs → r ≡ shownBy (width .bits) rs (now (links .entry))) ⌝ }
+    ensures { λ r. ⌜ ((rs : List RuleOf) → OfLawful (width .bits) (take n (bandsIn (now (rows .entry)))) fixed rs → r ≡ shownBy (width .bits) rs (now (links .entry))) ⌝ }
 {
     let top = width.top();
     let mut end = 0;
@@ -37,7 +38,6 @@ pub fn covers(
         let read = chain::link_from(links, i);
         let first = read.from;
         let last = read.to;
-        let reason = read.reason;
         if !link::follows(i, end, first) {
             return false;
         }
@@ -47,7 +47,7 @@ pub fn covers(
         if top < last {
             return false;
         }
-        if !link::shows(from, to, side, n, fixed, width, first, last, reason) {
+        if !link::shows(rows, n, fixed, width, read) {
             return false;
         }
         if end < last {

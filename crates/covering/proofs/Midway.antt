@@ -17,9 +17,9 @@ use Rattle.chain.specs.declared.Link.{Link}
 use Rattle.chain.specs.Chain.{Covers, Shows}
 use Rattle.chain.specs.Chain.Covers.{end, on}
 use Rattle.chain.specs.Links.{linkFrom}
-use Rattle.checker.specs.Check.{linksIn, rightReason, shown, shownBy}
-use Rattle.checker.specs.Route.{covered}
-use Rattle.checker.proofs.Covering.{covers-shown, shown-covers, shows-is, shows-order, shows-reason}
+use Rattle.covering.specs.Check.{linksIn, rightReason, shown, shownBy}
+use Rattle.covering.specs.Route.{covered}
+use Rattle.covering.proofs.Covering.{covers-shown, shown-covers, shows-is, shows-order, shows-reason}
 
 -- ---- how many words are covered
 

@@ -19,9 +19,9 @@ use Rattle.band.proofs.Law.{band-law, bit-band}
 use Rattle.bits.specs.Fixed.{fixedBits, hasBits}
 use Rattle.bits.proofs.Joined.{fixed-bits}
 use Rattle.chain.specs.Links.{BITS, link, nth}
-use Rattle.lent.specs.Lent.{Lie}
-use Rattle.checker.specs.Check.{namesBits, namesRule, rightReason}
-use Rattle.checker.proofs.EveryWord.{every-same, first-passes, misses}
+use Rattle.rows.specs.Bands.{Lie}
+use Rattle.covering.specs.Check.{namesBits, namesRule, rightReason}
+use Rattle.covering.proofs.EveryWord.{every-same, first-passes, misses}
 
 or-false : (b : Bool) → b ≡ (b || false)
 or-false true = refl

@@ -13,7 +13,7 @@ use Rattle.word.specs.Search.{climb, first}
 use Rattle.word.proofs.Climb.{all-miss, climb-is, no-further}
 use Rattle.word.proofs.Searched.{First, first-is, first-nothing}
 use Rattle.word.proofs.Tests.{both-pass, same-test}
-use Rattle.checker.specs.Check.{allOf, everyWord}
+use Rattle.covering.specs.Check.{allOf, everyWord}
 
 module _ (f : ℕ → Bool) where
   all-each : (k p : ℕ) → allOf f k p ≡ true → (x : ℕ) → p ≤ x → x < p + k → f x ≡ true

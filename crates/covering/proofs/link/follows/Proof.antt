@@ -6,10 +6,10 @@ use borrow.Author.Needs.{needs}
 use borrow.Author.Tests.{eq-eqb, eqb-true, le-leb, leb-true}
 use lib.Dec.{eqb, leb}
 use Rattle.word.proofs.Tests.{same-test}
-use Rattle.checker.specs.Route.{covered}
-use Rattle.checker.proofs.Midway.{covered-none, covered-some}
-use Rattle.checker.proofs.link.follows.Statement.{statement}
-use Rattle.checker.proofs.link.follows.Tie as tie
+use Rattle.covering.specs.Route.{covered}
+use Rattle.covering.proofs.Midway.{covered-none, covered-some}
+use Rattle.covering.proofs.link.follows.Statement.{statement}
+use Rattle.covering.proofs.link.follows.Tie as tie
 
 zero-same : (n : ℕ) → eqb n 0 ≡ leb n 0
 zero-same n =

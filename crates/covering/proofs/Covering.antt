@@ -19,8 +19,8 @@ use Rattle.chain.specs.declared.Link.{Link}
 use Rattle.chain.specs.Chain.{Covers, Shows}
 use Rattle.chain.specs.Chain.Covers.{end, on}
 use Rattle.chain.specs.Links.{BITS, nth}
-use Rattle.checker.specs.Check.{inOrder, largestEnd, namesBits, namesRule, noGap, rightReason, shown}
-use Rattle.checker.proofs.EveryWord.{each-every, every-each}
+use Rattle.covering.specs.Check.{inOrder, largestEnd, namesBits, namesRule, noGap, rightReason, shown}
+use Rattle.covering.proofs.EveryWord.{each-every, every-each}
 
 either : (a b : Bool) → (a || b) ≡ true → (a ≡ true) ⊎ (b ≡ true)
 either true b e = inl refl

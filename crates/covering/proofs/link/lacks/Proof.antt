@@ -3,9 +3,9 @@ use mathlib.Core.Path.{sym, _∙_}
 use borrow.Author.Needs.{needs}
 use Rattle.word.specs.Word.{top}
 use Rattle.bits.specs.Fixed.{hasBits}
-use Rattle.checker.proofs.EveryWord.{next-after, none-after}
-use Rattle.checker.proofs.link.lacks.Statement.{statement}
-use Rattle.checker.proofs.link.lacks.Tie as tie
+use Rattle.covering.proofs.EveryWord.{next-after, none-after}
+use Rattle.covering.proofs.link.lacks.Statement.{statement}
+use Rattle.covering.proofs.link.lacks.Tie as tie
 
 next-requires : tie.Need-next-requires
 next-requires c κs = search needs

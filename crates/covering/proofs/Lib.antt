@@ -1,0 +1,4 @@
+pub mod Covering
+pub mod EveryWord
+pub mod Midway
+pub mod Reasons
