@@ -7,20 +7,8 @@ ghost use Rattle.accept.specs.Accept.{noRule};
 ghost use Rattle.band.specs.Band.{Laid};
 ghost use Rattle.rows.specs.Bands.{blankBand, seen};
 ghost use Rattle.rows.specs.Rows.{bandsIn, rowOf, rulesIn};
-
-mod drawing;
-mod packing;
-mod testing;
-
 use band::Band;
-pub use drawing::bits_of;
-pub use drawing::draw;
-pub use packing::clear;
-pub use packing::lay_out;
-pub use packing::pack;
 use rule::Rule;
-pub use testing::all_acceptable;
-pub use testing::none_from;
 
 // The rule's form, sense and two constants; where its band starts and ends, and the side that fails; and a note: whether there is one, the
 // verdict and its two words, and the fixed bits by three numbers.

@@ -11,9 +11,9 @@ use Rattle.rule.specs.Meaning.{RULES}
 use Rattle.accept.specs.Accept.{every, isNoRule, noRule}
 use Rattle.accept.proofs.Choices.{failed, passed}
 use Rattle.accept.proofs.Every.{ends, every-opens, goes, stops}
 use Rattle.rows.specs.Rows.{ruleIn, rulesIn}
-use Rattle.rows.proofs.testing.none_from.Statement.{statement}
-use Rattle.rows.proofs.testing.none_from.Tie as tie
+use Rattle.laying.proofs.testing.none_from.Statement.{statement}
+use Rattle.laying.proofs.testing.none_from.Tie as tie
 
 abbrev Inv-loop : tie.InvT-loop
 Inv-loop rows n i₀ i =

@@ -10,9 +10,9 @@ use lib.ListN.{drop, length-map, take}
 use Rattle.rule.specs.declared.Rule.{Rule}
 use Rattle.accept.specs.Accept.{acceptable, every, noRule}
 use Rattle.accept.proofs.Every.{every-opens, front-ends, front-goes, front-stops}
 use Rattle.rows.specs.Rows.{ruleIn, rulesIn}
-use Rattle.rows.proofs.testing.all_acceptable.Statement.{statement}
-use Rattle.rows.proofs.testing.all_acceptable.Tie as tie
+use Rattle.laying.proofs.testing.all_acceptable.Statement.{statement}
+use Rattle.laying.proofs.testing.all_acceptable.Tie as tie
 
 abbrev Inv-loop : tie.InvT-loop
 Inv-loop rows n width i₀ i =

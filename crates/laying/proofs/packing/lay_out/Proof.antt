@@ -8,10 +8,10 @@ use borrow.Author.Needs.{needs}
 use lib.ListN.{List·getD-map, drop, getD, length, length-map, set, take}
 use Rattle.rule.specs.Meaning.{RULES}
 use Rattle.accept.specs.Accept.{noRule}
 use Rattle.rows.specs.Rows.{bareRow}
 use Rattle.rows.proofs.Copies.{all-copied, copied}
-use Rattle.rows.proofs.packing.lay_out.Statement.{statement}
-use Rattle.rows.proofs.packing.lay_out.Tie as tie
+use Rattle.laying.proofs.packing.lay_out.Statement.{statement}
+use Rattle.laying.proofs.packing.lay_out.Tie as tie
 
 abbrev Inv-loop : tie.InvT-loop
 Inv-loop rows₀ packed blank i₀ rows i = (i ≤ RULES) × (rows ≡ take i (map bareRow packed) ++ drop i rows₀)

@@ -9,9 +9,9 @@ use lib.ListN.{length-map, take}
 use Rattle.bits.specs.Fixed.{fixedBits, fixedFrom, joined}
 use Rattle.bits.proofs.Joined.{fixed-suc}
 use Rattle.accept.specs.Accept.{noRule}
 use Rattle.rows.specs.Rows.{ruleIn, rulesIn}
-use Rattle.rows.proofs.drawing.bits_of.Statement.{statement}
-use Rattle.rows.proofs.drawing.bits_of.Tie as tie
+use Rattle.laying.proofs.drawing.bits_of.Statement.{statement}
+use Rattle.laying.proofs.drawing.bits_of.Tie as tie
 
 abbrev Inv-loop : tie.InvT-loop
 Inv-loop rows n fixed₀ i₀ fixed i = (i ≤ n) × (fixed ≡ fixedBits (take i (rulesIn rows)))

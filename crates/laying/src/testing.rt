@@ -5,20 +5,18 @@ ghost use lib.ListN.{drop, length, take};
 ghost use Rattle.word.specs.Word.{IsWidth};
 ghost use Rattle.rule.specs.Meaning.{RULES};
 ghost use Rattle.accept.specs.Accept.{acceptable, every, isNoRule};
 ghost use Rattle.rows.specs.Rows.{rulesIn};
-use crate::NUMBERS;
-use crate::rule_at;
 use rule::Rule;
 use word::Width;
 
 // Whether none of the first n rules would be refused.
-pub fn all_acceptable(rows: &[[u64; NUMBERS]; Rule::LIMIT], n: usize, width: Width) -> bool
+pub fn all_acceptable(rows: &[[u64; rows::NUMBERS]; Rule::LIMIT], n: usize, width: Width) -> bool
     requires { ⌜ IsWidth (width .bits) ⌝ }
     requires { ⌜ (n ≤ RULES) × (length (now rows) ≡ RULES) ⌝ }
     ensures { λ r. ⌜ r ≡ every (acceptable (width .bits)) (take n (rulesIn (now (rows .entry)))) ⌝ }
 {
     for i in 0..n {
-        if accept::refusal_of(rule_at(rows, i), width) != 0 {
+        if accept::refusal_of(rows::rule_at(rows, i), width) != 0 {
             return false;
         }
     }
@@ -26,12 +24,12 @@ pub fn all_acceptable(rows: &[[u64; NUMBERS]; Rule::LIMIT], n: usize, width: Wid
 }
 
 // Whether there is no rule from place n on.
-pub fn none_from(rows: &[[u64; NUMBERS]; Rule::LIMIT], n: usize) -> bool
+pub fn none_from(rows: &[[u64; rows::NUMBERS]; Rule::LIMIT], n: usize) -> bool
     requires { ⌜ (n ≤ RULES) × (length (now rows) ≡ RULES) ⌝ }
     ensures { λ r. ⌜ r ≡ every isNoRule (drop n (rulesIn (now (rows .entry)))) ⌝ }
 {
     for i in n..Rule::LIMIT {
-        if !accept::is_no_rule(rule_at(rows, i)) {
+        if !accept::is_no_rule(rows::rule_at(rows, i)) {
             return false;
         }
     }

@@ -9,10 +9,10 @@ use lib.ListN.{drop, length, length-map, length-replicate, replicate, set, take}
 use Rattle.rule.specs.declared.Rule.{Rule}
 use Rattle.rule.specs.Meaning.{RULES}
 use Rattle.accept.specs.Accept.{noRule}
 use Rattle.rows.specs.Rows.{ruleIn, rulesIn}
 use Rattle.rows.proofs.Copies.{all-copied, copied}
-use Rattle.rows.proofs.packing.pack.Statement.{statement}
-use Rattle.rows.proofs.packing.pack.Tie as tie
+use Rattle.laying.proofs.packing.pack.Statement.{statement}
+use Rattle.laying.proofs.packing.pack.Tie as tie
 
 abbrev Inv-loop : tie.InvT-loop
 Inv-loop rows packed₀ i₀ packed i = (i ≤ RULES) × (packed ≡ take i (rulesIn rows) ++ drop i packed₀)

@@ -6,10 +6,10 @@ use native.Mathlib.Nat.{sub-self}
 use native.Mathlib.Omega.{arith}
 use borrow.Author.Needs.{needs}
 use lib.ListN.{drop, replicate, set, take, take-append-drop}
 use Rattle.rows.specs.Rows.{noRow}
 use Rattle.rows.proofs.Copies.{cleared}
-use Rattle.rows.proofs.packing.clear.Statement.{statement}
-use Rattle.rows.proofs.packing.clear.Tie as tie
+use Rattle.laying.proofs.packing.clear.Statement.{statement}
+use Rattle.laying.proofs.packing.clear.Tie as tie
 
 abbrev Inv-loop : tie.InvT-loop
 Inv-loop rows₀ n m none i₀ rows i = (n ≤ i) × (i ≤ m) × (rows ≡ take n rows₀ ++ (replicate (i - n) noRow ++ drop i rows₀))

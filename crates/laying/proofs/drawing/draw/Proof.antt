@@ -11,12 +11,12 @@ use Rattle.rule.specs.declared.Rule.{Rule}
 use Rattle.accept.specs.Accept.{noRule}
 use Rattle.band.specs.declared.Band.{Band}
 use Rattle.band.specs.Band.{bandOf}
 use Rattle.rows.specs.Rows.{drawn, drawnRow, rowOf, ruleIn, rulesIn}
 use Rattle.rows.proofs.Copies.{copied}
 use Rattle.rows.proofs.Drawn.{drawn-rules}
 use Rattle.rows.proofs.Reading.{rule-in}
-use Rattle.rows.proofs.drawing.draw.Statement.{statement}
-use Rattle.rows.proofs.drawing.draw.Tie as tie
+use Rattle.laying.proofs.drawing.draw.Statement.{statement}
+use Rattle.laying.proofs.drawing.draw.Tie as tie
 
 abbrev Inv-loop : tie.InvT-loop
 Inv-loop rows₀ n width i₀ rows i = (i ≤ n) × (rows ≡ drawn (width .bits) i rows₀)

@@ -4,26 +4,23 @@ ghost use mathlib.Core.List.{map, _++_};
 ghost use Prim.Native.Nat.{_-_, _≤_};
 ghost use lib.ListN.{drop, length, replicate, take};
 ghost use Rattle.rule.specs.Meaning.{RULES};
 ghost use Rattle.rows.specs.Rows.{bareRow, noRow, rulesIn};
-use crate::NUMBERS;
-use crate::put;
-use crate::rule_at;
 use band::Band;
 use rule::Rule;
 
 // Takes the rules from place n up to m away.
-pub fn clear(rows: &mut [[u64; NUMBERS]; Rule::LIMIT], n: usize, m: usize)
+pub fn clear(rows: &mut [[u64; rows::NUMBERS]; Rule::LIMIT], n: usize, m: usize)
     requires { ⌜ (n ≤ m) × (m ≤ RULES) × (length (now rows) ≡ RULES) ⌝ }
     ensures { λ _. ⌜ now (rows .exit) ≡ take n (now (rows .entry)) ++ (replicate (m - n) noRow ++ drop m (now (rows .entry))) ⌝ }
 {
-    let none = [0; NUMBERS];
+    let none = [0; rows::NUMBERS];
     for i in n..m {
         rows[i] = none;
     }
 }
 
 // Lays the rules of a record out, with no bands yet.
-pub fn lay_out(rows: &mut [[u64; NUMBERS]; Rule::LIMIT], packed: [Rule; Rule::LIMIT])
+pub fn lay_out(rows: &mut [[u64; rows::NUMBERS]; Rule::LIMIT], packed: [Rule; Rule::LIMIT])
     requires { ⌜ length (now rows) ≡ RULES ⌝ }
     ensures { λ _. ⌜ now (rows .exit) ≡ map bareRow packed ⌝ }
 {
@@ -33,12 +30,12 @@ pub fn lay_out(rows: &mut [[u64; NUMBERS]; Rule::LIMIT], packed: [Rule; Rule::LI
         inside: false,
     };
     for i in 0..Rule::LIMIT {
-        put(&mut *rows, i, packed[i], blank);
+        rows::put(&mut *rows, i, packed[i], blank);
     }
 }
 
 // Packs them into a record again.
-pub fn pack(rows: &[[u64; NUMBERS]; Rule::LIMIT]) -> [Rule; Rule::LIMIT]
+pub fn pack(rows: &[[u64; rows::NUMBERS]; Rule::LIMIT]) -> [Rule; Rule::LIMIT]
     requires { ⌜ length (now rows) ≡ RULES ⌝ }
     ensures { λ r. ⌜ r ≡ rulesIn (now (rows .entry)) ⌝ }
 {
@@ -50,7 +47,7 @@ pub fn pack(rows: &[[u64; NUMBERS]; Rule::LIMIT]) -> [Rule; Rule::LIMIT]
     };
     let mut packed = [none; Rule::LIMIT];
     for i in 0..Rule::LIMIT {
-        packed[i] = rule_at(rows, i);
+        packed[i] = rows::rule_at(rows, i);
     }
     packed
 }
