@@ -4,7 +4,7 @@
 use mathlib.Core.Path.{_≡_, refl, sym, ap, ap₂, _∙_}
 use mathlib.Core.Bool.{Bool, true, false, not, _&&_, cond}
 use mathlib.Core.Logic.{_⊎_, inl, inr, ⊎-elim}
-use Prim.Native.Nat.{ℕ, suc, _+_, _-_, _≤_, _<_}
+use Prim.Native.Nat.{ℕ, suc, _+_, _-_, _^_, _%_, _≤_, _<_}
 use native.Mathlib.Nat.{le-of-eq}
 use native.Mathlib.Decide.{decLe, ℕ-discrete}
 use native.Mathlib.Omega.{arith}
@@ -48,6 +48,23 @@ module _ (t a b x m n : ℕ) (ha : a ≤ t) (hb : b ≤ t) (hx : x ≤ t) where
   further (inr (inr o)) (inl p) q = absurd (omega arith)
   further (inr (inr o)) (inr p) (inl q) = omega arith
   further (inr (inr o)) (inr p) (inr q) = absurd (omega arith)
+
+-- a machine word that comes to y with a added, wrapped, is how far it is up from a to y
+up-by : (a y d : ℕ) → a < 2 ^ 64 → d < 2 ^ 64 → (d + a) % 2 ^ 64 ≡ y → Up (2 ^ 64 - 1) a y d
+up-by a y d ha hd e = go (decLe (2 ^ 64) (d + a))
+  where
+    go : Dec (2 ^ 64 ≤ d + a) → Up (2 ^ 64 - 1) a y d
+    go (yes h) = inr (omega arith, omega arith)
+    go (no h) = inl (omega arith, omega arith)
+
+-- on the wheel of machine words any arc of a narrower wheel has the words that it has there
+pub by-differences : (a b x m n : ℕ) → a < 2 ^ 64 → b < 2 ^ 64 → x < 2 ^ 64 → m < 2 ^ 64 → n < 2 ^ 64
+    → (m + a) % 2 ^ 64 ≡ x → (n + a) % 2 ^ 64 ≡ b → leb m n ≡ within a b x
+by-differences a b x m n ha hb hx hm hn e f =
+    let p = up-by a x m ha hm e in
+    let q = up-by a b n ha hn f in
+    ⊎-elim (λ i. le-leb _ _ (closer (2 ^ 64 - 1) a b x m n (omega arith) (omega arith) (omega arith) i p q) ∙ sym (is-in a b x i))
+    (λ o. lt-leb _ _ (further (2 ^ 64 - 1) a b x m n (omega arith) (omega arith) (omega arith) o p q) ∙ sym (is-out a b x o)) (sides a b x)
 
 module _ (w : ℕ) where
   abbrev near : (a b x : ℕ) → Bool

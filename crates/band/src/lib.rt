@@ -173,18 +173,11 @@ impl Band {
     }
 }
 
-// Whether x is met on the way up from one word to another.
+// Whether x is met on the way up from one word to another: it is no further up than the last, on the wheel of machine words too, whatever
+// the width.
 fn within(from: u64, to: u64, x: u64) -> bool
     ensures { λ r. ⌜ r ≡ within from to x ⌝ }
 {
-    if from <= to {
-        if from <= x {
-            return x <= to;
-        }
-        return false;
-    }
-    if x <= to {
-        return true;
-    }
-    from <= x
+    let far = std::num::wrapping_sub_u64(to, from);
+    std::num::wrapping_sub_u64(x, from) <= far
 }
