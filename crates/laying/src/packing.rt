@@ -22,7 +22,7 @@ pub fn clear(rows: &mut [[u64; rows::NUMBERS]; Rule::LIMIT], n: usize, m: usize)
 // Lays the rules of a record out, with no bands yet.
 pub fn lay_out(rows: &mut [[u64; rows::NUMBERS]; Rule::LIMIT], packed: [Rule; Rule::LIMIT])
     requires { ⌜ length (now rows) ≡ RULES ⌝ }
-    ensures { λ _. ⌜ now (rows .exit) ≡ map bareRow packed ⌝ }
+    ensures { λ _. ⌜ (now (rows .exit) ≡ map bareRow packed) × (length (now (rows .exit)) ≡ RULES) ⌝ }
 {
     let blank = Band {
         from: 0,

@@ -57,7 +57,8 @@ returns : tie.Need-returns Inv-loop μ-loop
 returns c =
     let a = c .before .before .args in
     let size = length-map (a .t2) bareRow in
-    c .before .loop .inv .1 ∙ all-copied (map bareRow (a .t2)) (a .rows .now) (c .before .loop .i) (omega arith) (omega arith)
+    let all = c .before .loop .inv .1 ∙ all-copied (map bareRow (a .t2)) (a .rows .now) (c .before .loop .i) (omega arith) (omega arith) in
+    (all, omega (arith, ap length all))
 
 pub lay-out-spec : {M : Type 1} → statement M
 lay-out-spec =
