@@ -1,4 +1,4 @@
--- Words put one after another, and row after row: no word more than there is room for, and each after the last. Assumes nothing.
+-- Words put one after another, and section after section: no word more than there is room for, and each after the last. Assumes nothing.
 use mathlib.Core.Path.{_≡_, refl, sym, ap, ap₂, _∙_}
 use mathlib.Core.List.{List, [], _∷_, _++_, append-assoc}
 use Prim.Native.Nat.{ℕ, zero, suc, _+_, _-_, _≤_, _<_}
@@ -55,7 +55,7 @@ module _ (b : List ℕ) where
         length-drop (place + length xs) b,
       )
 
-  -- a row after the words that stand at the start
+  -- a section after the words that stand at the start
   pub put-after : (xs ys : List ℕ) → putAt (atStart xs b) (length xs) ys ≡ atStart (xs ++ ys) b
   unfolding putAt
   put-after xs ys =

@@ -38,7 +38,7 @@ pub fn fill(
     let mut at = 0;
     for _ in 0..most {
         let section = section::at(rows, n, top, p);
-        at = row(section, fixed, width, p, &mut *out, at);
+        at = put_section(section, fixed, width, p, &mut *out, at);
         if section.to == top {
             return at;
         }
@@ -52,7 +52,7 @@ pub fn fill(
 
 // Writes the words of a section from p on that have the bits, where the bands hold it, from a place of the buffer on, and says which
 // place comes after them.
-fn row(
+fn put_section(
     section: Section,
     fixed: Fixed,
     width: Width,

@@ -1,4 +1,4 @@
-// Words in a row that one look at the bands tells of: all bands hold each of them, or one band fails each of them.
+// Words one after another that one look at the bands tells of: all bands hold each of them, or one band fails each of them.
 ghost use mathlib.Core.Path.{_≡_};
 ghost use mathlib.Core.Bool.{true};
 ghost use Prim.Native.Nat.{_*_, _-_, _≤_};

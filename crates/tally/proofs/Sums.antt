@@ -1,4 +1,4 @@
--- Words added up: quotient and remainder stand for one number, which a carry keeps, and a row of words has as many with the bits as
+-- Words added up: quotient and remainder stand for one number, which a carry keeps, and a stretch of words has as many with the bits as
 -- there are below its last word and not below its first, and the last one if it has them. Assumes nothing.
 use mathlib.Core.Path.{_≡_, ap, _∙_}
 use mathlib.Core.Bool.{Bool, true, false}
@@ -38,10 +38,10 @@ module _ (f : ℕ → Bool) where
         let d : count f 1 (p + (q - p)) ≡ count f 1 q = ap (count f 1) e in
         omega (arith, below-to p q order, count-split f (q - p) 1 (suc q - p) p (omega arith))
 
-    pub row-with : f q ≡ true → count f (suc q - p) p ≡ (count f q 0 - count f p 0) + 1
+    pub words-with : f q ≡ true → count f (suc q - p) p ≡ (count f q 0 - count f p 0) + 1
     unfolding count
-    row-with e = let o : count f 1 q ≡ 1 = rw (e, count) in omega (arith, split)
+    words-with e = let o : count f 1 q ≡ 1 = rw (e, count) in omega (arith, split)
 
-    pub row-without : f q ≡ false → count f (suc q - p) p ≡ count f q 0 - count f p 0
+    pub words-without : f q ≡ false → count f (suc q - p) p ≡ count f q 0 - count f p 0
     unfolding count
-    row-without e = let o : count f 1 q ≡ 0 = rw (e, count) in omega (arith, split)
+    words-without e = let o : count f 1 q ≡ 0 = rw (e, count) in omega (arith, split)

@@ -21,7 +21,7 @@ impl Total {
         }
     }
 
-    // These, and the words from one to another that have the bits. The last word stands by itself, so that 2^64 words in one row are
+    // These, and the words from one to another that have the bits. The last word stands by itself, so that 2^64 words one after another are
     // never one number.
     pub fn with(self, fixed: Fixed, first: u64, last: u64) -> Total
         requires { ⌜ Tidy fixed × (first ≤ last) × Carries self × (whole self ≤ first) ⌝ }

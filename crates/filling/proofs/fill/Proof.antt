@@ -17,7 +17,7 @@ use Rattle.section.specs.Turns.{turnsFrom}
 use Rattle.section.proofs.Alike.{Alike, section-alike}
 use Rattle.section.proofs.Fewer.{few-turns, fewer-turns}
 use Rattle.fitting.specs.Words.{atStart}
-use Rattle.filling.proofs.Rows.{passing-none, section-words, start-length, up-to-fits, up-to-full, up-to-put, upTo}
+use Rattle.filling.proofs.Sections.{passing-none, section-words, start-length, up-to-fits, up-to-full, up-to-put, upTo}
 use Rattle.filling.proofs.fill.Statement.{statement}
 use Rattle.filling.proofs.fill.Tie as tie
 
@@ -95,38 +95,38 @@ alike c = subst (Alike _ _ _) (sym (c .at .ensures)) (section-alike _ _ _ (inner
 room : (a : Inner) → length (a .loop .out) ≡ length (buffer a)
 room a = ap length (a .loop .inv .3) ∙ start-length (buffer a) (pass a) (start a .args .start) (a .loop .p)
 
-row-requires : tie.Need-row-requires Inv-loop μ-loop
-row-requires c κs =
+put-section-requires : tie.Need-put-section-requires Inv-loop μ-loop
+put-section-requires c κs =
     let o = c .before in
     let a = inner o in
     (start a .pre .0, ((alike o .order, omega (arith, alike o .bound, a .before .before .top .ensures)), (start a .pre .1 .1, omega (arith, room a, a .loop .inv .2, up-to-fits (buffer a) (pass a) (start a .args .start) (a .loop .p)))))
 
--- once the row is written
-abbrev Rowed : Type 0
-Rowed = tie.After-row Inv-loop μ-loop
+-- once the section is written
+abbrev Put : Type 0
+Put = tie.After-put-section Inv-loop μ-loop
 
-abbrev looked : Rowed → Looked
+abbrev looked : Put → Looked
 looked c = c .before .before
 
 -- the words below q that there is room for
 abbrev words : Inner → ℕ → List ℕ
 words a = upTo (buffer a) (pass a) (start a .args .start)
 
-abbrev Written : Rowed → List ℕ → Type 0
-Written c xs = (c .row .result ≡ length xs) × (c .row .last .1 .1 .1 .1 .0 ≡ atStart xs (buffer (inner (looked c))))
+abbrev Written : Put → List ℕ → Type 0
+Written c xs = (c .put-section .result ≡ length xs) × (c .put-section .last .1 .1 .1 .1 .0 ≡ atStart xs (buffer (inner (looked c))))
 
-rowed : (c : Rowed) → Written c (words (inner (looked c)) (suc (looked c .at .result .to)))
-rowed c =
+put : (c : Put) → Written c (words (inner (looked c)) (suc (looked c .at .result .to)))
+put c =
     let o = looked c in
     let a = inner o in
     let s = o .at .result in
     up-to-put (buffer a) (pass a) (start a .args .start) (a .loop .p) (suc (s .to)) _ (a .loop .inv .0) (omega (arith, alike o .order))
-    (section-words (alike o) (start a .args .fixed)) (a .loop .inv .2) (a .loop .inv .3) (c .row .ensures .0) (c .row .ensures .1)
+    (section-words (alike o) (start a .args .fixed)) (a .loop .inv .2) (a .loop .inv .3) (c .put-section .ensures .0) (c .put-section .ensures .1)
 
-same : (c : Rowed) → length (c .row .last .1 .1 .1 .1 .0) ≡ length (buffer (inner (looked c)))
+same : (c : Put) → length (c .put-section .last .1 .1 .1 .1 .0) ≡ length (buffer (inner (looked c)))
 same c =
     let a = inner (looked c) in
-    ap length (rowed c .1) ∙ start-length (buffer a) (pass a) (start a .args .start) (suc (looked c .at .result .to))
+    ap length (put c .1) ∙ start-length (buffer a) (pass a) (start a .args .start) (suc (looked c .at .result .to))
 
 same-length : tie.Need-same-length Inv-loop μ-loop
 same-length c = same (c .before .before .before .before)
@@ -135,7 +135,7 @@ returns : tie.Need-returns Inv-loop μ-loop
 returns c =
     let r = c .before .before .before .before in
     let a = inner (looked r) in
-    subst (λ (t : ℕ). Written r (words a (suc t))) (c .if1 .taken ∙ a .before .before .top .ensures) (rowed r)
+    subst (λ (t : ℕ). Written r (words a (suc t))) (c .if1 .taken ∙ a .before .before .top .ensures) (put r)
 
 same-length-2 : tie.Need-same-length-2 Inv-loop μ-loop
 same-length-2 c = same (c .before .before .before .before .before)
@@ -149,8 +149,8 @@ returns-2 c =
     subst (Written r)
     (sym
     (up-to-full (buffer a) (pass a) (start a .args .start) (suc (o .at .result .to)) (suc (top (start a .args .width .bits)))
-    (omega (arith, a .loop .inv .0, alike o .order)) (omega (arith, alike o .bound, a .before .before .top .ensures)) (sym (rowed r .0) ∙ c .if2 .taken ∙ same r)))
-    (rowed r)
+    (omega (arith, a .loop .inv .0, alike o .order)) (omega (arith, alike o .bound, a .before .before .top .ensures)) (sym (put r .0) ∙ c .if2 .taken ∙ same r)))
+    (put r)
 
 add-p : tie.Need-add-p Inv-loop μ-loop
 add-p c =
@@ -173,8 +173,8 @@ loop-again c =
     let less = fewer-turns (bands a) (a .loop .inv .1) (o .at .ensures) (e .if1 .left) in (
       omega (arith, a .loop .inv .0, alike o .order),
       omega (arith, alike o .bound, e .if1 .left),
-      rowed r .0 ∙ ap (λ (q : ℕ). length (words a q)) next,
-      rowed r .1 ∙ ap (λ (q : ℕ). atStart (words a q) (buffer a)) next,
+      put r .0 ∙ ap (λ (q : ℕ). length (words a q)) next,
+      put r .1 ∙ ap (λ (q : ℕ). atStart (words a q) (buffer a)) next,
       subst (λ (q : ℕ). a .loop .counter + 1 + turnsFrom (highest a) (bands a) q ≤ 2 * start a .args .n) next (omega (arith, less, a .loop .inv .4)),
     )
 
@@ -194,7 +194,7 @@ fill-spec =
     most-requires
     loop-holds
     at-requires
-    row-requires
+    put-section-requires
     same-length
     returns
     same-length-2

@@ -18,7 +18,7 @@ use Rattle.section.specs.Turns.{turnsFrom}
 use Rattle.section.proofs.Alike.{Alike, section-alike}
 use Rattle.section.proofs.Fewer.{few-turns, fewer-turns}
 use Rattle.tally.specs.Total.{Carries, totals, whole}
-use Rattle.tally.proofs.Rows.{failing-row, held-row}
+use Rattle.tally.proofs.Sections.{failing-section, held-section}
 use Rattle.rank.proofs.Pairs.{count-most}
 use Rattle.tally.proofs.Sums.{carries-totals, whole-totals}
 use Rattle.tally.proofs.words.Statement.{statement}
@@ -83,15 +83,15 @@ Looked = tie.After-at Inv-loop μ-loop
 abbrev inner : Looked → Inner
 inner c = c .before .before
 
-row : (c : Looked) → Alike (highest (inner c)) (bands (inner c)) (inner c .loop .p) (c .at .result)
-row c = subst (Alike _ _ _) (sym (c .at .ensures)) (section-alike _ _ _ (inner c .loop .inv .0))
+alike : (c : Looked) → Alike (highest (inner c)) (bands (inner c)) (inner c .loop .p) (c .at .result)
+alike c = subst (Alike _ _ _) (sym (c .at .ensures)) (section-alike _ _ _ (inner c .loop .inv .0))
 
 with-requires : tie.Need-with-requires Inv-loop μ-loop
 with-requires c κs =
     let a = inner (c .before) in
     let most = count-most (passes (bands a) (start a .args .fixed)) (a .loop .p) 0 in (
       start a .pre .1 .1,
-      row (c .before) .order,
+      alike (c .before) .order,
       subst Carries (sym (a .loop .inv .1)) (carries-totals _ (omega arith)),
       omega (arith, whole-totals (below a (a .loop .p)), ap whole (a .loop .inv .1)),
     )
@@ -107,9 +107,9 @@ shared c =
     let old : whole (a .loop .total) ≡ below a p = ap whole (a .loop .inv .1) ∙ whole-totals (below a p) in
     ⊎-elim
     (λ h.
-    let e : whole (a .loop .total) + more ≡ below a (suc (o .at .result .to)) = omega (arith, old, held-row (row o) f (h .0 .taken)) in
+    let e : whole (a .loop .total) + more ≡ below a (suc (o .at .result .to)) = omega (arith, old, held-section (alike o) f (h .0 .taken)) in
     h .2 ∙ h .1 .ensures ∙ ap totals e)
-    (λ h. h .1 ∙ a .loop .inv .1 ∙ ap totals (sym (failing-row (row o) f (h .0 .left))))
+    (λ h. h .1 ∙ a .loop .inv .1 ∙ ap totals (sym (failing-section (alike o) f (h .0 .left))))
     (c .if1 .came)
 
 returns : tie.Need-returns Inv-loop μ-loop
@@ -120,7 +120,7 @@ returns c =
     shared j ∙ ap (λ (q : ℕ). totals (below a (suc q))) e
 
 add-p : tie.Need-add-p Inv-loop μ-loop
-add-p c = omega (arith, row (c .before .before .before .before) .bound)
+add-p c = omega (arith, alike (c .before .before .before .before) .bound)
 
 add-counter : tie.Need-add-counter Inv-loop μ-loop
 add-counter c = search needs
@@ -135,7 +135,7 @@ loop-again c =
     let a = inner o in
     let next : o .at .result .to + 1 ≡ suc (o .at .result .to) = add-one (o .at .result .to) in
     let less = fewer-turns (bands a) (a .loop .inv .0) (o .at .ensures) (c .before .if2 .left) in (
-      omega (arith, row o .bound),
+      omega (arith, alike o .bound),
       shared j ∙ ap (λ (q : ℕ). totals (below a q)) (sym next),
       subst (λ (q : ℕ). a .loop .counter + 1 + turnsFrom (highest a) (bands a) q ≤ 2 * start a .args .n) (sym next) (omega (arith, less, a .loop .inv .2)),
     )

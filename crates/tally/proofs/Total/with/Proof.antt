@@ -1,4 +1,4 @@
--- `Total::with` meets its contract: the words of a row that have the bits are those below its last word that are not below its first,
+-- `Total::with` meets its contract: the words of a stretch that have the bits are those below its last word that are not below its first,
 -- and the last one if it has them. Assumes nothing.
 use mathlib.Core.Path.{_≡_, sym, ap, _∙_, subst}
 use mathlib.Core.Bool.{Bool}
@@ -10,7 +10,7 @@ use Rattle.bits.specs.Fixed.{hasBits}
 use Rattle.tally.specs.declared.Total.{Total}
 use Rattle.tally.specs.Total.{Carries, totals, whole}
 use Rattle.rank.proofs.Pairs.{count-most}
-use Rattle.tally.proofs.Sums.{below-to, carries-totals, row-with, row-without, whole-totals}
+use Rattle.tally.proofs.Sums.{below-to, carries-totals, words-with, words-without, whole-totals}
 use Rattle.tally.proofs.Total.with.Statement.{statement}
 use Rattle.tally.proofs.Total.with.Tie as tie
 
@@ -57,7 +57,7 @@ returns c =
     let s = b .before .before in
     let more : ℕ = b .before .below .result - b .below2 .result in
     let e : whole (totals (whole (s .args .self) + more)) + 1 ≡ whole (s .args .self) + count (has b) (suc (s .args .last) - s .args .first) (s .args .first) =
-    omega (arith, whole-totals (whole (s .args .self) + more), row-with (has b) (s .args .first) (s .args .last) (s .pre .1) (sym (h .has .ensures) ∙ c .before .if1 .taken), b .before .below .ensures, b .below2 .ensures) in
+    omega (arith, whole-totals (whole (s .args .self) + more), words-with (has b) (s .args .first) (s .args .last) (s .pre .1) (sym (h .has .ensures) ∙ c .before .if1 .taken), b .before .below .ensures, b .below2 .ensures) in
     c .plus2 .ensures ∙ ap (λ (t : Total). totals (whole t + 1)) (u .plus .ensures) ∙ ap totals e
 
 returns-2 : tie.Need-returns-2
@@ -68,7 +68,7 @@ returns-2 c =
     let s = b .before .before in
     let more : ℕ = b .before .below .result - b .below2 .result in
     let e : whole (s .args .self) + more ≡ whole (s .args .self) + count (has b) (suc (s .args .last) - s .args .first) (s .args .first) =
-    omega (arith, row-without (has b) (s .args .first) (s .args .last) (s .pre .1) (sym (h .has .ensures) ∙ c .if1 .left), b .before .below .ensures, b .below2 .ensures) in
+    omega (arith, words-without (has b) (s .args .first) (s .args .last) (s .pre .1) (sym (h .has .ensures) ∙ c .if1 .left), b .before .below .ensures, b .below2 .ensures) in
     u .plus .ensures ∙ ap totals e
 
 pub with-spec : {M : Type 1} → statement M

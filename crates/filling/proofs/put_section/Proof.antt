@@ -1,4 +1,4 @@
--- `row` meets its contract. The loop's invariant: the words of the row below p that have the bits stand in the buffer from the place
+-- `put_section` meets its contract. The loop's invariant: the words of the section below p that have the bits stand in the buffer from the place
 -- on. The measure is the words left. Assumes nothing.
 use mathlib.Core.Path.{_≡_, sym, ap, ap₂, _∙_}
 use mathlib.Core.Bool.{Bool}
@@ -16,9 +16,9 @@ use Rattle.word.proofs.Searched.{First, first-is, first-nothing}
 use Rattle.bits.specs.Fixed.{hasBits}
 use Rattle.filling.specs.Put.{putAt, sectionWords}
 use Rattle.filling.proofs.Puts.{put-length, put-more, put-none}
-use Rattle.filling.proofs.Rows.{held-words, no-words, passing-found, passing-none, passing-on, passing-over}
-use Rattle.filling.proofs.row.Statement.{statement}
-use Rattle.filling.proofs.row.Tie as tie
+use Rattle.filling.proofs.Sections.{held-words, no-words, passing-found, passing-none, passing-on, passing-over}
+use Rattle.filling.proofs.put_section.Statement.{statement}
+use Rattle.filling.proofs.put_section.Tie as tie
 
 abbrev Inv-loop : tie.InvT-loop
 Inv-loop fixed width first out₀ place last p₀ at₀ out p at =
@@ -44,14 +44,14 @@ has l = hasBits (start l .args .fixed)
 abbrev buffer : Loop → List ℕ
 buffer l = start l .args .out .now
 
--- the words of the row below q, and all of them
+-- the words of the section below q, and all of them
 abbrev words : Loop → ℕ → List ℕ
 words l q = passing (has l) (q - start l .args .first) (start l .args .first)
 
 all-words : (l : Loop) → sectionWords (start l .args .section) (start l .args .fixed) (start l .args .first) ≡ words l (suc (start l .args .section .to))
 all-words l = let s = start l in held-words (s .args .section) (s .args .fixed) (s .args .first) (not-false (s .args .section .held) (l .before .if1 .left))
 
--- what is written where so much of the row stands in the buffer
+-- what is written where so much of the section stands in the buffer
 abbrev Done : Loop → ℕ → List ℕ → Type 0
 Done l r out =
     let s = start l in
@@ -65,7 +65,7 @@ done l ws e f g =
     let q = sym (ap (take (length (buffer l) - start l .args .place)) (all-words l) ∙ e) in
     (f ∙ ap (λ (xs : List ℕ). start l .args .place + length xs) q, g ∙ ap (putAt (buffer l) (start l .args .place)) q)
 
--- the whole row stands there
+-- the whole section stands there
 whole : (l : Loop) (q : ℕ) {r : ℕ} {out : List ℕ} → words l (suc (start l .args .section .to)) ≡ words l q → r ≤ length (buffer l)
     → r ≡ start l .args .place + length (words l q) → out ≡ putAt (buffer l) (start l .args .place) (words l q) → Done l r out
 whole l q e h f g =
@@ -213,8 +213,8 @@ returns-5 c =
     ∙ take-at ws _ (length (buffer l) - s .args .place) (omega (arith, l .loop .inv .2, l .loop .inv .3, room l, c .loop-test .left)))
     (l .loop .inv .2) (l .loop .inv .4)
 
-pub row-spec : {M : Type 1} → statement M
-row-spec =
+pub put-section-spec : {M : Type 1} → statement M
+put-section-spec =
     tie.close
     (tie.spec
     Inv-loop

@@ -17,14 +17,14 @@ use Rattle.fitting.proofs.Passing.{count-same, none-passing, passing-length}
 use Rattle.tally.proofs.Sums.{below-to}
 
 module _ {t : ℕ} {bs : List Band} {p : ℕ} {s : Section} (a : Alike t bs p s) (f : Fixed) where
-  pub held-row : s .held ≡ true → count (passes bs f) (suc (s .to)) 0 ≡ count (passes bs f) p 0 + count (hasBits f) (suc (s .to) - p) p
-  held-row e =
+  pub held-section : s .held ≡ true → count (passes bs f) (suc (s .to)) 0 ≡ count (passes bs f) p 0 + count (hasBits f) (suc (s .to) - p) p
+  held-section e =
       below-to (passes bs f) p (suc (s .to)) (omega (arith, a .order))
       ∙ ap (λ (n : ℕ). count (passes bs f) p 0 + n)
       (count-same (passes bs f) (hasBits f) (suc (s .to) - p) p (λ y l h. held-passes a f y l (omega arith) e))
 
-  pub failing-row : s .held ≡ false → count (passes bs f) (suc (s .to)) 0 ≡ count (passes bs f) p 0
-  failing-row e =
+  pub failing-section : s .held ≡ false → count (passes bs f) (suc (s .to)) 0 ≡ count (passes bs f) p 0
+  failing-section e =
       let none = none-passing (passes bs f) (suc (s .to) - p) p (λ y l h. failing-passes a f y l (omega arith) e) in
       let zero : count (passes bs f) (suc (s .to) - p) p ≡ 0 = sym (passing-length (passes bs f) (suc (s .to) - p) p) ∙ ap length none in
       omega (arith, below-to (passes bs f) p (suc (s .to)) (omega (arith, a .order)))

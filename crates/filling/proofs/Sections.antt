@@ -1,5 +1,5 @@
--- The words of a row, one after the other: up to a word found they are those before it and itself, and none is left where the next
--- word comes after the row. And the words that pass, section after section. Assumes nothing.
+-- The words of a section, one after the other: up to a word found they are those before it and itself, and none is left where the next
+-- word comes after the section. And the words that pass, section after section. Assumes nothing.
 use mathlib.Core.Path.{_≡_, refl, sym, ap, ap₂, _∙_}
 use mathlib.Core.Bool.{Bool, true, false}
 use mathlib.Core.List.{List, [], _∷_, _++_, append-nil}
@@ -25,7 +25,7 @@ module _ (f : ℕ → Bool) where
   unfolding passing
   passing-none p = let e : p - p ≡ 0 = omega arith in ap (λ (k : ℕ). passing f k p) e
 
-  -- the row from a to below q, in two parts at p
+  -- the words from a to below q, in two parts at p
   pub passing-on : (a p q : ℕ) → a ≤ p → p ≤ q → passing f (q - a) a ≡ passing f (p - a) a ++ passing f (q - p) p
   passing-on a p q l h =
       let e : a + (p - a) ≡ p = omega arith in
@@ -78,23 +78,23 @@ module _ (b : List ℕ) (f : ℕ → Bool) (start : ℕ) where
   pub start-length : (q : ℕ) → length (atStart (upTo q) b) ≡ length b
   start-length q = omega (arith, up-to-fits q, length-append (upTo q) (drop (length (upTo q)) b), length-drop (length (upTo q)) b)
 
-  -- with the row from p on behind them
-  pub up-to-on : (p q : ℕ) (row : List ℕ) → start ≤ p → p ≤ q → passing f (q - p) p ≡ row → upTo q ≡ upTo p ++ take (length b - length (upTo p)) row
-  up-to-on p q row l h e =
+  -- with the words from p on behind them
+  pub up-to-on : (p q : ℕ) (words : List ℕ) → start ≤ p → p ≤ q → passing f (q - p) p ≡ words → upTo q ≡ upTo p ++ take (length b - length (upTo p)) words
+  up-to-on p q words l h e =
       ap (take (length b)) (passing-on f start p q l h ∙ ap (λ (xs : List ℕ). passing f (p - start) start ++ xs) e)
-      ∙ take-more (length b) (passing f (p - start) start) row
+      ∙ take-more (length b) (passing f (p - start) start) words
 
-  pub up-to-put : (p q : ℕ) (row : List ℕ) → start ≤ p → p ≤ q → passing f (q - p) p ≡ row → {at r : ℕ} {out out′ : List ℕ}
-      → at ≡ length (upTo p) → out ≡ atStart (upTo p) b → r ≡ at + length (take (length out - at) row) → out′ ≡ putAt out at (take (length out - at) row)
+  pub up-to-put : (p q : ℕ) (words : List ℕ) → start ≤ p → p ≤ q → passing f (q - p) p ≡ words → {at r : ℕ} {out out′ : List ℕ}
+      → at ≡ length (upTo p) → out ≡ atStart (upTo p) b → r ≡ at + length (take (length out - at) words) → out′ ≡ putAt out at (take (length out - at) words)
       → (r ≡ length (upTo q)) × (out′ ≡ atStart (upTo q) b)
-  up-to-put p q row l h e {at} {r} {out} {out′} a o c w =
+  up-to-put p q words l h e {at} {r} {out} {out′} a o c w =
       let size : length out ≡ length b = ap length o ∙ start-length p in
       let left : length out - at ≡ length b - length (upTo p) = omega arith in
-      let ys : List ℕ = take (length b - length (upTo p)) row in
-      let all = up-to-on p q row l h e in (
-        c ∙ ap₂ (λ (i n : ℕ). i + length (take n row)) a left ∙ sym (length-append (upTo p) ys) ∙ ap length (sym all),
+      let ys : List ℕ = take (length b - length (upTo p)) words in
+      let all = up-to-on p q words l h e in (
+        c ∙ ap₂ (λ (i n : ℕ). i + length (take n words)) a left ∙ sym (length-append (upTo p) ys) ∙ ap length (sym all),
         w
-            ∙ ap₂ (λ (l : List ℕ) (n : ℕ). putAt l at (take n row)) o left
+            ∙ ap₂ (λ (l : List ℕ) (n : ℕ). putAt l at (take n words)) o left
             ∙ ap (λ (i : ℕ). putAt (atStart (upTo p) b) i ys) a
             ∙ put-after b (upTo p) ys
             ∙ ap (λ (xs : List ℕ). atStart xs b) (sym all),
