@@ -1,4 +1,0 @@
-pub mod OneMore
-pub mod Passes
-pub mod Steps
-pub mod Zipped

@@ -1,3 +1,0 @@
-pub mod Bands
-pub mod Lent
-pub mod OfRules

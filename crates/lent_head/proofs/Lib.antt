@@ -1,4 +1,0 @@
-pub mod Holding
-pub mod Numbers
-pub mod Shaped
-pub mod Told
