@@ -7,7 +7,6 @@ ghost use Rattle.rows.specs.Rows.{rulesIn};
 ghost use Rattle.page.specs.Page.{MARKS};
 ghost use Rattle.slate.specs.Held.{Held, Waits, bareMarks, bareRows};
 use crate::Head;
-use crate::marks;
 use page::MARKS;
 use rows::NUMBERS;
 use rule::Rule;
@@ -23,9 +22,12 @@ pub fn clear_waiting(
     ensures { λ _. ⌜ now (marks .exit) ≡ bareMarks head (now (marks .entry)) ⌝ }
 {
     let counts = head.counts;
+    let count = counts.count;
+    let given = counts.given;
     let marked = counts.marked;
-    laying::clear(&mut *rows, counts.count, counts.given);
-    marks::clear_marks(&mut *marks, marked, marked + counts.waiting);
+    let waiting = counts.waiting;
+    laying::clear(&mut *rows, count, given);
+    marks::clear_marks(&mut *marks, marked, marked + waiting);
 }
 
 // Takes every rule and every mark away. Where there is a sheet, those that were given are all there are.
@@ -36,11 +38,14 @@ pub fn clear_all(head: Head, rows: &mut [[u64; NUMBERS]; Rule::LIMIT], marks: &m
 {
     let stands = head.stands;
     let counts = head.counts;
+    let given = counts.given;
+    let marked = counts.marked;
+    let waiting = counts.waiting;
     if !stands {
         laying::clear(&mut *rows, 0, Rule::LIMIT);
         marks::clear_marks(&mut *marks, 0, MARKS);
         return;
     }
-    laying::clear(&mut *rows, 0, counts.given);
-    marks::clear_marks(&mut *marks, 0, counts.marked + counts.waiting);
+    laying::clear(&mut *rows, 0, given);
+    marks::clear_marks(&mut *marks, 0, marked + waiting);
 }

@@ -1,17 +1,15 @@
-// A slate: a sheet laid out in rows and marks that are lent, and a small head by value. Here are its head, its marks and notes, and what the
-// calls on it share. Nothing here knows the record that it stands for.
+// A slate: a sheet laid out in rows and marks that are lent, and a small head by value. Here are its head and notes, and what the calls on
+// it share. Nothing here knows the record that it stands for.
 mod clearing;
+mod counting;
 mod making;
-mod marks;
 mod notes;
 mod refusing;
 
 use bits::Fixed;
 pub use clearing::clear_all;
 pub use clearing::clear_waiting;
-pub use marks::all_zero;
-pub use marks::in_force;
-pub use marks::marked_so;
+pub use counting::in_force;
 pub use marks::set_marks;
 pub use notes::no_rules;
 pub use notes::note_at;

@@ -42,7 +42,7 @@ pub fn blank(head: Head, rows: &[[u64; NUMBERS]; Rule::LIMIT], marks: &[usize; M
     if !laying::none_from(rows, 0) {
         return false;
     }
-    if !slate::all_zero(marks, 0) {
+    if !marks::all_zero(marks, 0) {
         return false;
     }
     same_kept(
@@ -90,7 +90,7 @@ pub fn shaped(head: Head, rows: &[[u64; NUMBERS]; Rule::LIMIT], marks: &[usize; 
     if !laying::none_from(rows, given) {
         return false;
     }
-    slate::marked_so(marks, marked + waiting, given)
+    marks::marked_so(marks, marked + waiting, given)
 }
 
 // Whether the two agree in all three numbers.

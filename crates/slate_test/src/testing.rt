@@ -19,6 +19,7 @@ pub fn tested(head: Head, rows: &mut [[u64; NUMBERS]; Rule::LIMIT], marks: &[usi
 {
     let counts = head.counts;
     let count = counts.count;
+    let given = counts.given;
     let old = head.fixed;
     let kept = head.kept;
     let bits = Width {
@@ -30,7 +31,7 @@ pub fn tested(head: Head, rows: &mut [[u64; NUMBERS]; Rule::LIMIT], marks: &[usi
     if !shape::shaped(head, &*rows, marks) {
         return head.found(false, old);
     }
-    laying::draw(&mut *rows, counts.given, bits);
+    laying::draw(&mut *rows, given, bits);
     let fixed = laying::bits_of(&*rows, count);
     let found = verdict::laid::solve(&*rows, count, fixed, bits, 0, bits.top());
     slate::put_note(&mut *rows, count, found, fixed);

@@ -42,14 +42,14 @@ clear-requires-2 : tie.Need-clear-requires-2
 clear-requires-2 c κs = let a = c .before in (omega arith, waits a .given-high, start a .pre .room .rows-places)
 
 add-clear-marks : tie.Need-add-clear-marks
-add-clear-marks c = omega (arith, waits (c .before .before .before .before) .marks-high)
+add-clear-marks c = omega (arith, waits (c .before .before .before) .marks-high)
 
 clear-marks-requires-2 : tie.Need-clear-marks-requires-2
-clear-marks-requires-2 c κs = let w = waits (c .before .before .before .before) in (omega arith, w .marks-high, w .marks-places)
+clear-marks-requires-2 c κs = let w = waits (c .before .before .before) in (omega arith, w .marks-high, w .marks-places)
 
 returns-2 : tie.Need-returns-2
 returns-2 c =
-    let l = c .before .before .before in
+    let l = c .before .before in
     let a = l .before .before in
     let w = waits a in
     let n = start a .args .head .counts in

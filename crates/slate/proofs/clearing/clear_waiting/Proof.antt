@@ -20,14 +20,14 @@ abbrev start : tie.After-clear → tie.Start
 start l = l .before .before .before
 
 add-clear-marks : tie.Need-add-clear-marks
-add-clear-marks c = omega (arith, start (c .before .before) .pre .marks-high)
+add-clear-marks c = omega (arith, start (c .before) .pre .marks-high)
 
 clear-marks-requires : tie.Need-clear-marks-requires
-clear-marks-requires c κs = let w = start (c .before .before) .pre in (omega arith, w .marks-high, w .marks-places)
+clear-marks-requires c κs = let w = start (c .before) .pre in (omega arith, w .marks-high, w .marks-places)
 
 returns : tie.Need-returns
 returns c =
-    let l = c .before .before .before in
+    let l = c .before .before in
     let s = start l in
     let n = s .args .head .counts in
     let w = s .pre in

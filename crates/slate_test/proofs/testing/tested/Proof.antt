@@ -102,7 +102,7 @@ lawful : (a : tie.Else2) → AllLawful (start a .args .head .opening .width) (ta
 lawful a = first-lawful _ _ _ (rules-places (start a .pre)) (start a .pre .marks-places) (parts a) _ (low a)
 
 draw-requires : tie.Need-draw-requires
-draw-requires c κs = let a = c .before in (width a, (few a, start a .pre .rows-places))
+draw-requires c κs = let a = c .before in (width a, (omega (arith, low a, few a), start a .pre .rows-places))
 
 -- where the bands are drawn
 abbrev begun : tie.After-draw → tie.Else2

@@ -10,8 +10,8 @@ use Rattle.accept.specs.Accept.{every}
 use Rattle.accept.proofs.Every.{ends, every-opens, goes, stops}
 use Rattle.page.specs.Page.{MARKS}
 use Rattle.page.specs.Shape.{isZero}
-use Rattle.slate.proofs.marks.all_zero.Statement.{statement}
-use Rattle.slate.proofs.marks.all_zero.Tie as tie
+use Rattle.marks.proofs.all_zero.Statement.{statement}
+use Rattle.marks.proofs.all_zero.Tie as tie
 
 abbrev Inv-loop : tie.InvT-loop
 Inv-loop marks m i₀ i =

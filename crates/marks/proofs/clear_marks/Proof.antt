@@ -9,8 +9,8 @@ use borrow.Author.Needs.{needs}
 use lib.ListN.{take-append-drop, drop, length, length-set, replicate, set, take}
 use Rattle.page.specs.Page.{MARKS}
 use Rattle.rows.proofs.Copies.{cleared}
-use Rattle.slate.proofs.marks.clear_marks.Statement.{statement}
-use Rattle.slate.proofs.marks.clear_marks.Tie as tie
+use Rattle.marks.proofs.clear_marks.Statement.{statement}
+use Rattle.marks.proofs.clear_marks.Tie as tie
 
 abbrev Inv-loop : tie.InvT-loop
 Inv-loop marks₀ n m i₀ marks i =

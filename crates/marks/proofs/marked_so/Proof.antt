@@ -3,8 +3,8 @@ use Prim.Native.Nat.{_-_}
 use borrow.Author.Needs.{needs}
 use Rattle.accept.proofs.Choices.{failed, passed}
 use Rattle.page.specs.Shape.{marksShaped, rising}
-use Rattle.slate.proofs.marks.marked_so.Statement.{statement}
-use Rattle.slate.proofs.marks.marked_so.Tie as tie
+use Rattle.marks.proofs.marked_so.Statement.{statement}
+use Rattle.marks.proofs.marked_so.Tie as tie
 
 rising-requires : tie.Need-rising-requires
 rising-requires c κs = search needs

@@ -9,8 +9,8 @@ use borrow.Author.Tests.{le-leb, lt-leb}
 use lib.Dec.{leb}
 use Rattle.accept.proofs.Every.{Opens, front-ends, front-goes, front-stops}
 use Rattle.page.specs.Shape.{rising}
-use Rattle.slate.proofs.marks.rising.Statement.{statement}
-use Rattle.slate.proofs.marks.rising.Tie as tie
+use Rattle.marks.proofs.rising.Statement.{statement}
+use Rattle.marks.proofs.rising.Tie as tie
 
 abbrev Inv-loop : tie.InvT-loop
 Inv-loop marks m n low₀ i₀ low i =

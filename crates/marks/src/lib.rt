@@ -1,12 +1,11 @@
 // Marks in a lent array of numbers: for each, how many rules there were when it was set.
 ghost use mathlib.Core.Path.{_≡_};
 ghost use mathlib.Core.List.{_++_};
-ghost use Prim.Native.Nat.{_+_, _-_, _≤_};
+ghost use Prim.Native.Nat.{_-_, _≤_};
 ghost use lib.ListN.{drop, length, replicate, take};
 ghost use Rattle.accept.specs.Accept.{every};
 ghost use Rattle.page.specs.Page.{MARKS};
 ghost use Rattle.page.specs.Shape.{isZero, marksShaped, rising};
-ghost use Rattle.slate.specs.Shape.{inForce};
 use page::MARKS;
 
 // Whether m marks rise up to n, with zeros after them.
@@ -63,15 +62,4 @@ pub fn set_marks(marks: &mut [usize; MARKS], set: [usize; MARKS])
     ensures { λ _. ⌜ (now (marks .exit) ≡ set) × (length (now (marks .exit)) ≡ MARKS) ⌝ }
 {
     *marks = set;
-}
-
-// How many rules are in force: all that were given where nothing waits, else as many as the mark next to come back notes.
-pub fn in_force(given: usize, marks: &[usize; MARKS], marked: usize, waiting: usize) -> usize
-    requires { ⌜ (marked + waiting ≤ MARKS) × (length (now marks) ≡ MARKS) ⌝ }
-    ensures { λ r. ⌜ r ≡ inForce given (now (marks .entry)) marked waiting ⌝ }
-{
-    if waiting == 0 {
-        return given;
-    }
-    marks[marked]
 }
