@@ -1,5 +1,5 @@
--- Notes in rows: a note that is written is read again, with the row's rule and band as they were; and what is noted stays so where the first
--- rows stay. Assumes nothing.
+-- Notes in rows: a note that is written is read again, with the row's rule and band as they were; and what is noted stays so where the
+-- first rows stay. Assumes nothing.
 use mathlib.Core.Path.{_≡_, refl, sym, ap, ap₂, _∙_, subst}
 use mathlib.Core.Bool.{true, false}
 use mathlib.Core.List.{List, [], _∷_}

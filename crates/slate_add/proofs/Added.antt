@@ -1,7 +1,7 @@
--- One rule more on a slate: where what waited is taken away, the rule and its band go into the next row, the bits are joined, and the old ends
--- bound what is kept, or are its ends still. Assumes nothing.
+-- One rule more on a slate: where what waited is taken away, the rule and its band go into the next row, the bits are joined, and the old
+-- ends bound what is kept, or are its ends still. Assumes nothing.
 use mathlib.Core.Path.{_≡_, refl, sym, ap, ap₂, _∙_, subst}
-use mathlib.Core.Bool.{Bool, true, not, _&&_}
+use mathlib.Core.Bool.{true, not, _&&_}
 use mathlib.Core.List.{List, [], _∷_, map, _++_}
 use Prim.Native.Nat.{ℕ, _+_, _<_}
 use native.Mathlib.Numerals.{add-one}

@@ -12,8 +12,8 @@ use rule::Rule;
 use verdict::Kept;
 use word::Width;
 
-// What is kept of the first n rules and their bits, the last of which has this band: what was kept before where that rule moves nothing, and
-// else what is found from the old ends.
+// What is kept of the first n rules and their bits, the last of which has this band: what was kept before where that rule moves nothing,
+// and else what is found from the old ends.
 pub fn narrowed(
     rows: &[[u64; NUMBERS]; Rule::LIMIT],
     n: usize,

@@ -1,5 +1,5 @@
--- A slate with fewer or more of its rules in force, after a step back or a step forward: no rule, no band and no note moves, so that the first
--- bands are those of the rules then in force. Assumes nothing.
+-- A slate with fewer or more of its rules in force, after a step back or a step forward: no rule, no band and no note moves, so that the
+-- first bands are those of the rules then in force. Assumes nothing.
 use mathlib.Core.Path.{_≡_, refl}
 use mathlib.Core.List.{List}
 use Prim.Native.Nat.{ℕ, _≤_}

@@ -8,7 +8,8 @@ use slate::Note;
 use verdict::Kept;
 use word::Width;
 
-// What is kept of the first n rules, and the bits that they fix. Where no note says it, the search starts at the ends of what was kept before.
+// What is kept of the first n rules, and the bits that they fix. Where no note says it, the search starts at the ends of what was kept
+// before.
 pub fn find(rows: &[[u64; NUMBERS]; Rule::LIMIT], n: usize, width: Width, before: Kept) -> Note
     requires { ⌜ Sought (width .bits) n (now rows) before ⌝ }
     ensures { λ r. ⌜ Noted (width .bits) n (rulesIn (now (rows .entry))) r ⌝ }

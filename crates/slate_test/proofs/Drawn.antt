@@ -1,5 +1,5 @@
--- A sheet whose bands are drawn, and whose last rule in force is noted: the rules stay, their bands may be swept, and what is found of them is
--- what the rules give. Assumes nothing.
+-- A sheet whose bands are drawn, and whose last rule in force is noted: the rules stay, their bands may be swept, and what is found of them
+-- is what the rules give. Assumes nothing.
 use mathlib.Core.Path.{_≡_, sym, ap, _∙_, subst}
 use mathlib.Core.Bool.{Bool}
 use mathlib.Core.List.{List, map}

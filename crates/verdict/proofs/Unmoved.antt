@@ -1,7 +1,7 @@
 -- One rule more moves nothing where it holds at the smallest and at the largest word that fit before and they have its bits: both fit
 -- still, and no other word is new. Assumes nothing.
 use mathlib.Core.Path.{_≡_, refl, sym, ap, ap₂, _∙_}
-use mathlib.Core.Bool.{Bool, true, _&&_, and-true, cond}
+use mathlib.Core.Bool.{true, _&&_, and-true, cond}
 use mathlib.Core.List.{List, [], _∷_, map, _++_}
 use Prim.Native.Nat.{ℕ, suc, _^_, _≤_}
 use native.Mathlib.Omega.{arith}

@@ -1,5 +1,4 @@
 -- `marked_so` meets its contract. Assumes nothing.
-use Prim.Native.Nat.{_-_}
 use borrow.Author.Needs.{needs}
 use Rattle.accept.proofs.Choices.{failed, passed}
 use Rattle.page.specs.Shape.{marksShaped, rising}

@@ -1,5 +1,5 @@
--- `add` meets its contract: what waited is taken away, the rule goes into the next row with its band and a note, and what is kept is as it was
--- or found from the old ends. Assumes nothing.
+-- `add` meets its contract: what waited is taken away, the rule goes into the next row with its band and a note, and what is kept is as it
+-- was or found from the old ends. Assumes nothing.
 use mathlib.Core.Path.{_≡_, sym, _∙_, subst}
 use Prim.Native.Nat.{_<_}
 use native.Mathlib.Omega.{arith}

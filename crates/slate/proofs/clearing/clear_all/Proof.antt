@@ -1,8 +1,8 @@
--- `clear_all` meets its contract: where there is a sheet nothing lies after what was given, and else every place is cleared. Assumes nothing.
+-- `clear_all` meets its contract: where there is a sheet nothing lies after what was given, and else every place is cleared. Assumes
+-- nothing.
 use mathlib.Core.Path.{ap, _∙_}
 use Prim.Native.Nat.{_+_}
 use native.Mathlib.Omega.{arith}
-use borrow.Author.Needs.{needs}
 use borrow.Author.Tests.{not-false}
 use Rattle.rule.specs.Meaning.{RULES}
 use Rattle.accept.specs.Accept.{noRule}

@@ -13,7 +13,7 @@ clear-requires : tie.Need-clear-requires
 clear-requires c κs =
     let s = c .before .before in
     let w = s .pre in
-    (w .given-low, w .given-high, sym (length-map (s .args .rows .now) ruleIn) ∙ w .rules-places)
+    (omega (arith, w .given-low), w .given-high, sym (length-map (s .args .rows .now) ruleIn) ∙ w .rules-places)
 
 -- where the rows are cleared
 abbrev start : tie.After-clear → tie.Start
@@ -23,7 +23,7 @@ add-clear-marks : tie.Need-add-clear-marks
 add-clear-marks c = omega (arith, start (c .before) .pre .marks-high)
 
 clear-marks-requires : tie.Need-clear-marks-requires
-clear-marks-requires c κs = let w = start (c .before) .pre in (omega arith, w .marks-high, w .marks-places)
+clear-marks-requires c κs = let w = start (c .before) .pre in (omega arith, omega (arith, w .marks-high), w .marks-places)
 
 returns : tie.Need-returns
 returns c =

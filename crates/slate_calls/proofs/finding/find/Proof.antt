@@ -1,7 +1,5 @@
 -- `find` meets its contract: a note that is known is so, and else what is found on the bands is what the rules give. Assumes nothing.
-use mathlib.Core.Path.{_≡_, sym, ap, _∙_, subst}
-use mathlib.Core.Bool.{true}
-use borrow.Author.Needs.{needs}
+use mathlib.Core.Path.{sym, ap, _∙_, subst}
 use lib.ListN.{length-map, take}
 use Rattle.bits.specs.declared.Fixed.{Fixed}
 use Rattle.rows.specs.Rows.{bandIn, bandsIn, rulesIn}

@@ -1,6 +1,7 @@
--- `back` meets its contract: what stays is what stood before the newest mark, and what is kept of it is noted, or found anew. Assumes nothing.
+-- `back` meets its contract: what stays is what stood before the newest mark, and what is kept of it is noted, or found anew. Assumes
+-- nothing.
 use mathlib.Core.Path.{_≡_, sym, ap, _∙_, subst}
-use Prim.Native.Nat.{_-_, _+_, _≤_, _<_}
+use Prim.Native.Nat.{_-_, _+_, _<_}
 use native.Mathlib.Omega.{arith}
 use borrow.Author.Needs.{needs}
 use Rattle.page.specs.Page.{MARKS}

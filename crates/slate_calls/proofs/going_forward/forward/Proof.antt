@@ -1,6 +1,6 @@
 -- `forward` meets its contract: the counters move on, and what is kept is noted, or found from the old ends. Assumes nothing.
 use mathlib.Core.Path.{_≡_, sym, _∙_, subst}
-use Prim.Native.Nat.{_+_, _-_, _≤_}
+use Prim.Native.Nat.{_+_, _-_}
 use native.Mathlib.Omega.{arith}
 use borrow.Author.Needs.{needs}
 use Rattle.slate.specs.Numbers.{before}
@@ -37,7 +37,7 @@ sub-left c = search needs
 in-force-requires : tie.Need-in-force-requires
 in-force-requires c κs =
     let h = start (c .before) .pre in
-    (marks-there h (none (c .before)) (c .if2 .left), h .room .marks-places)
+    (omega (arith, marks-there h (none (c .before)) (c .if2 .left)), h .room .marks-places)
 
 find-requires : tie.Need-find-requires
 find-requires c κs =

@@ -1,5 +1,5 @@
--- `mark` meets its contract: what waited is taken away, the last rule in force is noted, and the number of rules in force goes into the next
--- place. Assumes nothing.
+-- `mark` meets its contract: what waited is taken away, the last rule in force is noted, and the number of rules in force goes into the
+-- next place. Assumes nothing.
 use mathlib.Core.Path.{_≡_, sym, ap, _∙_, subst}
 use mathlib.Core.List.{List}
 use Prim.Native.Nat.{ℕ}
