@@ -22,11 +22,12 @@ pub fn open(
 {
     let width = opening.width;
     let edition = opening.edition;
+    let refused = Said { number: 2, head };
     if width < 1 {
-        return Said { number: 2, head };
+        return refused;
     }
     if edition.terms().widest < width {
-        return Said { number: 2, head };
+        return refused;
     }
     slate::clear_all(head, &mut *rows, &mut *marks);
     let none = slate::no_rules(Width { bits: width });
