@@ -53,6 +53,7 @@ pub fn put(rows: &mut [[u64; NUMBERS]; Rule::LIMIT], i: usize, rule: Rule, band:
     ensures { λ _. ⌜ now (rows .exit) ≡ set (now (rows .entry)) i (rowOf rule band) ⌝ }
 {
     let side = band.inside as u64;
+    let unknown: u64 = 0;
     let row = [
         rule.form,
         rule.sense,
@@ -61,7 +62,7 @@ pub fn put(rows: &mut [[u64; NUMBERS]; Rule::LIMIT], i: usize, rule: Rule, band:
         band.from,
         band.to,
         side,
-        0,
+        unknown,
         0,
         0,
         0,
