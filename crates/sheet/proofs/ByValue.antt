@@ -1,66 +1,77 @@
--- A call by value: it starts from empty arrays, and what the call on the arrays answers is the outcome on the record that was laid
--- out. Assumes nothing.
-use mathlib.Core.Path.{_≡_, refl, sym, ap, _∙_, subst, subst₂}
-use mathlib.Core.Bool.{Bool, false}
-use mathlib.Core.List.{List}
-use Prim.Native.Nat.{ℕ, _*_}
+-- A call by value: it starts from empty rows and marks, and what the call on the slate answers is the outcome on the record that
+-- was laid out. Assumes nothing.
+use mathlib.Core.Path.{_≡_, refl, sym, ap, ap₂, _∙_, subst, subst₂}
+use mathlib.Core.List.{List, [], _∷_, map}
+use Prim.Native.Nat.{ℕ}
 use lib.ListN.{replicate}
+use Rattle.rule.specs.declared.Rule.{Rule}
 use Rattle.rule.specs.Meaning.{RULES}
-use Rattle.lent.specs.Lent.{zipped}
-use Rattle.places.specs.Places.{rulesIn}
+use Rattle.rows.specs.Bands.{blankBand}
+use Rattle.rows.specs.Rows.{bareRow, noRow, rulesIn}
+use Rattle.rows.proofs.Reading.{rule-of}
 use Rattle.sheet.specs.declared.Answer.{Answer}
-use Rattle.lent_head.specs.declared.Head.{Head}
+use Rattle.slate.specs.declared.Head.{Head}
 use Rattle.sheet.specs.declared.Reply.{Reply}
 use Rattle.sheet.specs.declared.Sheet.{Sheet}
 use Rattle.page.specs.Calls.{Call, open-at, refusal}
-use Rattle.lent_head.specs.Held.{Room, foundTo}
+use Rattle.slate.specs.Held.{Room, foundTo}
 use Rattle.sheet.specs.Held.{packed}
-use Rattle.sheet.specs.Shape.{headOf}
-use Rattle.sheet.specs.Laid.{After}
+use Rattle.sheet.specs.Shape.{untested}
+use Rattle.sheet.specs.declared.Call.{Call as Made}
+use Rattle.sheet.specs.Laid.{After, callOf}
 use Rattle.page.specs.declared.Opening.{Opening}
 use Rattle.page.specs.Page.{MARKS, no-page}
 use Rattle.sheet.specs.Statements.{Asked, Outcome, answers, opened}
 use Rattle.sheet.proofs.Ways.{accepted-open, refused-open}
 
-pub empty-room : Room (replicate (4 * RULES) 0) (replicate MARKS 0) (replicate RULES 0) (replicate RULES 0) (replicate RULES false)
-unfolding rulesIn zipped
-empty-room = record { rules-places = refl; marks-places = refl; band-places = refl }
+pub empty-room : Room (replicate RULES noRow) (replicate MARKS 0)
+empty-room = record { rows-places = refl; marks-places = refl }
 
--- head and arrays that were laid out and tested stand for the record
-pub laid-out : (s : Sheet) {k : Head} (rules : List ℕ) {marks : List ℕ} → k ≡ foundTo (headOf s) (k .stands) (k .fixed) → rulesIn rules ≡ s .rules → marks ≡ s .marks
-    → packed k rules marks ≡ s
+-- the rules of a record, laid out with no bands yet
+pub rules-bare : (rs : List Rule) → rulesIn (map bareRow rs) ≡ rs
+unfolding bareRow
+rules-bare [] = refl
+rules-bare (r ∷ rs) = ap₂ _∷_ (rule-of r blankBand) (rules-bare rs)
+
+-- a slate that was laid out and tested stands for the record
+pub laid-out : (s : Sheet) {k : Head} (rows : List (List ℕ)) {marks : List ℕ} → k ≡ foundTo (untested s) (k .stands) (k .fixed) → rulesIn rows ≡ s .rules
+    → marks ≡ s .marks → packed k rows marks ≡ s
 unfolding packed
-laid-out s rules e r m =
+laid-out s rows e r m =
     λ i. record {
-      width = e i .width;
+      width = e i .opening .width;
       rules = r i;
-      count = e i .count;
+      count = e i .counts .count;
       marks = m i;
-      marked = e i .marked;
+      marked = e i .counts .marked;
       kept = e i .kept;
-      given = e i .given;
-      waiting = e i .waiting;
-      edition = e i .edition;
+      given = e i .counts .given;
+      waiting = e i .counts .waiting;
+      edition = e i .opening .edition;
     }
 
-pub by-value : {s t : Sheet} {c : Call} {r : Answer} {n : ℕ} {h : Head} {rules marks from to : List ℕ} {side : List Bool}
-    → t ≡ s → After t c n h rules marks from to side → r ≡ answers n (packed h rules marks) → Outcome s c r
+-- the call that a value asks for, where the value is known
+pub as-made : {s : Sheet} {a b : Made} {n : ℕ} {h : Head} {rows : List (List ℕ)} {marks : List ℕ} → a ≡ b → After s (callOf b) n h rows marks
+    → After s (callOf a) n h rows marks
+as-made {s} {n = n} {h = h} {rows = rows} {marks = marks} e p = subst (λ (k : Made). After s (callOf k) n h rows marks) (sym e) p
+
+pub by-value : {s t : Sheet} {c : Call} {r : Answer} {n : ℕ} {h : Head} {rows : List (List ℕ)} {marks : List ℕ}
+    → t ≡ s → After t c n h rows marks → r ≡ answers n (packed h rows marks) → Outcome s c r
 by-value {c = c} laid after e = subst₂ (λ (u : Sheet) (r : Answer). Outcome u c r) laid (sym e) (after .outcome)
 
 pub asked-by-value : {s t : Sheet} {b b′ : List ℕ} {r : Reply} → t ≡ s → Asked t b b′ r → Asked s b b′ r
 asked-by-value {b = b} {b′ = b′} {r = r} laid asked = subst (λ (u : Sheet). Asked u b b′ r) laid asked
 
 -- an opening is the same on any record
-module _ (s : Sheet) {t : Sheet} {g : Opening} {n : ℕ} {h : Head} {rules marks from to : List ℕ} {side : List Bool}
-    (after : After t (open-at g) n h rules marks from to side) where
-  same-number : refusal no-page (open-at g) ≡ n
+module _ (s t : Sheet) (g : Opening) (a : Answer) (outcome : Outcome t (open-at g) a) where
+  same-number : refusal no-page (open-at g) ≡ a .number
   unfolding Outcome opened
-  same-number = sym (ap (λ (r : Answer). r .number) (after .outcome))
+  same-number = sym (ap (λ (r : Answer). r .number) outcome)
 
-  pub handed-back : (n ≡ 0 → ⊥) → Outcome s (open-at g) (answers n s)
+  pub handed-back : (a .number ≡ 0 → ⊥) → Outcome s (open-at g) (answers (a .number) s)
   unfolding Outcome
   handed-back z = refused-open s g same-number z
 
-  pub opened-anew : n ≡ 0 → {r : Answer} → r ≡ answers n (packed h rules marks) → Outcome s (open-at g) r
+  pub opened-anew : a .number ≡ 0 → Outcome s (open-at g) a
   unfolding Outcome
-  opened-anew z e = let q = same-number ∙ z in e ∙ after .outcome ∙ sym (accepted-open t g q) ∙ accepted-open s g q
+  opened-anew z = let q = same-number ∙ z in outcome ∙ sym (accepted-open t g q) ∙ accepted-open s g q

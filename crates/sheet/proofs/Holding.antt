@@ -1,5 +1,5 @@
--- What is held says which number comes before the table, and that where none does the record has a page; and a record with a page whose
--- bands are drawn is held. Assumes nothing.
+-- What is held says which number comes before the table, and that where none does the record has a page; and a record with a page that
+-- has its bands and notes beside it is held. Assumes nothing.
 use mathlib.Core.Path.{_≡_, refl, sym, ap, _∙_, subst}
 use mathlib.Core.Bool.{Bool, true, false, false≢true}
 use mathlib.Core.List.{List}
@@ -14,19 +14,19 @@ use Rattle.rule.specs.declared.Rule.{Rule}
 use Rattle.rule.specs.Meaning.{RULES}
 use Rattle.accept.specs.Accept.{refusalOf}
 use Rattle.bits.specs.declared.Fixed.the-variants.{Bits}
-use Rattle.lent.specs.Lent.{zipped}
-use Rattle.places.specs.Places.{rulesIn}
+use Rattle.rows.specs.Rows.{rulesIn}
 use Rattle.page.specs.Calls.{Call, add, refusal}
-use Rattle.page.specs.Page.{OpenPage, no-page, page, rulesOn}
+use Rattle.page.specs.Page.{MARKS, OpenPage, no-page, page, rulesOn}
 use Rattle.page.proofs.Refusals.{add-bad, add-fits, add-full, add-other}
-use Rattle.lent_head.specs.declared.Head.{Head}
-use Rattle.lent_head.specs.Held.{Drawn, Held, Room}
-use Rattle.lent_head.specs.Numbers.{before, ruleNumber}
-use Rattle.lent_head.specs.Shape.{standsSo}
-use Rattle.lent_head.proofs.Numbers.{number-before, number-full, number-none, number-other, number-own}
-use Rattle.lent_head.proofs.Told.{unread}
-use Rattle.lent_calls.specs.Done.{Refused}
-use Rattle.lent_calls.specs.Done.Refused.{before-first, own-ground}
+use Rattle.slate.specs.declared.Head.{Head}
+use Rattle.slate.specs.Held.{Beside, Held, Room}
+use Rattle.slate.specs.Numbers.{before, ruleNumber}
+use Rattle.slate.specs.Shape.{standsSo}
+use Rattle.slate.proofs.Holding.{rules-places}
+use Rattle.slate.proofs.Numbers.{number-before, number-full, number-none, number-other, number-own}
+use Rattle.slate.proofs.Told.{unread}
+use Rattle.slate_calls.specs.Done.{Refused}
+use Rattle.slate_calls.specs.Done.Refused.{before-first, own-ground}
 use Rattle.sheet.specs.declared.Sheet.{Sheet}
 use Rattle.sheet.specs.Held.{packed}
 use Rattle.sheet.specs.Shape.{isSheet}
@@ -36,29 +36,37 @@ use Rattle.sheet.proofs.Stands.{has-page, has-width, is-blank, known, r
 use Rattle.sheet.proofs.Tested.{passes-sheet, sheet-passes}
 use Rattle.sheet.proofs.Ways.{refused-reads}
 
--- the record that head and arrays stand for passes where they do
-pub packed-told : (h : Head) (rules marks : List ℕ) → isSheet (packed h rules marks) ≡ standsSo h (rulesIn rules) marks
+-- the record that a slate stands for passes where the slate does
+pub packed-told : (h : Head) (rows : List (List ℕ)) (marks : List ℕ) → isSheet (packed h rows marks) ≡ standsSo h (rulesIn rows) marks
 unfolding isSheet packed
-packed-told h rules marks = unread h (rulesIn rules) marks false (Bits 0 0)
+packed-told h rows marks = unread h (rulesIn rows) marks false (Bits 0 0)
 
-module _ {h : Head} {rules marks from to : List ℕ} {side : List Bool} (held : Held h rules marks from to side) where
+module _ {h : Head} {rows : List (List ℕ)} {marks : List ℕ} (held : Held h rows marks) where
   abbrev s : Sheet
-  s = packed h rules marks
+  s = packed h rows marks
+
+  -- as many places as a record has
+  pub rules-length : length (s .rules) ≡ RULES
+  unfolding packed
+  rules-length = rules-places (held .room)
+
+  pub marks-length : length (s .marks) ≡ MARKS
+  unfolding packed
+  marks-length = held .room .marks-places
 
   is-sheet : h .stands ≡ true → IsSheet s
-  unfolding packed
-  is-sheet e = passes-sheet s (held .room .rules-places) (held .room .marks-places) (packed-told h rules marks ∙ sym (held .tested) ∙ e)
+  is-sheet e = passes-sheet s rules-length marks-length (packed-told h rows marks ∙ sym (held .tested) ∙ e)
 
-  pub stands-so : Stands s (before (h .stands) (h .width))
+  pub stands-so : Stands s (before (h .stands) (h .opening .width))
   unfolding before packed
-  stands-so = go (h .stands) refl (ℕ-discrete (h .width) 0)
+  stands-so = go (h .stands) refl (ℕ-discrete (h .opening .width) 0)
     where
-      go : (b : Bool) → h .stands ≡ b → Dec (h .width ≡ 0) → Stands s (before b (h .width))
-      go false e d = no-sheet (λ i. false≢true (sym e ∙ held .tested ∙ sym (packed-told h rules marks) ∙ sheet-passes s i))
-      go true e (yes z) = rw (eq-eqb (h .width) 0 z) (is-blank (is-sheet e) z)
-      go true e (no z) = rw (ne-eqb (h .width) 0 z) (has-width (is-sheet e) z)
+      go : (b : Bool) → h .stands ≡ b → Dec (h .opening .width ≡ 0) → Stands s (before b (h .opening .width))
+      go false e d = no-sheet (λ i. false≢true (sym e ∙ held .tested ∙ sym (packed-told h rows marks) ∙ sheet-passes s i))
+      go true e (yes z) = rw (eq-eqb (h .opening .width) 0 z) (is-blank (is-sheet e) z)
+      go true e (no z) = rw (ne-eqb (h .opening .width) 0 z) (has-width (is-sheet e) z)
 
-  module _ (e : before (h .stands) (h .width) ≡ 0) where
+  module _ (e : before (h .stands) (h .opening .width) ≡ 0) where
     pub on-sheet : Standing s
     on-sheet = has-page stands-so e
 
@@ -69,26 +77,26 @@ module _ {h : Head} {rules marks from to : List ℕ} {side : List Bool} (held : 
   refused-after (own-ground e g) c blank y table = let p = on-sheet e in refused-reads _ (p .reached) (p .gives) c (table p g) y
 
   -- the rule's number is the table's
-  module _ (d : Edition) (u : Rule) (e : before (h .stands) (h .width) ≡ 0) where
+  module _ (d : Edition) (u : Rule) (e : before (h .stands) (h .opening .width) ≡ 0) where
     abbrev on : OpenPage
     on = on-sheet e .on
 
-    same-own : refusalOf (h .width) u ≡ refusalOf (on .opening .width) u
+    same-own : refusalOf (h .opening .width) u ≡ refusalOf (on .opening .width) u
     unfolding packed
     same-own = ap (λ (w : ℕ). refusalOf w u) (known (on-sheet e) .width)
 
-    same-count : h .count ≡ length (rulesOn (on .entries))
+    same-count : h .counts .count ≡ length (rulesOn (on .entries))
     unfolding packed
     same-count = known (on-sheet e) .count
 
-    same-edition : same d (h .edition) ≡ same d (on .opening .edition)
+    same-edition : same d (h .opening .edition) ≡ same d (on .opening .edition)
     unfolding packed
     same-edition = ap (same d) (known (on-sheet e) .edition)
 
     table-number : ruleNumber h d u ≡ refusal (page on) (add d u)
-    table-number = go (same d (h .edition)) refl (ℕ-discrete (refusalOf (h .width) u) 0) (decLt (h .count) RULES)
+    table-number = go (same d (h .opening .edition)) refl (ℕ-discrete (refusalOf (h .opening .width) u) 0) (decLt (h .counts .count) RULES)
       where
-        go : (b : Bool) → same d (h .edition) ≡ b → Dec (refusalOf (h .width) u ≡ 0) → Dec (h .count < RULES)
+        go : (b : Bool) → same d (h .opening .edition) ≡ b → Dec (refusalOf (h .opening .width) u ≡ 0) → Dec (h .counts .count < RULES)
             → ruleNumber h d u ≡ refusal (page on) (add d u)
         go false f y m = sym (number-other h d u e f) ∙ sym (add-other on d u (sym same-edition ∙ f))
         go true t (no z) m = sym (number-own h d u e t z) ∙ same-own ∙ sym (add-bad on d u (sym same-edition ∙ t) (λ y. z (same-own ∙ y)))
@@ -98,19 +106,18 @@ module _ {h : Head} {rules marks from to : List ℕ} {side : List Bool} (held : 
             sym (number-none h d u e t z m) ∙ sym (add-fits on d u (sym same-edition ∙ t) (sym same-own ∙ z) (omega (arith, same-count)))
 
   pub rule-so : (d : Edition) (u : Rule) → RuleSeen s d u (ruleNumber h d u)
-  rule-so d u = go (ℕ-discrete (before (h .stands) (h .width)) 0)
+  rule-so d u = go (ℕ-discrete (before (h .stands) (h .opening .width)) 0)
     where
-      go : Dec (before (h .stands) (h .width) ≡ 0) → RuleSeen s d u (ruleNumber h d u)
+      go : Dec (before (h .stands) (h .opening .width) ≡ 0) → RuleSeen s d u (ruleNumber h d u)
       go (no z) = subst (RuleSeen s d u) (number-before h d u z) (before-table stands-so z)
       go (yes e) = subst (RuleSeen s d u) (sym (table-number d u e)) (by-table (on-sheet e))
 
 -- held again
-module _ {h : Head} {rules marks from to : List ℕ} {side : List Bool} where
-  pub still-held : Standing (packed h rules marks) → h .stands ≡ true → Room rules marks from to side
-      → Drawn (h .width) (h .given) (h .count) (rulesIn rules) (zipped from to side) (h .fixed) → Held h rules marks from to side
-  still-held p e room d =
+module _ {h : Head} {rows : List (List ℕ)} {marks : List ℕ} where
+  pub still-held : Standing (packed h rows marks) → h .stands ≡ true → Room rows marks → Beside h rows → Held h rows marks
+  still-held p e room b =
       record {
         room = room;
-        tested = e ∙ sym (sheet-passes (packed h rules marks) (record { on = page (p .on); reached = p .reached; gives = p .gives })) ∙ packed-told h rules marks;
-        drawn = λ t z. d;
+        tested = e ∙ sym (sheet-passes (packed h rows marks) (record { on = page (p .on); reached = p .reached; gives = p .gives })) ∙ packed-told h rows marks;
+        beside = λ t z. b;
       }

@@ -1,28 +1,22 @@
--- A mark on a sheet that is laid out is the mark on its record: the rules and the marks are those of the page with one mark more. Assumes
+-- A mark on a slate is the mark on its record: the rules and the marks are those of the page with one mark more. Assumes
 -- nothing.
-use mathlib.Core.Path.{_≡_, refl, sym, ap, _∙_}
-use mathlib.Core.Bool.{Bool}
-use mathlib.Core.List.{List, _∷_, map}
+use mathlib.Core.Path.{_≡_, refl, sym, _∙_}
+use mathlib.Core.List.{List, _∷_}
 use Prim.Native.Nat.{ℕ, _+_, _≤_, _<_}
 use native.Mathlib.Omega.{arith}
-use lib.ListN.{length, set, take}
-use Rattle.band.specs.Band.{bandOf}
-use Rattle.bits.specs.Fixed.{fixedBits}
-use Rattle.lent.specs.Lent.{zipped}
+use lib.ListN.{length, set}
 use Rattle.page.specs.Calls.{changed, mark, written}
 use Rattle.page.specs.Page.{MARKS, a-mark, marksOn, withEntries}
 use Rattle.page.specs.Reached.{step}
 use Rattle.page.proofs.Lawful.{reached-page}
 use Rattle.page.proofs.Refusals.{blank-mark, mark-fits, mark-full}
-use Rattle.places.specs.Places.{rulesIn}
-use Rattle.places.proofs.Lying.{as-long}
-use Rattle.lent_head.specs.declared.Head.{Head}
-use Rattle.lent_head.specs.Held.{Drawn, Held}
-use Rattle.lent_head.specs.Numbers.{before}
-use Rattle.lent_head.proofs.Holding.{drawn-so}
-use Rattle.lent_calls.specs.Done.{Marks, bareMarks, bareRules, markedHead}
-use Rattle.lent_calls.specs.Done.Marks.{marked, unmarked}
-use Rattle.lent_calls.proofs.Bare.{bare-places, marks-bare, rules-first}
+use Rattle.rows.specs.Rows.{rulesIn}
+use Rattle.slate.specs.declared.Head.{Head}
+use Rattle.slate.specs.Held.{Beside, Held, bareMarks}
+use Rattle.slate.specs.Numbers.{before}
+use Rattle.slate_calls.specs.Done.{Marks, bareRules, markedHead}
+use Rattle.slate_calls.specs.Done.Marks.{marked, unmarked}
+use Rattle.slate_calls.proofs.Bare.{room-marked}
 use Rattle.sheet.specs.Held.{packed}
 use Rattle.sheet.specs.Laid.{After}
 use Rattle.sheet.specs.Stands.{Standing}
@@ -32,38 +26,32 @@ use Rattle.sheet.proofs.Holding.{on-sheet, refused-after, still-held}
 use Rattle.sheet.proofs.Stands.{known}
 use Rattle.sheet.proofs.Ways.{accepted-reads}
 
-module _ {h : Head} {rules marks from to : List ℕ} {side : List Bool} (held : Held h rules marks from to side) where
-  module _ (e : before (h .stands) (h .width) ≡ 0) (room : h .marked < MARKS) (rules′ marks′ : List ℕ) (emptied : rulesIn rules′ ≡ bareRules h rules)
-      (noted : marks′ ≡ set (bareMarks h marks) (h .marked) (h .count)) where
-    abbrev p : Standing (packed h rules marks)
+module _ {h : Head} {rows : List (List ℕ)} {marks : List ℕ} (held : Held h rows marks) where
+  module _ (e : before (h .stands) (h .opening .width) ≡ 0) (room : h .counts .marked < MARKS) (rows′ : List (List ℕ)) (marks′ : List ℕ)
+      (emptied : rulesIn rows′ ≡ bareRules h rows) (noted : marks′ ≡ set (bareMarks h marks) (h .counts .marked) (h .counts .count)) (beside : Beside (markedHead h) rows′) where
+    abbrev p : Standing (packed h rows marks)
     p = on-sheet held e
 
     free : length (marksOn (p .on .entries)) < MARKS
     unfolding packed
     free = omega (arith, room, known p .marked)
 
-    still-drawn : Drawn (h .width) (h .count) (h .count) (rulesIn rules′) (zipped from to side) (h .fixed)
-    still-drawn =
-        let d = drawn-so held e in
-        let same = ap (take (h .count)) emptied ∙ rules-first held e in
-        record { own = d .own ∙ ap (map (bandOf (h .width))) (sym same); bits = d .bits ∙ ap fixedBits (sym same) }
-
-    record-marked : withMark (cleared (packed h rules marks)) ≡ packed (markedHead h) rules′ marks′
+    record-marked : withMark (cleared (packed h rows marks)) ≡ packed (markedHead h) rows′ marks′
     unfolding packed
     record-marked =
         λ i. record {
-          width = h .width;
+          width = h .opening .width;
           rules = sym emptied i;
-          count = h .count;
+          count = h .counts .count;
           marks = sym noted i;
-          marked = h .marked + 1;
+          marked = h .counts .marked + 1;
           kept = h .kept;
-          given = h .count;
+          given = h .counts .count;
           waiting = 0;
-          edition = h .edition;
+          edition = h .opening .edition;
         }
 
-    with-mark : Standing (packed (markedHead h) rules′ marks′)
+    with-mark : Standing (packed (markedHead h) rows′ marks′)
     unfolding written changed
     with-mark =
         record {
@@ -72,25 +60,19 @@ module _ {h : Head} {rules marks from to : List ℕ} {side : List Bool} (held : 
           gives = sym (after-mark _ (p .gives) (reached-page (p .reached)) free ∙ record-marked);
         }
 
-    marked-after : After (packed h rules marks) mark 0 (markedHead h) rules′ marks′ from to side
+    marked-after : After (packed h rows marks) mark 0 (markedHead h) rows′ marks′
     unfolding Outcome written changed
     marked-after =
         record {
           outcome = accepted-reads _ (p .reached) (p .gives) mark (mark-fits _ free) (after-mark _ (p .gives) (reached-page (p .reached)) free ∙ record-marked);
-          held = still-held with-mark refl
-              (record {
-                rules-places = ap length emptied ∙ bare-places held e;
-                marks-places = as-long _ (bareMarks h marks) (h .marked) MARKS (h .count) noted (marks-bare held e);
-                band-places = held .room .band-places;
-              })
-              still-drawn;
+          held = still-held with-mark refl (room-marked held e emptied noted) beside;
         }
 
-  full : (p : Standing (packed h rules marks)) → MARKS ≤ h .marked → MARKS ≤ length (marksOn (p .on .entries))
+  full : (p : Standing (packed h rows marks)) → MARKS ≤ h .counts .marked → MARKS ≤ length (marksOn (p .on .entries))
   unfolding packed
   full p l = omega (arith, l, known p .marked)
 
-  pub mark-after : {n : ℕ} {h′ : Head} {rules′ marks′ : List ℕ} → Marks h rules marks n h′ rules′ marks′ → After (packed h rules marks) mark n h′ rules′ marks′ from to side
+  pub mark-after : {n : ℕ} {h′ : Head} {rows′ : List (List ℕ)} {marks′ : List ℕ} → Marks h rows marks n h′ rows′ marks′ → After (packed h rows marks) mark n h′ rows′ marks′
   unfolding Outcome
   mark-after (unmarked why) = record { outcome = refused-after held why mark blank-mark (λ z. omega arith) (λ p l. mark-full _ (full p l)); held = held }
-  mark-after (marked e room emptied noted) = marked-after e room _ _ emptied noted
+  mark-after (marked e room emptied noted beside) = marked-after e room _ _ emptied noted beside

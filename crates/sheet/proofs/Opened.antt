@@ -1,14 +1,12 @@
--- An opening on a sheet that is laid out is the opening on its record: every place is emptied, as on a new page. Assumes nothing.
+-- An opening on a slate is the opening on its record: every place is emptied, as on a new page. Assumes nothing.
 use mathlib.Core.Path.{_≡_, refl, ap, _∙_}
-use mathlib.Core.Bool.{Bool}
 use mathlib.Core.List.{List, []}
 use Prim.Native.Nat.{ℕ, _≤_}
 use native.Mathlib.Omega.{arith}
-use lib.ListN.{length, length-replicate, replicate}
+use lib.ListN.{replicate}
 use Rattle.word.specs.Edition.{terms}
 use Rattle.rule.specs.Meaning.{RULES}
 use Rattle.accept.specs.Accept.{noRule}
-use Rattle.lent.specs.Lent.{zipped}
 use Rattle.verdict.specs.declared.Kept.{Kept}
 use Rattle.verdict.specs.Kept.{kept}
 use Rattle.page.specs.Calls.{changed, open-at, written}
@@ -16,12 +14,12 @@ use Rattle.page.specs.declared.Opening.{Opening}
 use Rattle.page.specs.Page.{MARKS, marksOn, newPage, no-page, page, restored, rulesOn}
 use Rattle.page.specs.Reached.{start, step}
 use Rattle.page.proofs.Refusals.{open-fits, open-narrow, open-wide}
-use Rattle.places.specs.Places.{rulesIn}
-use Rattle.lent_head.specs.declared.Head.{Head}
-use Rattle.lent_head.specs.Held.{Held}
-use Rattle.lent_calls.specs.Done.{Opens, newHead}
-use Rattle.lent_calls.specs.Done.Opens.{narrow, opened, wide}
-use Rattle.lent_calls.proofs.Opened.{no-rules}
+use Rattle.rows.specs.Rows.{rulesIn}
+use Rattle.slate.specs.declared.Head.{Head}
+use Rattle.slate.specs.Held.{Beside, Held}
+use Rattle.slate_calls.specs.Done.{Opens, newHead}
+use Rattle.slate_calls.specs.Done.Opens.{narrow, opened, wide}
+use Rattle.slate_calls.proofs.Bare.{room-opened}
 use Rattle.sheet.specs.Held.{packed}
 use Rattle.sheet.specs.Laid.{After}
 use Rattle.sheet.specs.Record.{fresh}
@@ -29,10 +27,10 @@ use Rattle.sheet.specs.Statements.{Outcome, answers}
 use Rattle.sheet.proofs.Holding.{still-held}
 use Rattle.sheet.proofs.Ways.{accepted-open, refused-open}
 
-module _ {h : Head} {rules marks from to : List ℕ} {side : List Bool} (held : Held h rules marks from to side) (g : Opening) where
-  module _ (low : 1 ≤ g .width) (high : g .width ≤ terms (g .edition) .widest) (rules′ marks′ : List ℕ) (k : Kept) (emptied : rulesIn rules′ ≡ replicate RULES noRule)
-      (unmarked : marks′ ≡ replicate MARKS 0) (found : k ≡ kept (g .width) []) where
-    record-open : packed (newHead g k) rules′ marks′ ≡ fresh (page (newPage g))
+module _ {h : Head} {rows : List (List ℕ)} {marks : List ℕ} (held : Held h rows marks) (g : Opening) where
+  module _ (low : 1 ≤ g .width) (high : g .width ≤ terms (g .edition) .widest) (rows′ : List (List ℕ)) (marks′ : List ℕ) (k : Kept)
+      (emptied : rulesIn rows′ ≡ replicate RULES noRule) (unmarked : marks′ ≡ replicate MARKS 0) (beside : Beside (newHead g k) rows′) (found : k ≡ kept (g .width) []) where
+    record-open : packed (newHead g k) rows′ marks′ ≡ fresh (page (newPage g))
     unfolding packed fresh rulesOn marksOn restored
     record-open =
         λ i. record {
@@ -47,23 +45,18 @@ module _ {h : Head} {rules marks from to : List ℕ} {side : List Bool} (held : 
           edition = g .edition;
         }
 
-    opened-so : After (packed h rules marks) (open-at g) 0 (newHead g k) rules′ marks′ from to side
+    opened-so : After (packed h rows marks) (open-at g) 0 (newHead g k) rows′ marks′
     unfolding Outcome written changed
     opened-so =
         let fits = open-fits no-page g low high in
         record {
-          outcome = ap (answers 0) record-open ∙ accepted-open (packed h rules marks) g fits;
+          outcome = ap (answers 0) record-open ∙ accepted-open (packed h rows marks) g fits;
           held = still-held (record { on = newPage g; reached = step start (open-at g) fits; gives = record-open }) refl
-              (record {
-                rules-places = ap length emptied ∙ length-replicate RULES noRule;
-                marks-places = ap length unmarked ∙ length-replicate {A = ℕ} MARKS 0;
-                band-places = held .room .band-places;
-              })
-              (no-rules (g .width) (rulesIn rules′) (zipped from to side));
+              (room-opened emptied unmarked) beside;
         }
 
-  pub open-after : {n : ℕ} {h′ : Head} {rules′ marks′ : List ℕ} → Opens h rules marks g n h′ rules′ marks′ → After (packed h rules marks) (open-at g) n h′ rules′ marks′ from to side
+  pub open-after : {n : ℕ} {h′ : Head} {rows′ : List (List ℕ)} {marks′ : List ℕ} → Opens h rows marks g n h′ rows′ marks′ → After (packed h rows marks) (open-at g) n h′ rows′ marks′
   unfolding Outcome
   open-after (narrow l) = record { outcome = refused-open _ g (open-narrow no-page g l) (λ z. omega arith); held = held }
   open-after (wide l) = record { outcome = refused-open _ g (open-wide no-page g l) (λ z. omega arith); held = held }
-  open-after (opened k low high emptied unmarked found) = opened-so low high _ _ k emptied unmarked found
+  open-after (opened k low high emptied unmarked beside found) = opened-so low high _ _ k emptied unmarked beside found

@@ -18,9 +18,9 @@ use Rattle.verdict.specs.declared.Kept.{Kept}
 use Rattle.sheet.specs.declared.Sheet.{Sheet}
 use Rattle.page.specs.Page.{MARKS, padded}
 use Rattle.page.specs.Shape.{isZero, marksShaped, rising, rulesShaped}
-use Rattle.lent_head.specs.Shape.{inForce, wellShaped}
-use Rattle.lent_head.proofs.Shaped.{shaped-so}
-use Rattle.sheet.specs.Shape.{headOf}
+use Rattle.slate.specs.Shape.{inForce, wellShaped}
+use Rattle.slate.proofs.Shaped.{shaped-so}
+use Rattle.sheet.specs.Shape.{untested}
 
 -- the record with these rules and marks, and zeros in the other places; so many of both are in force, and so many marks wait
 abbrev pub filled : (w : ℕ) → List Rule → List ℕ → (count marked waiting : ℕ) → Kept → Edition → Sheet
@@ -44,7 +44,7 @@ all-padded {A} n z l k c d =
 
 -- the shape, of a record
 abbrev pub shapedSo : Sheet → Bool
-shapedSo s = wellShaped (headOf s) (s .rules) (s .marks)
+shapedSo s = wellShaped (untested s) (s .rules) (s .marks)
 
 module _ (w : ℕ) (rs : List Rule) (ms : List ℕ) (n m v : ℕ) (k : Kept) (e : Edition) where
   pub shaped-filled : length rs ≤ RULES → length ms ≤ MARKS → length ms ≡ m + v → every (acceptable w) rs ≡ true → rising 0 ms (length rs) ≡ true
@@ -77,7 +77,7 @@ pub record ShapedSheet (s : Sheet) : Type 0 where
 
 pub shaped-sheet : (s : Sheet) → length (s .rules) ≡ RULES → length (s .marks) ≡ MARKS → shapedSo s ≡ true → ShapedSheet s
 shaped-sheet s a b e =
-    let h = shaped-so (headOf s) (s .rules) (s .marks) a b e in
+    let h = shaped-so (untested s) (s .rules) (s .marks) a b e in
     let c : length (rulesIn s) ≡ s .given = length-take-le _ _ (omega (arith, a, h .given-high)) in
     let d : length (marksIn s) ≡ s .marked + s .waiting = length-take-le _ _ (omega (arith, b, h .marks-high)) in
     record {

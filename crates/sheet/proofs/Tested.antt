@@ -20,8 +20,8 @@ use Rattle.verdict.specs.Kept.{keeps, kept}
 use Rattle.sheet.specs.declared.Sheet.{Sheet}
 use Rattle.page.specs.Page.{Entry, MARKS, OpenPage, Page, at-width, marksOn, newPage, no-page, padded, page, restored, rulesOn, withPile}
 use Rattle.sheet.specs.Record.{fresh}
-use Rattle.lent_head.specs.Shape.{inForce, sameKept, standsSo, wellShaped}
-use Rattle.lent_head.proofs.Shaped.{none-waits, passes-same, same-passes}
+use Rattle.slate.specs.Shape.{inForce, sameKept, standsSo, wellShaped}
+use Rattle.slate.proofs.Shaped.{none-waits, passes-same, same-passes}
 use Rattle.sheet.specs.Shape.{isSheet}
 use Rattle.page.specs.Shape.{marksShaped, rising, rulesShaped}
 use Rattle.sheet.specs.Statements.{IsSheet}

@@ -1,20 +1,20 @@
--- The record that a sheet laid out in lent arrays stands for. A route: what a call must answer is said of this record.
+-- The record that a slate stands for. A route: what a call must answer is said of this record.
 use mathlib.Core.List.{List}
 use Prim.Native.Nat.{ℕ}
-use Rattle.places.specs.Places.{rulesIn}
-use Rattle.lent_head.specs.declared.Head.{Head}
+use Rattle.rows.specs.Rows.{rulesIn}
+use Rattle.slate.specs.declared.Head.{Head}
 use Rattle.sheet.specs.declared.Sheet.{Sheet}
 
-unfoldable pub packed : Head → (rules marks : List ℕ) → Sheet
-packed h rules marks =
+unfoldable pub packed : Head → List (List ℕ) → (marks : List ℕ) → Sheet
+packed h rows marks =
     record {
-      width = h .width;
-      rules = rulesIn rules;
-      count = h .count;
+      width = h .opening .width;
+      rules = rulesIn rows;
+      count = h .counts .count;
       marks = marks;
-      marked = h .marked;
+      marked = h .counts .marked;
       kept = h .kept;
-      given = h .given;
-      waiting = h .waiting;
-      edition = h .edition;
+      given = h .counts .given;
+      waiting = h .counts .waiting;
+      edition = h .opening .edition;
     }

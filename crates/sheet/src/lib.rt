@@ -1,22 +1,18 @@
 // The sheet and the calls on it. Each call takes any record and any numbers, and refuses what the paper refuses, in its order. The
-// calls work on a sheet that is laid out in lent arrays (`laid`); by value a call lays the record out, calls, and packs it again.
+// calls work on a slate (`laid`); by value a call lays the record out there, calls, and packs it again.
 ghost use mathlib.Core.Path.{_≡_};
 ghost use Rattle.sheet.specs.Record.{blank};
 
-mod adding;
 mod asking;
-mod going_back;
-mod going_forward;
+mod calling;
 pub mod laid;
-mod laying;
-mod marking;
-mod opening;
 
 pub use asking::refusal;
 use chain::Link;
-pub use lent_head::Head;
-pub use lent_head::Said;
+use page::Opening;
 use rule::Rule;
+pub use slate::Head;
+pub use slate::Said;
 use verdict::Kept;
 use word::Edition;
 
@@ -39,6 +35,15 @@ pub struct Sheet {
 pub struct Answer {
     pub number: u64,
     pub sheet: Sheet,
+}
+
+// A call that changes a sheet. An opening and an add are frames of an edition.
+pub enum Call {
+    Open(Opening),
+    Add(Edition, Rule),
+    Mark,
+    Back,
+    Forward,
 }
 
 // What asking answers: 0 or the number of a refusal, what is kept, and how many links were written.

@@ -1,4 +1,4 @@
--- `Sheet::ask` meets its contract: the arrays that are asked hold the record. Assumes nothing.
+-- `Sheet::ask` meets its contract: the slate that is asked holds the record. Assumes nothing.
 use borrow.Author.Needs.{needs}
 use Rattle.sheet.proofs.ByValue.{asked-by-value, empty-room}
 use Rattle.sheet.proofs.Sheet.ask.Statement.{statement}
@@ -16,7 +16,7 @@ same-length c = search needs
 returns : tie.Need-returns
 returns c =
     let a = c .before .before in
-    let l = a .before .before .before .before .before .before .before in
+    let l = a .before .before .before .before in
     asked-by-value (l .lay-out .ensures .0) (a .ask .ensures)
 
 pub ask-spec : {M : Type 1} → statement M

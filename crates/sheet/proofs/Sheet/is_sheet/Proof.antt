@@ -2,10 +2,9 @@
 use mathlib.Core.Path.{sym, ap, _∙_}
 use lib.ListN.{length}
 use Rattle.sheet.specs.declared.Sheet.{Sheet}
-use Rattle.sheet.specs.Held.{packed}
 use Rattle.sheet.specs.Shape.{isSheet}
 use Rattle.sheet.proofs.ByValue.{empty-room}
-use Rattle.sheet.proofs.Holding.{packed-told}
+use Rattle.sheet.proofs.Holding.{marks-length, packed-told, rules-length}
 use Rattle.sheet.proofs.Tested.{passes-sheet, sheet-passes}
 use Rattle.sheet.proofs.Sheet.is_sheet.Statement.{statement}
 use Rattle.sheet.proofs.Sheet.is_sheet.Tie as tie
@@ -14,14 +13,13 @@ lay-out-requires : tie.Need-lay-out-requires
 lay-out-requires c κs = empty-room
 
 returns : tie.Need-returns
-unfolding packed
 returns c =
     let laid = c .lay-out .ensures .0 in
     let held = c .lay-out .ensures .1 in
     let told = held .tested ∙ sym (packed-told _ _ _) ∙ ap isSheet laid in
-    let rules-length = sym (ap (λ (s : Sheet). length (s .rules)) laid) ∙ held .room .rules-places in
-    let marks-length = sym (ap (λ (s : Sheet). length (s .marks)) laid) ∙ held .room .marks-places in
-    (told, ((λ e. passes-sheet _ rules-length marks-length (sym told ∙ e)), (λ h. told ∙ sheet-passes _ h)))
+    let rules = sym (ap (λ (s : Sheet). length (s .rules)) laid) ∙ rules-length held in
+    let marks = sym (ap (λ (s : Sheet). length (s .marks)) laid) ∙ marks-length held in
+    (told, ((λ e. passes-sheet _ rules marks (sym told ∙ e)), (λ h. told ∙ sheet-passes _ h)))
 
 pub is-sheet-spec : {M : Type 1} → statement M
 is-sheet-spec = tie.close (tie.spec lay-out-requires returns)

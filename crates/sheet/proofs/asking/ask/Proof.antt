@@ -1,7 +1,7 @@
 -- `ask` meets its contract: what is kept is what the rules give, so a chain is written just where no word fits. Assumes nothing.
 use mathlib.Core.Path.{_≡_, sym, ap, _∙_, subst}
 use mathlib.Core.List.{List}
-use Prim.Native.Nat.{_≤_}
+use Prim.Native.Nat.{ℕ, _≤_}
 use native.Mathlib.Omega.{arith}
 use borrow.Author.Needs.{needs}
 use lib.ListN.{take}
@@ -12,12 +12,12 @@ use Rattle.verdict.specs.Kept.{kept}
 use Rattle.sheet.specs.Stands.{Standing, Stands}
 use Rattle.sheet.specs.Statements.{Asked}
 use Rattle.sheet.proofs.WaysOfAsking.{chain-asking, kept-asking, refused-asking, short-asking}
-use Rattle.lent.specs.Lent.{zipped}
-use Rattle.lent.specs.OfRules.{OfLawful}
-use Rattle.places.specs.Places.{rulesIn}
-use Rattle.lent_head.specs.Numbers.{before}
+use Rattle.rows.specs.OfRules.{OfLawful}
+use Rattle.rows.specs.Rows.{bandsIn, rulesIn}
+use Rattle.slate.specs.declared.Head.{Head}
+use Rattle.slate.specs.Numbers.{before}
 use Rattle.sheet.specs.Held.{packed}
-use Rattle.lent_head.proofs.Holding.{drawn-so, kept-so, lawful-so, swept, waits-so, width-so}
+use Rattle.slate.proofs.Holding.{bands-places, drawn-so, kept-so, lawful-so, swept, waits-so, width-so}
 use Rattle.sheet.proofs.Holding.{on-sheet, stands-so}
 use Rattle.sheet.proofs.asking.ask.Statement.{statement}
 use Rattle.sheet.proofs.asking.ask.Tie as tie
@@ -25,28 +25,33 @@ use Rattle.sheet.proofs.asking.ask.Tie as tie
 abbrev start : tie.Else1 → tie.Start
 start a = a .before .before .before
 
-none : (a : tie.Else1) → before (start a .args .head .stands) (start a .args .head .width) ≡ 0
-none a = sym (a .before .standing .ensures) ∙ a .if1 .left
+abbrev head : tie.Else1 → Head
+head a = start a .args .head
 
-on : (a : tie.Else1) → Standing (packed (start a .args .head) (start a .args .rules .now) (start a .args .marks .now))
+abbrev rows : tie.Else1 → List (List ℕ)
+rows a = start a .args .rows .now
+
+none : (a : tie.Else1) → before (head a .stands) (head a .opening .width) ≡ 0
+none a = sym (a .before .refuses .ensures) ∙ a .if1 .left
+
+on : (a : tie.Else1) → Standing (packed (head a) (rows a) (start a .args .marks .now))
 on a = on-sheet (start a .pre) (none a)
 
-few : (a : tie.Else1) → start a .args .head .count ≤ RULES
+few : (a : tie.Else1) → head a .counts .count ≤ RULES
 few a = let w = waits-so (start a .pre) (none a) in omega (arith, w .given-low, w .given-high)
 
 abbrev rs : tie.Else1 → List Rule
-rs a = take (start a .args .head .count) (rulesIn (start a .args .rules .now))
+rs a = take (head a .counts .count) (rulesIn (rows a))
 
 -- the rules that the bands and the bits are those of
-of-rules : (a : tie.Else1)
-    → OfLawful (start a .args .head .width) (take (start a .args .head .count) (zipped (start a .args .from .now) (start a .args .to .now) (start a .args .side .now))) (start a .args .head .fixed) (rs a)
+of-rules : (a : tie.Else1) → OfLawful (head a .opening .width) (take (head a .counts .count) (bandsIn (rows a))) (head a .fixed) (rs a)
 of-rules a = let h = start a .pre in (lawful-so h (none a), drawn-so h (none a))
 
-no-word : (a : tie.Else1) → start a .args .head .kept .verdict ≡ 0 → kept (start a .args .head .width) (rs a) .verdict ≡ 0
+no-word : (a : tie.Else1) → head a .kept .verdict ≡ 0 → kept (head a .opening .width) (rs a) .verdict ≡ 0
 no-word a e = sym (ap (λ (k : Kept). k .verdict) (kept-so (start a .pre) (none a))) ∙ e
 
-standing-requires : tie.Need-standing-requires
-standing-requires c κs = search needs
+refuses-requires : tie.Need-refuses-requires
+refuses-requires c κs = search needs
 
 refusal-requires : tie.Need-refusal-requires
 refusal-requires c κs = search needs
@@ -55,7 +60,7 @@ returns : tie.Need-returns
 unfolding packed
 returns c =
     let s = c .before .before .before .before in
-    subst (Asked _ _ _) (sym (c .refusal .ensures)) (refused-asking (subst (Stands _) (sym (c .before .before .standing .ensures)) (stands-so (s .pre))) (c .before .if1 .taken) _)
+    subst (Asked _ _ _) (sym (c .refusal .ensures)) (refused-asking (subst (Stands _) (sym (c .before .before .refuses .ensures)) (stands-so (s .pre))) (c .before .if1 .taken) _)
 
 room-requires : tie.Need-room-requires
 room-requires c κs = few (c .before)
@@ -80,7 +85,7 @@ write-requires c κs =
     let e = c .before .before .before in
     let a = e .before .before .before in
     let h = start a .pre in
-    let t = swept (start a .args .head .width) (start a .args .head .count) _ _ _ _ (rulesIn (start a .args .rules .now)) (width-so h (none a) .low) (few a) (h .room .band-places) (lawful-so h (none a)) (drawn-so h (none a)) in
+    let t = swept (head a .opening .width) (head a .counts .count) _ _ (rulesIn (rows a)) (width-so h (none a) .low) (few a) (bands-places (h .room)) (lawful-so h (none a)) (drawn-so h (none a)) in
     (width-so h (none a), (t .lie, ((rs a, of-rules a, no-word a (c .before .if3 .left)), omega (arith, e .before .room .ensures, e .if2 .left))))
 
 same-length : tie.Need-same-length
@@ -99,7 +104,7 @@ pub ask-spec : {M : Type 1} → statement M
 ask-spec =
     tie.close
     (tie.spec
-    standing-requires
+    refuses-requires
     refusal-requires
     returns
     room-requires

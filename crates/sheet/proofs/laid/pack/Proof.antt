@@ -1,8 +1,8 @@
 -- `pack` meets its contract. Assumes nothing.
 use borrow.Author.Needs.{needs}
 use Rattle.sheet.specs.Held.{packed}
-use Rattle.sheet.proofs.laying.pack.Statement.{statement}
-use Rattle.sheet.proofs.laying.pack.Tie as tie
+use Rattle.sheet.proofs.laid.pack.Statement.{statement}
+use Rattle.sheet.proofs.laid.pack.Tie as tie
 
 pack-requires : tie.Need-pack-requires
 pack-requires c κs = search needs
@@ -10,17 +10,18 @@ pack-requires c κs = search needs
 returns : tie.Need-returns
 unfolding packed
 returns c =
-    let s = c .before .before .before in
+    let s = c .before .before .before .before .before in
+    let h = s .args .head in
     λ i. record {
-      width = s .args .head .width;
+      width = h .opening .width;
       rules = c .before .pack .ensures i;
-      count = s .args .head .count;
+      count = h .counts .count;
       marks = s .args .marks .now;
-      marked = s .args .head .marked;
-      kept = s .args .head .kept;
-      given = s .args .head .given;
-      waiting = s .args .head .waiting;
-      edition = s .args .head .edition;
+      marked = h .counts .marked;
+      kept = h .kept;
+      given = h .counts .given;
+      waiting = h .counts .waiting;
+      edition = h .opening .edition;
     }
 
 pub pack-spec : {M : Type 1} → statement M
