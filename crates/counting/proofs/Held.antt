@@ -1,6 +1,5 @@
 -- The ways out of a count: refused before the table, and counted. Assumes nothing.
 use mathlib.Core.Path.{_≡_, refl, sym, ap, ap₂, _∙_, subst}
-use mathlib.Core.Bool.{Bool}
 use mathlib.Core.List.{List}
 use Prim.Native.Nat.{ℕ, suc, _≤_}
 use native.Mathlib.Omega.{arith}
@@ -10,17 +9,16 @@ use Rattle.word.specs.Search.{count}
 use Rattle.word.proofs.Widths.{top-suc}
 use Rattle.rule.specs.declared.Rule.{Rule}
 use Rattle.rule.specs.Meaning.{RULES, fits}
-use Rattle.lent.specs.Bands.{passes}
-use Rattle.lent.specs.Lent.{zipped}
-use Rattle.lent.proofs.Passes.{passes-fits}
+use Rattle.rows.specs.Bands.{passes}
+use Rattle.rows.specs.Rows.{bandsIn, rulesIn}
+use Rattle.rows.proofs.Passes.{passes-fits}
 use Rattle.page.specs.Calls.{firstThatApplies, isBlank, rulesOf}
 use Rattle.page.specs.Page.{Page, entriesOf, no-page, page, widthOf}
 use Rattle.page.specs.Reached.{Reached, start}
-use Rattle.places.specs.Places.{rulesIn}
-use Rattle.lent_head.specs.declared.Head.{Head}
-use Rattle.lent_head.specs.Held.{Held}
-use Rattle.lent_head.specs.Numbers.{before}
-use Rattle.lent_head.proofs.Holding.{Swept, drawn-so, lawful-so, swept, waits-so, width-so}
+use Rattle.slate.specs.declared.Head.{Head}
+use Rattle.slate.specs.Held.{Held}
+use Rattle.slate.specs.Numbers.{before}
+use Rattle.slate.proofs.Holding.{Swept, bands-places, drawn-so, lawful-so, swept, waits-so, width-so}
 use Rattle.sheet.specs.declared.Sheet.{Sheet}
 use Rattle.sheet.specs.Held.{packed}
 use Rattle.sheet.specs.Record.{fresh}
@@ -50,31 +48,31 @@ refused-count (no-sheet i) z =
 refused-count (blank-sheet e) z = counted-on no-page start e refl
 refused-count (on-page p) z = absurd (z refl)
 
-module _ {h : Head} {rules marks from to : List ℕ} {side : List Bool} (held : Held h rules marks from to side) (e : before (h .stands) (h .width) ≡ 0) where
+module _ {h : Head} {rows : List (List ℕ)} {marks : List ℕ} (held : Held h rows marks) (e : before (h .stands) (h .opening .width) ≡ 0) where
   abbrev own : List Rule
-  own = take (h .count) (rulesIn rules)
+  own = take (h .counts .count) (rulesIn rows)
 
-  pub few : h .count ≤ RULES
+  pub few : h .counts .count ≤ RULES
   few = let w = waits-so held e in omega (arith, w .given-low, w .given-high)
 
-  pub swept-so : Swept (h .width) (h .count) from to side (h .fixed)
+  pub swept-so : Swept (h .opening .width) (h .counts .count) (bandsIn rows) (h .fixed)
   swept-so =
-      swept _ _ _ _ _ _ (rulesIn rules) (width-so held e .low) few (held .room .band-places) (lawful-so held e) (drawn-so held e)
+      swept _ _ _ _ (rulesIn rows) (width-so held e .low) few (bands-places (held .room)) (lawful-so held e) (drawn-so held e)
 
   -- a word of the width passes the bands and the bits exactly when it fits
-  pub passes-so : (x : ℕ) → x ≤ top (h .width) → passes (take (h .count) (zipped from to side)) (h .fixed) x ≡ fits (h .width) own x
+  pub passes-so : (x : ℕ) → x ≤ top (h .opening .width) → passes (take (h .counts .count) (bandsIn rows)) (h .fixed) x ≡ fits (h .opening .width) own x
   passes-so x l =
       let d = drawn-so held e in
-      (λ i. passes (d .own i) (d .bits i) x) ∙ passes-fits (h .width) (width-so held e .low) own (lawful-so held e) x l
+      (λ i. passes (d .own i) (d .bits i) x) ∙ passes-fits (h .opening .width) (width-so held e .low) own (lawful-so held e) x l
 
-  many : count (passes (take (h .count) (zipped from to side)) (h .fixed)) (suc (top (h .width))) 0 ≡ howMany (h .width) own
+  many : count (passes (take (h .counts .count) (bandsIn rows)) (h .fixed)) (suc (top (h .opening .width))) 0 ≡ howMany (h .opening .width) own
   unfolding howMany
   many =
-      count-same _ (fits (h .width) own) (suc (top (h .width))) 0 (λ y a b. passes-so y (omega arith))
-      ∙ ap (λ (k : ℕ). count (fits (h .width) own) k 0) (top-suc (h .width))
+      count-same _ (fits (h .opening .width) own) (suc (top (h .opening .width))) 0 (λ y a b. passes-so y (omega arith))
+      ∙ ap (λ (k : ℕ). count (fits (h .opening .width) own) k 0) (top-suc (h .opening .width))
 
-  pub tallied : {r : Share} → r ≡ shares 0 (count (passes (take (h .count) (zipped from to side)) (h .fixed)) (suc (top (h .width))) 0)
-      → Counted (packed h rules marks) r
+  pub tallied : {r : Share} → r ≡ shares 0 (count (passes (take (h .counts .count) (bandsIn rows)) (h .fixed)) (suc (top (h .opening .width))) 0)
+      → Counted (packed h rows marks) r
   unfolding packed shareOf countGrounds firstThatApplies isBlank widthOf rulesOf entriesOf
   tallied q =
       let p = on-sheet held e in

@@ -2,7 +2,7 @@
 ghost use mathlib.Core.Path.{_≡_};
 ghost use Rattle.counting.specs.Counted.{Counted};
 ghost use Rattle.counting.specs.Share.{shares};
-use places::NUMBERS;
+use rows::NUMBERS;
 use rule::Rule;
 use sheet::Sheet;
 use word::Width;
@@ -19,25 +19,18 @@ pub struct Share {
 pub fn count(sheet: Sheet) -> Share
     ensures { λ r. ⌜ Counted sheet r ⌝ }
 {
-    let mut rules = [0; NUMBERS];
+    let mut rows = [[0; NUMBERS]; Rule::LIMIT];
     let mut marks: [usize; Sheet::MARKS] = [0; Sheet::MARKS];
-    let mut from = [0; Rule::LIMIT];
-    let mut to = [0; Rule::LIMIT];
-    let mut side = [false; Rule::LIMIT];
-    let head = sheet::laid::lay_out(sheet, &mut rules, &mut marks, &mut from, &mut to, &mut side);
-    let number = lent_head::standing(head);
+    let head = sheet::laid::lay_out(sheet, &mut rows, &mut marks);
+    let number = slate::refuses(head);
     if number != 0 {
         return refusal(number);
     }
     let fixed = head.fixed;
-    let total = tally::words(
-        &from,
-        &to,
-        &side,
-        head.count,
-        fixed,
-        Width { bits: head.width },
-    );
+    let width = Width {
+        bits: head.opening.width,
+    };
+    let total = tally::words(&rows, head.counts.count, fixed, width);
     Share {
         number: 0,
         quotient: total.quotient,

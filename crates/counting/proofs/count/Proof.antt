@@ -1,8 +1,8 @@
--- `count` meets its contract: what is tallied on the arrays is the count of the record that was laid out. Assumes nothing.
+-- `count` meets its contract: what is tallied on the slate is the count of the record that was laid out. Assumes nothing.
 use mathlib.Core.Path.{_≡_, sym, ap, _∙_, subst}
 use borrow.Author.Needs.{needs}
-use Rattle.lent_head.specs.Numbers.{before}
-use Rattle.lent_head.proofs.Holding.{width-so}
+use Rattle.slate.specs.Numbers.{before}
+use Rattle.slate.proofs.Holding.{width-so}
 use Rattle.sheet.specs.declared.Sheet.{Sheet}
 use Rattle.sheet.specs.Stands.{Stands}
 use Rattle.sheet.proofs.ByValue.{empty-room}
@@ -17,8 +17,8 @@ use Rattle.counting.proofs.count.Tie as tie
 lay-out-requires : tie.Need-lay-out-requires
 lay-out-requires c κs = empty-room
 
-standing-requires : tie.Need-standing-requires
-standing-requires c κs = search needs
+refuses-requires : tie.Need-refuses-requires
+refuses-requires c κs = search needs
 
 refusal-requires : tie.Need-refusal-requires
 refusal-requires c κs = search needs
@@ -27,34 +27,34 @@ refusal-requires c κs = search needs
 abbrev shared : Total → Share
 shared t = record { number = 0; quotient = t .quotient; remainder = t .remainder }
 
--- the record's arrays, once it is laid out, and what was found of it
+-- the record on its slate, and what was found of it
 abbrev Found : Type 0
-Found = tie.After-standing
+Found = tie.After-refuses
 
 returns : tie.Need-returns
 returns c =
     let f : Found = c .before .before in
     let o = f .before in
     subst (λ (s : Sheet). Counted s (c .refusal .result)) (o .lay-out .ensures .0)
-    (subst (Counted _) (sym (c .refusal .ensures)) (refused-count (subst (Stands _) (sym (f .standing .ensures)) (stands-so (o .lay-out .ensures .1))) (c .before .if1 .taken)))
+    (subst (Counted _) (sym (c .refusal .ensures)) (refused-count (subst (Stands _) (sym (f .refuses .ensures)) (stands-so (o .lay-out .ensures .1))) (c .before .if1 .taken)))
 
-none : (c : tie.Else1) → before (c .before .before .lay-out .result .stands) (c .before .before .lay-out .result .width) ≡ 0
-none c = sym (c .before .standing .ensures) ∙ c .if1 .left
+none : (c : tie.Else1) → before (c .before .before .lay-out .result .stands) (c .before .before .lay-out .result .opening .width) ≡ 0
+none c = sym (c .before .refuses .ensures) ∙ c .if1 .left
 
 words-requires : tie.Need-words-requires
 words-requires c κs =
-    let e = c .before .before .before in
+    let e = c .before in
     let h = e .before .before .lay-out .ensures .1 in
     let w = swept-so h (none e) in
     (width-so h (none e), (w .lie, w .tidy))
 
 returns-2 : tie.Need-returns-2
 returns-2 c =
-    let e = c .before .before .before .before in
+    let e = c .before .before in
     let o = e .before .before in
     subst (λ (s : Sheet). Counted s (shared (c .words .result))) (o .lay-out .ensures .0) (tallied (o .lay-out .ensures .1) (none e) (ap shared (c .words .ensures)))
 
 pub count-spec : {M : Type 1} → statement M
 count-spec =
     tie.close
-    (tie.spec lay-out-requires standing-requires refusal-requires returns words-requires returns-2)
+    (tie.spec lay-out-requires refuses-requires refusal-requires returns words-requires returns-2)
