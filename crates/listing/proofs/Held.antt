@@ -1,6 +1,5 @@
 -- The ways out of a listing: refused before the table, refused for its start, and listed. Assumes nothing.
 use mathlib.Core.Path.{_≡_, refl, sym, ap, ap₂, _∙_, subst}
-use mathlib.Core.Bool.{Bool}
 use mathlib.Core.List.{List, []}
 use Prim.Native.Nat.{ℕ, suc, _-_, _≤_, _<_}
 use native.Mathlib.Omega.{arith}
@@ -11,15 +10,14 @@ use Rattle.word.specs.Word.{top}
 use Rattle.word.proofs.Widths.{top-suc}
 use Rattle.rule.specs.declared.Rule.{Rule}
 use Rattle.rule.specs.Meaning.{fits}
-use Rattle.lent.specs.Bands.{passes}
-use Rattle.lent.specs.Lent.{zipped}
+use Rattle.rows.specs.Bands.{passes}
+use Rattle.rows.specs.Rows.{bandsIn, rulesIn}
 use Rattle.page.specs.Calls.{firstThatApplies, isBlank, rulesOf}
 use Rattle.page.specs.Page.{OpenPage, Page, entriesOf, no-page, page, rulesOn, widthOf}
 use Rattle.page.specs.Reached.{Reached, start}
-use Rattle.places.specs.Places.{rulesIn}
-use Rattle.lent_head.specs.declared.Head.{Head}
-use Rattle.lent_head.specs.Held.{Held}
-use Rattle.lent_head.specs.Numbers.{before}
+use Rattle.slate.specs.declared.Head.{Head}
+use Rattle.slate.specs.Held.{Held}
+use Rattle.slate.specs.Numbers.{before}
 use Rattle.sheet.specs.declared.Sheet.{Sheet}
 use Rattle.sheet.specs.Held.{packed}
 use Rattle.sheet.specs.Record.{fresh}
@@ -77,17 +75,17 @@ module _ (o : OpenPage) (p : ℕ) where
   unfolding listOn widthOf rulesOf entriesOf
   own-words m h = rw (own-number h)
 
-module _ {h : Head} {rules marks from to : List ℕ} {side : List Bool} (held : Held h rules marks from to side) (e : before (h .stands) (h .width) ≡ 0)
+module _ {h : Head} {rows : List (List ℕ)} {marks : List ℕ} (held : Held h rows marks) (e : before (h .stands) (h .opening .width) ≡ 0)
     (p : ℕ) (b : List ℕ) where
   abbrev own : List Rule
-  own = take (h .count) (rulesIn rules)
+  own = take (h .counts .count) (rulesIn rows)
 
-  same-width : h .width ≡ on-sheet held e .on .opening .width
+  same-width : h .opening .width ≡ on-sheet held e .on .opening .width
   unfolding packed
   same-width = known (on-sheet held e) .width
 
   -- a start above the top word
-  pub high-list : top (h .width) < p → Listed (packed h rules marks) p b b (listings 5 0)
+  pub high-list : top (h .opening .width) < p → Listed (packed h rows marks) p b b (listings 5 0)
   high-list l =
       let q = on-sheet held e in
       let high = subst (λ (w : ℕ). top w < p) same-width l in
@@ -96,17 +94,17 @@ module _ {h : Head} {rules marks from to : List ℕ} {side : List Bool} (held : 
       (sym (ap₂ (λ (n : ℕ) (xs : List ℕ). listings n (length xs)) (high-number (q .on) p high) none), sym (ap (λ (xs : List ℕ). atStart xs b) none))
 
   -- the words that pass are those that fit
-  all : p ≤ top (h .width)
-      → passing (passes (take (h .count) (zipped from to side)) (h .fixed)) (suc (top (h .width)) - p) p ≡ fittingFrom (h .width) own p
+  all : p ≤ top (h .opening .width)
+      → passing (passes (take (h .counts .count) (bandsIn rows)) (h .fixed)) (suc (top (h .opening .width)) - p) p ≡ fittingFrom (h .opening .width) own p
   unfolding fittingFrom
   all l =
-      passing-same _ (fits (h .width) own) (suc (top (h .width)) - p) p (λ y i j. passes-so held e y (omega arith))
-      ∙ ap (λ (k : ℕ). passing (fits (h .width) own) (k - p) p) (top-suc (h .width))
+      passing-same _ (fits (h .opening .width) own) (suc (top (h .opening .width)) - p) p (λ y i j. passes-so held e y (omega arith))
+      ∙ ap (λ (k : ℕ). passing (fits (h .opening .width) own) (k - p) p) (top-suc (h .opening .width))
 
-  pub own-list : p ≤ top (h .width) → {n : ℕ} {b′ : List ℕ}
-      → n ≡ length (take (length b) (passing (passes (take (h .count) (zipped from to side)) (h .fixed)) (suc (top (h .width)) - p) p))
-      → b′ ≡ atStart (take (length b) (passing (passes (take (h .count) (zipped from to side)) (h .fixed)) (suc (top (h .width)) - p) p)) b
-      → Listed (packed h rules marks) p b b′ (listings 0 n)
+  pub own-list : p ≤ top (h .opening .width) → {n : ℕ} {b′ : List ℕ}
+      → n ≡ length (take (length b) (passing (passes (take (h .counts .count) (bandsIn rows)) (h .fixed)) (suc (top (h .opening .width)) - p) p))
+      → b′ ≡ atStart (take (length b) (passing (passes (take (h .counts .count) (bandsIn rows)) (h .fixed)) (suc (top (h .opening .width)) - p) p)) b
+      → Listed (packed h rows marks) p b b′ (listings 0 n)
   unfolding packed wordsFrom
   own-list l c d =
       let q = on-sheet held e in

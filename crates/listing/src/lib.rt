@@ -1,7 +1,7 @@
 // Which words fit a sheet: from a given word upward, as many as a lent buffer holds.
 ghost use mathlib.Core.Path.{_≡_};
 ghost use Rattle.listing.specs.Listed.{Listed, listings};
-use places::NUMBERS;
+use rows::NUMBERS;
 use rule::Rule;
 use sheet::Sheet;
 use word::Width;
@@ -16,21 +16,21 @@ pub struct Listing {
 pub fn list(sheet: Sheet, start: u64, out: &mut [u64]) -> Listing
     ensures { λ r. ⌜ Listed sheet start (now (out .entry)) (now (out .exit)) r ⌝ }
 {
-    let mut rules = [0; NUMBERS];
+    let mut rows = [[0; NUMBERS]; Rule::LIMIT];
     let mut marks: [usize; Sheet::MARKS] = [0; Sheet::MARKS];
-    let mut from = [0; Rule::LIMIT];
-    let mut to = [0; Rule::LIMIT];
-    let mut side = [false; Rule::LIMIT];
-    let head = sheet::laid::lay_out(sheet, &mut rules, &mut marks, &mut from, &mut to, &mut side);
-    let number = lent_head::standing(head);
+    let head = sheet::laid::lay_out(sheet, &mut rows, &mut marks);
+    let number = slate::refuses(head);
     if number != 0 {
         return refusal(number);
     }
-    let width = Width { bits: head.width };
+    let width = Width {
+        bits: head.opening.width,
+    };
     if width.top() < start {
         return refusal(5);
     }
-    let written = filling::fill(head, &from, &to, &side, start, &mut *out);
+    let fixed = head.fixed;
+    let written = filling::fill(&rows, head.counts.count, fixed, width, start, &mut *out);
     Listing { number: 0, written }
 }
 

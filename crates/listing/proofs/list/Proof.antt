@@ -1,11 +1,11 @@
--- `list` meets its contract: what is filled in from the arrays is the listing of the record that was laid out. Assumes nothing.
+-- `list` meets its contract: what is filled in from the slate is the listing of the record that was laid out. Assumes nothing.
 use mathlib.Core.Path.{_≡_, sym, _∙_, subst}
 use Prim.Native.Nat.{ℕ, _≤_}
 use native.Mathlib.Omega.{arith}
 use borrow.Author.Needs.{needs}
 use Rattle.word.specs.Word.{top}
-use Rattle.lent_head.specs.Numbers.{before}
-use Rattle.lent_head.proofs.Holding.{width-so}
+use Rattle.slate.specs.Numbers.{before}
+use Rattle.slate.proofs.Holding.{width-so}
 use Rattle.sheet.specs.declared.Sheet.{Sheet}
 use Rattle.sheet.specs.Held.{packed}
 use Rattle.sheet.specs.Stands.{Stands}
@@ -20,8 +20,8 @@ use Rattle.listing.proofs.list.Tie as tie
 lay-out-requires : tie.Need-lay-out-requires
 lay-out-requires c κs = empty-room
 
-standing-requires : tie.Need-standing-requires
-standing-requires c κs = search needs
+refuses-requires : tie.Need-refuses-requires
+refuses-requires c κs = search needs
 
 refusal-requires : tie.Need-refusal-requires
 refusal-requires c κs = search needs
@@ -31,17 +31,17 @@ abbrev laid : tie.After-lay-out → Sheet
 laid o = packed (o .lay-out .result) (o .lay-out .last .1 .0) (o .lay-out .last .1 .1 .0)
 
 abbrev from-word : tie.After-lay-out → ℕ
-from-word o = o .before .before .before .before .before .before .before .args .start
+from-word o = o .before .before .before .before .args .start
 
 returns : tie.Need-returns
 returns c =
     let f = c .before .before in
     let o = f .before in
     listed-by-value {t = laid o} (o .lay-out .ensures .0)
-    (subst (Listed _ _ _ _) (sym (c .refusal .ensures)) (refused-list (subst (Stands _) (sym (f .standing .ensures)) (stands-so (o .lay-out .ensures .1))) (c .before .if1 .taken) _ _))
+    (subst (Listed _ _ _ _) (sym (c .refusal .ensures)) (refused-list (subst (Stands _) (sym (f .refuses .ensures)) (stands-so (o .lay-out .ensures .1))) (c .before .if1 .taken) _ _))
 
-none : (c : tie.Else1) → before (c .before .before .lay-out .result .stands) (c .before .before .lay-out .result .width) ≡ 0
-none c = sym (c .before .standing .ensures) ∙ c .if1 .left
+none : (c : tie.Else1) → before (c .before .before .lay-out .result .stands) (c .before .before .lay-out .result .opening .width) ≡ 0
+none c = sym (c .before .refuses .ensures) ∙ c .if1 .left
 
 top-requires : tie.Need-top-requires
 top-requires c κs = width-so (c .before .before .lay-out .ensures .1) (none c)
@@ -57,12 +57,12 @@ returns-2 c =
     listed-by-value {t = laid o} (o .lay-out .ensures .0)
     (subst (Listed _ _ _ _) (sym (c .refusal2 .ensures)) (high-list (o .lay-out .ensures .1) (none e) (from-word o) _ (omega (arith, t .top .ensures, c .before .if2 .taken))))
 
-low : (c : tie.Else2) → from-word (c .before .before .before .before) ≤ top (c .before .before .before .before .lay-out .result .width)
+low : (c : tie.Else2) → from-word (c .before .before .before .before) ≤ top (c .before .before .before .before .lay-out .result .opening .width)
 low c = omega (arith, c .before .top .ensures, c .if2 .left)
 
 fill-requires : tie.Need-fill-requires
 fill-requires c κs =
-    let t = c .before .before .before .before in
+    let t = c .before .before in
     let e = t .before .before in
     let h = e .before .before .lay-out .ensures .1 in
     let w = swept-so h (none e) in
@@ -74,7 +74,7 @@ same-length c = search needs
 returns-3 : tie.Need-returns-3
 returns-3 c =
     let f = c .before .before in
-    let t = f .before .before .before .before .before in
+    let t = f .before .before .before in
     let e = t .before .before in
     let o = e .before .before in
     listed-by-value {t = laid o} (o .lay-out .ensures .0)
@@ -85,7 +85,7 @@ list-spec =
     tie.close
     (tie.spec
     lay-out-requires
-    standing-requires
+    refuses-requires
     refusal-requires
     returns
     top-requires
