@@ -14,20 +14,20 @@ use Rattle.rule.specs.declared.Rule.{Rule}
 use Rattle.band.specs.Band.{AllLaid}
 use Rattle.bits.specs.Fixed.{Tidy}
 use Rattle.bits.proofs.Joined.{fixed-tidy}
-use Rattle.lent.proofs.Passes.{bands-laid}
+use Rattle.rows.proofs.Passes.{bands-laid}
 use Rattle.sheet.specs.declared.Sheet.{Sheet}
 use Rattle.sheet.specs.Shape.{isSheet}
 use Rattle.sheet.specs.Stands.{Standing}
 use Rattle.page.proofs.Lawful.{reached-lawful}
-use Rattle.lent_head.proofs.Holding.{first-drawn}
-use Rattle.sheet.proofs.Holding.{packed-told}
+use Rattle.slate.proofs.Holding.{bands-places, first-drawn}
+use Rattle.sheet.proofs.Holding.{marks-length, packed-told, rules-length}
 use Rattle.sheet.proofs.Stands.{has-page, has-width, known, rules-lawful, width-of}
 use Rattle.sheet.proofs.Tested.{passes-sheet}
-use Rattle.lent.specs.Lent.{Lie, zipped}
-use Rattle.lent.specs.OfRules.{OfLawful}
-use Rattle.places.specs.Places.{rulesIn}
-use Rattle.lent_head.specs.declared.Head.{Head}
-use Rattle.lent_head.specs.Held.{Held}
+use Rattle.rows.specs.Bands.{Lie}
+use Rattle.rows.specs.OfRules.{OfLawful}
+use Rattle.rows.specs.Rows.{bandsIn, rulesIn}
+use Rattle.slate.specs.declared.Head.{Head}
+use Rattle.slate.specs.Held.{Held}
 use Rattle.sheet.specs.Held.{packed}
 use Rattle.checker.specs.Accepted.{Accepted}
 use Rattle.covering.specs.Check.{linksIn, shown, shownBy}
@@ -47,59 +47,59 @@ unfolding accepts shownBy linksIn shown
 empty-no s [] e = sym (ap (λ (b : Bool). isSheet s && b) (and-false (not (eqb (s .width) 0))) ∙ and-false (isSheet s))
 empty-no s (n ∷ ns) e = absurd (omega arith)
 
-module _ {h : Head} {rules marks from to : List ℕ} {side : List Bool} (held : Held h rules marks from to side) where
+module _ {h : Head} {rows : List (List ℕ)} {marks : List ℕ} (held : Held h rows marks) where
   abbrev s : Sheet
-  s = packed h rules marks
+  s = packed h rows marks
 
   pub says : (ns : List ℕ) (r : Bool) → r ≡ accepts s ns → Says s ns r
   unfolding packed
   says ns r e =
-      (e, ((λ t. yes-accepted s ns (held .room .rules-places) (held .room .marks-places) (sym e ∙ t)), λ a. e ∙ accepted-yes s ns a))
+      (e, ((λ t. yes-accepted s ns (rules-length held) (marks-length held) (sym e ∙ t)), λ a. e ∙ accepted-yes s ns a))
 
   pub no-sheet-no : h .stands ≡ false → (ns : List ℕ) → false ≡ accepts s ns
   unfolding accepts
   no-sheet-no e ns =
-      sym (ap (λ (b : Bool). b && (not (eqb (s .width) 0) && shownBy (s .width) (take (s .count) (s .rules)) ns)) (packed-told h rules marks ∙ sym (held .tested) ∙ e))
+      sym (ap (λ (b : Bool). b && (not (eqb (s .width) 0) && shownBy (s .width) (take (s .count) (s .rules)) ns)) (packed-told h rows marks ∙ sym (held .tested) ∙ e))
 
-  pub blank-no : h .width ≡ 0 → (ns : List ℕ) → false ≡ accepts s ns
+  pub blank-no : h .opening .width ≡ 0 → (ns : List ℕ) → false ≡ accepts s ns
   unfolding accepts packed
   blank-no z ns =
       sym
-      (ap (λ (b : Bool). isSheet s && (not b && shownBy (h .width) (take (h .count) (rulesIn rules)) ns)) (eq-eqb (h .width) 0 z)
+      (ap (λ (b : Bool). isSheet s && (not b && shownBy (h .opening .width) (take (h .counts .count) (rulesIn rows)) ns)) (eq-eqb (h .opening .width) 0 z)
       ∙ and-false (isSheet s))
 
-  module _ (e : h .stands ≡ true) (z : h .width ≡ 0 → ⊥) where
+  module _ (e : h .stands ≡ true) (z : h .opening .width ≡ 0 → ⊥) where
     abbrev pub own : List Rule
-    own = take (h .count) (rulesIn rules)
+    own = take (h .counts .count) (rulesIn rows)
 
     standing : Standing s
     unfolding packed
-    standing = has-page (has-width (passes-sheet s (held .room .rules-places) (held .room .marks-places) (packed-told h rules marks ∙ sym (held .tested) ∙ e)) z) refl
+    standing = has-page (has-width (passes-sheet s (rules-length held) (marks-length held) (packed-told h rows marks ∙ sym (held .tested) ∙ e)) z) refl
 
-    pub width-so : IsWidth (h .width)
+    pub width-so : IsWidth (h .opening .width)
     unfolding packed
     width-so = width-of standing
 
-    pub own-rules : OfLawful (h .width) (take (h .count) (zipped from to side)) (h .fixed) own
+    pub own-rules : OfLawful (h .opening .width) (take (h .counts .count) (bandsIn rows)) (h .fixed) own
     unfolding packed
     own-rules =
-        let d = held .drawn e z in
-        (rules-lawful standing, first-drawn (h .width) (h .given) (rulesIn rules) (zipped from to side) (d .own) (h .count) (known standing .given-low) (d .bits))
+        let d = held .beside e z .drawn in
+        (rules-lawful standing, first-drawn (h .opening .width) (h .counts .given) (rulesIn rows) (bandsIn rows) (d .own) (h .counts .count) (known standing .given-low) (d .bits))
 
-    pub lie-so : Lie (top (h .width)) (h .count) (zipped from to side)
+    pub lie-so : Lie (top (h .opening .width)) (h .counts .count) (bandsIn rows)
     unfolding packed
     lie-so =
         let o = own-rules in
         record {
-          places = held .room .band-places;
+          places = bands-places (held .room);
           count = omega (arith, known standing .count, reached-lawful (standing .reached) .rules-fit);
-          laid = subst (AllLaid (top (h .width))) (sym (o .1 .own)) (bands-laid (h .width) (width-so .low) own (o .0));
+          laid = subst (AllLaid (top (h .opening .width))) (sym (o .1 .own)) (bands-laid (h .opening .width) (width-so .low) own (o .0));
         }
 
     pub tidy-so : Tidy (h .fixed)
     tidy-so = subst Tidy (sym (own-rules .1 .bits)) (fixed-tidy own)
 
-    pub shown-so : (ns : List ℕ) → shownBy (h .width) own ns ≡ accepts s ns
+    pub shown-so : (ns : List ℕ) → shownBy (h .opening .width) own ns ≡ accepts s ns
     unfolding accepts packed
     shown-so ns =
-        sym (ap₂ (λ (a b : Bool). a && (not b && shownBy (h .width) own ns)) (packed-told h rules marks ∙ sym (held .tested) ∙ e) (ne-eqb (h .width) 0 z))
+        sym (ap₂ (λ (a b : Bool). a && (not b && shownBy (h .opening .width) own ns)) (packed-told h rows marks ∙ sym (held .tested) ∙ e) (ne-eqb (h .opening .width) 0 z))

@@ -4,13 +4,10 @@ ghost use mathlib.Core.Logic.{_↔_};
 ghost use mathlib.Core.Path.{_≡_};
 ghost use Rattle.checker.specs.Accepted.{Accepted};
 ghost use Rattle.checker.specs.Check.{accepts};
-use places::NUMBERS;
+use rows::NUMBERS;
 use rule::Rule;
 use sheet::Sheet;
 use word::Width;
-
-mod link;
-mod walk;
 
 // Whether the links, three numbers each, are a chain of the sheet: any record, and any numbers.
 pub fn accepts(sheet: Sheet, links: &[u64]) -> bool
@@ -21,26 +18,15 @@ pub fn accepts(sheet: Sheet, links: &[u64]) -> bool
     if links.len() == 0 {
         return false;
     }
-    let mut rules = [0; NUMBERS];
+    let mut rows = [[0; NUMBERS]; Rule::LIMIT];
     let mut marks: [usize; Sheet::MARKS] = [0; Sheet::MARKS];
-    let mut from = [0; Rule::LIMIT];
-    let mut to = [0; Rule::LIMIT];
-    let mut side = [false; Rule::LIMIT];
-    let head = sheet::laid::lay_out(sheet, &mut rules, &mut marks, &mut from, &mut to, &mut side);
-    let width = head.width;
-    let count = head.count;
+    let head = sheet::laid::lay_out(sheet, &mut rows, &mut marks);
+    let width = head.opening.width;
+    let count = head.counts.count;
     let fixed = head.fixed;
     if head.stands {
         if width != 0 {
-            return walk::covers(
-                links,
-                &from,
-                &to,
-                &side,
-                count,
-                fixed,
-                Width { bits: width },
-            );
+            return covering::covers(links, &rows, count, fixed, Width { bits: width });
         }
     }
     false

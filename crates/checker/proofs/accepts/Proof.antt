@@ -4,20 +4,19 @@ use mathlib.Core.Path.{_≡_, refl, _∙_, subst}
 use mathlib.Core.Bool.{Bool}
 use Prim.Native.Nat.{_-_}
 use Rattle.sheet.specs.declared.Sheet.{Sheet}
-use Rattle.places.specs.Places.{rulesIn}
-use Rattle.lent.specs.Lent.{zipped}
 use Rattle.sheet.specs.Held.{packed}
+use Rattle.sheet.proofs.ByValue.{empty-room}
 use Rattle.checker.specs.Check.{accepts}
 use Rattle.checker.proofs.Held.{Says, blank-no, empty-no, lie-so, no-sheet-no, own-rules, says, says-no, shown-so, tidy-so, width-so}
 use Rattle.checker.proofs.accepts.Statement.{statement}
 use Rattle.checker.proofs.accepts.Tie as tie
 
--- the record's arrays, once it is laid out
+-- the record on its slate
 abbrev Laid : Type 0
 Laid = tie.After-lay-out
 
 abbrev start : Laid → tie.Start
-start o = o .before .before .before .before .before .before .before .before
+start o = o .before .before .before .before .before
 
 -- an answer that is right of the record as it is laid out is right of the record
 right : (o : Laid) (r : Bool) → r ≡ accepts (packed (o .lay-out .result) (o .lay-out .last .1 .0) (o .lay-out .last .1 .1 .0)) (start o .args .links .now)
@@ -29,12 +28,11 @@ returns : tie.Need-returns
 returns c = let s = c .before .before in says-no (s .args .sheet) (s .args .links .now) (empty-no _ _ (c .if1 .taken))
 
 lay-out-requires : tie.Need-lay-out-requires
-unfolding rulesIn zipped
-lay-out-requires c κs = record { rules-places = refl; marks-places = refl; band-places = refl }
+lay-out-requires c κs = empty-room
 
 covers-requires : tie.Need-covers-requires
 covers-requires c κs =
-    let t = c .before .before .before in
+    let t = c .before in
     let o = t .before .before in
     let h = o .lay-out .ensures .1 in
     let e = t .before .if2 .taken in
@@ -43,7 +41,7 @@ covers-requires c κs =
 
 returns-2 : tie.Need-returns-2
 returns-2 c =
-    let t = c .before .before .before .before in
+    let t = c .before .before in
     let o = t .before .before in
     let h = o .lay-out .ensures .1 in
     let e = t .before .if2 .taken in
