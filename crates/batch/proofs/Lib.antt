@@ -1,6 +1,6 @@
 pub mod Added
+pub mod Cut
 pub mod OneByOne
-pub mod Onward
 pub mod Place
 pub mod There
 pub mod UnderWay

@@ -1,137 +1,126 @@
--- A batch on its way: it stands on a reached page with some rules still to be added, which come to what the whole batch
--- comes to; or it has stopped, at what the whole batch answers. Opening brings it there, each step leaves it there with less
--- to do, and where it goes no further its finish is the batch's. Assumes nothing.
-use mathlib.Core.Path.{_≡_, refl, sym, ap, _∙_, subst}
-use mathlib.Core.Bool.{Bool, true, false, _&&_, cond}
+-- A batch on its way stands on a reached page with some rules still to be added, which come to what all of them come to. Each accepted add
+-- leaves it there with one rule less to add, a refused one is where the batch stops, and where none is left asking is the batch's answer. Assumes
+-- nothing.
+use mathlib.Core.Path.{_≡_, refl, sym, ap, _∙_}
 use mathlib.Core.List.{List, _∷_}
-use Prim.Native.Nat.{ℕ, suc, _+_, _-_, _≤_, _<_}
-use native.Mathlib.Decide.{ℕ-discrete}
+use Prim.Native.Nat.{ℕ, suc, _+_, _≤_, _<_}
 use native.Mathlib.Numerals.{add-one}
 use native.Mathlib.Omega.{arith}
-use borrow.Author.Tests.{eq-eqb, eqb-true, ltb-false, ltb-true, ne-eqb}
-use lib.Dec.{eqb, ltb}
-use lib.ListN.{drop, drop-of-length-le, getD, length}
-use lib.Seq.{drop-cons}
-use Rattle.word.proofs.Tests.{both-pass}
+use borrow.Author.Tests.{eq-eqb, ne-eqb}
+use lib.ListN.{drop, drop-of-length-le, getD, length, take}
+use lib.Seq.{drop-cons, getD-take, length-take-le}
 use Rattle.word.specs.declared.Edition.{Edition}
 use Rattle.rule.specs.declared.Rule.{Rule}
 use Rattle.accept.specs.Accept.{noRule}
 use Rattle.chain.specs.Links.{numbersOf}
-use Rattle.sheet.specs.declared.Answer.{Answer}
-use Rattle.page.specs.Calls.{Call, add, after, open-at, refusal}
+use Rattle.page.specs.Calls.{add, after, open-at, refusal}
 use Rattle.page.specs.declared.Opening.{Opening}
 use Rattle.page.specs.Page.{Page, no-page}
-use Rattle.sheet.specs.Record.{fresh}
-use Rattle.sheet.specs.Statements.{Outcome, answers}
 use Rattle.page.specs.Reached.{Reached, start}
+use Rattle.slate.specs.declared.Head.{Head}
+use Rattle.sheet.specs.declared.Answer.{Answer}
+use Rattle.sheet.specs.declared.Reply.{Reply}
+use Rattle.sheet.specs.declared.Sheet.{Sheet}
+use Rattle.sheet.specs.Held.{packed}
+use Rattle.sheet.specs.Laid.{After}
+use Rattle.sheet.specs.Record.{blank, fresh}
+use Rattle.sheet.specs.Statements.{Asked, answers, refuses}
 use Rattle.demands.proofs.Demand.{after-reached, outcome-on}
 use Rattle.batch.specs.declared.Batch.{Batch}
-use Rattle.batch.specs.declared.course.Course.{Course}
-use Rattle.batch.specs.Batch.{Batched, added, batch, stops}
-use Rattle.batch.specs.Course.{Finished, Stepped, begun, goes, onward}
-use Rattle.batch.proofs.Added.{add-goes, add-stops, open-goes, open-stops}
-use Rattle.batch.proofs.Onward.{goes-on, stops-at}
+use Rattle.batch.specs.Batch.{Gives, added, batches, stops}
+use Rattle.batch.specs.Course.{Came, Under}
+use Rattle.batch.specs.Route.{batchAt}
+use Rattle.batch.proofs.Added.{add-goes, add-stops}
 
-pub data UnderWay (g : Opening) (us : List Rule) (m : ℕ) (c : Course) : Type 0 where
-  on-page : (pg : Page) → Reached pg → c .number ≡ 0 → c .sheet ≡ fresh pg → c .place ≤ length us
-      → batch g us m ≡ added (c .edition) pg (c .place) (drop (c .place) us) m → UnderWay g us m c
-  stopped : (c .number ≡ 0 → ⊥) → c .place ≤ length us → batch g us m ≡ stops (c .number) (c .place) → UnderWay g us m c
+-- ---- the adds
 
--- what is left to do: nothing once the batch has stopped
-abbrev pub left : (n : ℕ) → Course → ℕ
-left n c = cond (eqb (c .number) 0) (suc (n - c .place)) 0
+module _ (e : Edition) (us : List Rule) where
+  pub begun-way : {pg : Page} → Reached pg → {t : Sheet} → t ≡ fresh pg → Under e us pg 0 t
+  begun-way {pg} h q = record { on = pg; reached = h; gives = q; same = λ m. refl }
 
-module _ (g : Opening) (us : List Rule) (m : ℕ) where
-  abbrev n : ℕ
-  n = length us
+  module _ (i : ℕ) (here : i < length us) {pg : Page} {t : Sheet} (w : Under e us pg i t) {u : Rule} (this : getD us i noRule ≡ u) {n : ℕ} {h : Head} {rows : List (List ℕ)}
+      {marks : List ℕ} (after-add : After t (add e u) n h rows marks) where
+    rest-is : drop i us ≡ u ∷ drop (i + 1) us
+    rest-is = rw (add-one i) (drop-cons us i noRule here ∙ ap (λ (v : Rule). v ∷ drop (suc i) us) this)
 
-  abbrev Way : Course → Type 0
-  Way = UnderWay g us m
+    told : answers n (packed h rows marks) ≡ answers (refusal (w .on) (add e u)) (fresh (after (w .on) (add e u)))
+    told = outcome-on (w .on) (w .gives) (w .reached) (add e u) (after-add .outcome)
 
-  pub place-fits : {c : Course} → Way c → c .place ≤ n
-  place-fits (on-page pg h z e p q) = p
-  place-fits (stopped z p q) = p
+    number-is : refusal (w .on) (add e u) ≡ n
+    number-is = sym (ap (λ (a : Answer). a .number) told)
 
-  -- after a call on a page: on at the place q with the rules from there, or stopped at the place p
-  module _ (d : Edition) {pg : Page} (h : Reached pg) (c : Call) (p q : ℕ) (p-fits : p ≤ n) (q-fits : refusal pg c ≡ 0 → q ≤ n) where
-    call-way : (refusal pg c ≡ 0 → batch g us m ≡ added d (after pg c) q (drop q us) m)
-        → ((refusal pg c ≡ 0 → ⊥) → batch g us m ≡ stops (refusal pg c) p) → {a : Answer}
-        → a ≡ answers (refusal pg c) (fresh (after pg c)) → Way (onward d a p q)
-    call-way goes-to stops-with {a} e = subst (λ (b : Answer). Way (onward d b p q)) (sym e) (go (ℕ-discrete (refusal pg c) 0))
-      where
-        b : Answer
-        b = answers (refusal pg c) (fresh (after pg c))
+    comes-to : (m : ℕ) → added e pg 0 us m ≡ added e (w .on) i (u ∷ drop (i + 1) us) m
+    comes-to m = w .same m ∙ ap (λ (vs : List Rule). added e (w .on) i vs m) rest-is
 
-        go : Dec (refusal pg c ≡ 0) → Way (onward d b p q)
-        go (yes z) = subst Way (goes-on d b p q z) (on-page (after pg c) (after-reached h c) z refl (q-fits z) (goes-to z))
-        go (no z) = subst Way (stops-at d b p q z) (stopped z p-fits (stops-with z))
+    pub step-way : n ≡ 0 → Under e us pg (i + 1) (packed h rows marks)
+    step-way z =
+        record {
+          on = after (w .on) (add e u);
+          reached = after-reached (w .reached) (add e u);
+          gives = ap (λ (a : Answer). a .sheet) told;
+          same = λ m. comes-to m ∙ add-goes e (w .on) i u _ m (number-is ∙ z);
+        }
 
-  -- ---- the opening
+    pub stop-way : (n ≡ 0 → ⊥) → (m : ℕ) → added e pg 0 us m ≡ stops n i
+    stop-way z m = comes-to m ∙ add-stops e (w .on) i u _ m (λ q. z (sym number-is ∙ q)) ∙ ap (λ (k : ℕ). stops k i) number-is
 
-  pub begun-way : Way (begun g n)
-  unfolding begun Outcome fresh
-  begun-way =
-      call-way (g .edition) start (open-at g) n 0 (omega arith) (λ _. omega arith) (open-goes g us m) (open-stops g us m)
-      (outcome-on no-page refl start (open-at g) refl)
+  -- all are added, and the sheet is asked
+  pub asked-way : {pg : Page} {t : Sheet} (i : ℕ) → i ≡ length us → Under e us pg i t → {b b′ : List ℕ} {a : Reply} → Asked t b b′ a
+      → Gives (added e pg 0 us (length b)) b b′ (batches a i)
+  unfolding added
+  asked-way {pg} i all w {b} {b′} {a} asked =
+      let k = asked .on-page (w .on) (w .reached) (w .gives) in
+      let l : length us ≤ i = omega (arith, all) in
+      rw (w .same (length b), drop-of-length-le us l) (record { answers = ap (λ (r : Reply). batches r i) (k .0); writes = k .1 })
 
-  -- ---- a step
+-- the first so many rules of a list
+module _ (rules : List Rule) (n i : ℕ) (h : i < n) where
+  pub first-at : getD (take n rules) i noRule ≡ getD rules i noRule
+  first-at = getD-take n rules i noRule h
 
-  module _ (c : Course) (more : goes c n ≡ true) where
-    abbrev p : ℕ
-    p = c .place
+  pub first-inside : n ≤ length rules → i < length (take n rules)
+  first-inside l = omega (arith, length-take-le n rules l)
 
-    abbrev u : Rule
-    u = getD us p noRule
+-- ---- the whole
 
-    abbrev d : Edition
-    d = c .edition
+stopped : (k i : ℕ) (b : List ℕ) → Gives (stops k i) b b (batches (refuses k) i)
+unfolding numbersOf
+stopped k i b = record { answers = refl; writes = refl }
 
-    none-refused : c .number ≡ 0
-    unfolding goes
-    none-refused = eqb-true (c .number) 0 (both-pass (eqb (c .number) 0) (ltb 0 (n - p)) more .0)
+module _ (g : Opening) (us : List Rule) (n : ℕ) {s : Sheet} (laid : s ≡ blank) {k : ℕ} {h : Head} {rows : List (List ℕ)} {marks : List ℕ}
+    (after-open : After s (open-at g) k h rows marks) where
+  abbrev t : Sheet
+  t = packed h rows marks
 
-    pub within : p < n
-    unfolding goes
-    within = let h = ltb-true 0 (n - p) (both-pass (eqb (c .number) 0) (ltb 0 (n - p)) more .1) in omega arith
+  abbrev opened-page : Page
+  opened-page = after no-page (open-at g)
 
-    -- the rules from the place on
-    rest-is : drop p us ≡ u ∷ drop (p + 1) us
-    rest-is = rw (add-one p) (drop-cons us p noRule within)
+  said : answers k t ≡ answers (refusal no-page (open-at g)) (fresh opened-page)
+  unfolding fresh
+  said = outcome-on no-page laid start (open-at g) (after-open .outcome)
 
-    module _ (r : Course) (s : Stepped c u r) where
-      pub step-way : Way c → Way r
-      step-way (stopped z _ q) = absurd (z none-refused)
-      step-way (on-page pg h z e _ q) =
-          subst Way (sym (s .follows))
-          (call-way d h (add d u) p (p + 1) (omega (arith, within)) (λ _. omega (arith, within))
-          (λ f. comes-to ∙ add-goes d pg p u _ m f) (λ f. comes-to ∙ add-stops d pg p u _ m f)
-          (outcome-on pg e h (add d u) (s .answered)))
-        where
-          comes-to : batch g us m ≡ added d pg p (u ∷ drop (p + 1) us) m
-          comes-to = q ∙ ap (λ (vs : List Rule). added d pg p vs m) rest-is
+  opened-number : refusal no-page (open-at g) ≡ k
+  opened-number = sym (ap (λ (a : Answer). a .number) said)
 
-      pub step-less : left n r < left n c
-      step-less = rw (s .follows, eq-eqb (c .number) 0 none-refused) (go (ℕ-discrete (s .answer .number) 0))
-        where
-          go : Dec (s .answer .number ≡ 0) → left n (onward d (s .answer) p (p + 1)) < suc (n - p)
-          go (yes e) = rw (eq-eqb (s .answer .number) 0 e) (omega (arith, within))
-          go (no z) = rw (ne-eqb (s .answer .number) 0 z) (omega arith)
+  pub refused-opening : (k ≡ 0 → ⊥) → (b : List ℕ) {a : Reply} {r : Batch} → r ≡ batches a n → a ≡ refuses k
+      → Gives (batchAt g us n (length b)) b b r
+  unfolding batchAt
+  refused-opening z b e f = rw (e, f, ne-eqb (refusal no-page (open-at g)) 0 (λ q. z (sym opened-number ∙ q)), opened-number) (stopped k n b)
 
--- ---- the end
+  module _ (z : k ≡ 0) where
+    on-page : Reached opened-page × (t ≡ fresh opened-page)
+    on-page = (after-reached start (open-at g), ap (λ (a : Answer). a .sheet) said)
 
-module _ (g : Opening) (us : List Rule) (c : Course) (b b′ : List ℕ) (r : Batch) (f : Finished c b b′ r) where
-  pub finish-way : UnderWay g us (length b) c → goes c (length us) ≡ false → Batched g us b b′ r
-  unfolding added numbersOf goes
-  finish-way (stopped z _ q) none-left =
-      let h = f .refused z in
-      rw q (record { answers = h .0; writes = h .1 })
-  finish-way (on-page pg h z e _ q) none-left =
-      let a = f .asked z .0 .on-page pg h e in
-      rw (q, drop-of-length-le us all-added)
-      (record { answers = λ i. record { reply = a .0 i; place = f .asked z .1 i }; writes = a .1 })
-    where
-      all-added : length us ≤ c .place
-      all-added =
-          let d = length us - c .place in
-          let l = ltb-false 0 d (subst (λ (t : Bool). (t && ltb 0 d) ≡ false) (eq-eqb (c .number) 0 z) none-left) in
-          omega arith
+    goes-on : (m : ℕ) → batchAt g us n m ≡ added (g .edition) opened-page 0 us m
+    unfolding batchAt
+    goes-on m = rw (eq-eqb (refusal no-page (open-at g)) 0 (opened-number ∙ z))
+
+    module _ {t′ : Sheet} {j i : ℕ} (came : Came (g .edition) us t t′ j i) where
+      pub refused-adding : (j ≡ 0 → ⊥) → (b : List ℕ) {a : Reply} {r : Batch} → r ≡ batches a i → a ≡ refuses j
+          → Gives (batchAt g us n (length b)) b b r
+      refused-adding y b e f = rw (e, f, goes-on (length b), came .refused y opened-page (on-page .0) (on-page .1) (length b)) (stopped j i b)
+
+      pub all-added : j ≡ 0 → {b b′ : List ℕ} {a : Reply} → Asked t′ b b′ a → {r : Batch} → r ≡ batches a i → Gives (batchAt g us n (length b)) b b′ r
+      all-added y {b} asked e =
+          let w = came .went y opened-page (on-page .0) (on-page .1) in
+          rw (e, goes-on (length b)) (asked-way (g .edition) us i (w .0) (w .1) asked)

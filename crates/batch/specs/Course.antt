@@ -1,39 +1,27 @@
--- How far a batch has come. A route and no meaning: that it leads to what the batch is to answer is proved
+-- How far the adds of a batch came. A route and no meaning: that it leads to what the batch is to answer is proved
 -- (proofs/UnderWay.antt).
 use mathlib.Core.Path.{_≡_}
-use mathlib.Core.Bool.{Bool, _&&_, cond}
 use mathlib.Core.List.{List}
-use Prim.Native.Nat.{ℕ, _+_, _-_}
-use lib.Dec.{eqb, ltb}
+use Prim.Native.Nat.{ℕ}
+use lib.ListN.{drop, length}
 use Rattle.word.specs.declared.Edition.{Edition}
 use Rattle.rule.specs.declared.Rule.{Rule}
-use Rattle.sheet.specs.declared.Answer.{Answer}
-use Rattle.page.specs.Calls.{add}
-use Rattle.page.specs.declared.Opening.{Opening}
-use Rattle.sheet.specs.Record.{blank}
-use Rattle.sheet.specs.Statements.{Asked, Outcome, opened, refuses}
-use Rattle.batch.specs.declared.Batch.{Batch}
-use Rattle.batch.specs.declared.course.Course.{Course}
-use Rattle.batch.specs.Batch.{batches}
+use Rattle.page.specs.Page.{Page}
+use Rattle.page.specs.Reached.{Reached}
+use Rattle.sheet.specs.declared.Sheet.{Sheet}
+use Rattle.sheet.specs.Record.{fresh}
+use Rattle.batch.specs.Batch.{added, stops}
 
--- after a call's answer: where it is a refusal the batch stops at the place p, else it goes on at q
-abbrev pub onward : Edition → Answer → (p q : ℕ) → Course
-onward e a p q = record { number = a .number; sheet = a .sheet; place = cond (eqb (a .number) 0) q p; edition = e }
+-- from the page pg the first i rules were added, which gave the record t: it stands on a page, and what is left comes to the same
+pub record Under (e : Edition) (us : List Rule) (pg : Page) (i : ℕ) (t : Sheet) : Type 0 where
+  pub on : Page
+  pub reached : Reached on
+  pub gives : t ≡ fresh on
+  pub same : (m : ℕ) → added e pg 0 us m ≡ added e on i (drop i us) m
 
-unfoldable pub begun : Opening → (n : ℕ) → Course
-begun g n = onward (g .edition) (opened blank g) n 0
-
--- nothing was refused, and a rule is left
-unfoldable pub goes : Course → (n : ℕ) → Bool
-goes c n = eqb (c .number) 0 && ltb 0 (n - c .place)
-
--- a rule is added, in the batch's edition
-pub record Stepped (c : Course) (u : Rule) (r : Course) : Type 0 where
-  pub answer : Answer
-  pub answered : Outcome (c .sheet) (add (c .edition) u) answer
-  pub follows : r ≡ onward (c .edition) answer (c .place) (c .place + 1)
-
--- the refusal is answered and the buffer left, or the sheet is asked
-pub record Finished (c : Course) (b b′ : List ℕ) (r : Batch) : Type 0 where
-  pub refused : (c .number ≡ 0 → ⊥) → (r ≡ batches (refuses (c .number)) (c .place)) × (b′ ≡ b)
-  pub asked : c .number ≡ 0 → Asked (c .sheet) b b′ (r .reply) × (r .place ≡ c .place)
+-- the number n and the place i that the adds to the record s, sheet or not, came to, and the record t that they left
+pub record Came (e : Edition) (us : List Rule) (s t : Sheet) (n i : ℕ) : Type 0 where
+  -- refused at the rule i
+  pub refused : (n ≡ 0 → ⊥) → (pg : Page) → Reached pg → s ≡ fresh pg → (m : ℕ) → added e pg 0 us m ≡ stops n i
+  -- or all are added
+  pub went : n ≡ 0 → (pg : Page) → Reached pg → s ≡ fresh pg → (i ≡ length us) × Under e us pg i t

@@ -1,3 +1,4 @@
 pub mod Batch
 pub mod Course
 pub mod OneByOne
+pub mod Route

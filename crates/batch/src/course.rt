@@ -1,95 +1,96 @@
-// How far a batch has come.
+// A batch on its slate: the sheet is laid out once, opened, given each rule in order, and asked.
 ghost use mathlib.Core.Path.{_≡_};
-ghost use Prim.Native.Nat.{_+_, _<_, _≤_, _^_};
-ghost use Rattle.batch.specs.Batch.{batches};
-ghost use Rattle.batch.specs.Course.{Finished, Stepped, begun, goes};
+ghost use Prim.Native.Nat.{_≤_};
+ghost use lib.ListN.{length, take};
+ghost use Rattle.slate.specs.Held.{Held};
+ghost use Rattle.sheet.specs.Held.{packed};
+ghost use Rattle.batch.specs.Batch.{Gives, MOST, batches};
+ghost use Rattle.batch.specs.Course.{Came};
+ghost use Rattle.batch.specs.Route.{batchAt};
 use crate::Batch;
 use page::Opening;
+use rows::NUMBERS;
 use rule::Rule;
+use sheet::Head;
 use sheet::Reply;
 use sheet::Sheet;
+use sheet::laid;
 use word::Edition;
 
-// The number of the first refusal, or 0; the sheet as it is then; at which rule the batch stands; and the edition of its adds.
+// How far the adds came: 0 or the number of the first refusal, the head as it is then, and the place of the refused rule or how many rules
+// there were.
 pub struct Course {
     pub number: u64,
-    pub sheet: Sheet,
+    pub head: Head,
     pub place: usize,
-    pub edition: Edition,
 }
 
-impl Course {
-    // Opens the sheet. A refused opening is given the list's length for its place.
-    pub fn begin(opening: Opening, length: usize) -> Course
-        ensures { λ r. ⌜ r ≡ begun opening length ⌝ }
-    {
-        let edition = opening.edition;
-        let answer = Sheet::blank().open(opening);
-        let number = answer.number;
-        let sheet = answer.sheet;
+// Opens the blank sheet, adds the first rules and asks, up to the first refusal. A refused opening is said at how many rules were given.
+pub fn vet(
+    opening: Opening,
+    rules: [Rule; Batch::MOST],
+    count: usize,
+    given: usize,
+    out: &mut [u64],
+) -> Batch
+    requires { ⌜ count ≤ MOST ⌝ }
+    ensures { λ r. ⌜ Gives (batchAt opening (take count rules) given (length (now (out .entry)))) (now (out .entry)) (now (out .exit)) r ⌝ }
+{
+    let edition = opening.edition;
+    let mut rows = [[0; NUMBERS]; Rule::LIMIT];
+    let mut marks: [usize; Sheet::MARKS] = [0; Sheet::MARKS];
+    let head = laid::lay_out(Sheet::blank(), &mut rows, &mut marks);
+    let said = laid::open(head, &mut rows, &mut marks, opening);
+    let refused = said.number;
+    if refused != 0 {
+        return placed(sheet::refusal(refused), given);
+    }
+    let head = said.head;
+    let course = add_all(head, &mut rows, &mut marks, edition, rules, count);
+    let stopped = course.number;
+    let head = course.head;
+    let place = course.place;
+    if stopped != 0 {
+        return placed(sheet::refusal(stopped), place);
+    }
+    let reply = laid::ask(head, &rows, &marks, &mut *out);
+    placed(reply, place)
+}
+
+// Adds the first rules in order, up to the first refusal.
+fn add_all(
+    head: Head,
+    rows: &mut [[u64; NUMBERS]; Rule::LIMIT],
+    marks: &mut [usize; Sheet::MARKS],
+    edition: Edition,
+    rules: [Rule; Batch::MOST],
+    count: usize,
+) -> Course
+    requires { ⌜ Held head (now rows) (now marks) ⌝ }
+    requires { ⌜ count ≤ MOST ⌝ }
+    ensures { λ r. ⌜ Came edition (take count rules) (packed head (now (rows .entry)) (now (marks .entry))) (packed (r .head) (now (rows .exit)) (now (marks .exit))) (r .number) (r .place) ⌝ }
+    ensures { λ r. ⌜ Held (r .head) (now (rows .exit)) (now (marks .exit)) ⌝ }
+{
+    let mut head = head;
+    let mut place = 0;
+    while 0 < count - place {
+        let said = laid::add(head, &mut *rows, &mut *marks, edition, rules[place]);
+        head = said.head;
+        let number = said.number;
+        let next = place + 1;
         if number != 0 {
             return Course {
                 number,
-                sheet,
-                place: length,
-                edition,
+                head,
+                place,
             };
         }
-        Course {
-            number,
-            sheet,
-            place: 0,
-            edition,
-        }
+        place = next;
     }
-
-    // Whether there is a rule left to add, and nothing was refused.
-    pub fn goes(self, length: usize) -> bool
-        requires { ⌜ self .place ≤ length ⌝ }
-        ensures { λ r. ⌜ r ≡ goes self length ⌝ }
-    {
-        if self.number != 0 {
-            return false;
-        }
-        0 < length - self.place
-    }
-
-    // Adds a rule. A refused one is where the batch stops.
-    pub fn step(self, rule: Rule) -> Course
-        requires { ⌜ self .place + 1 < 2 ^ 64 ⌝ }
-        ensures { λ r. ⌜ Stepped self rule r ⌝ }
-    {
-        let edition = self.edition;
-        let answer = self.sheet.add(edition, rule);
-        let sheet = answer.sheet;
-        let next = self.place + 1;
-        if answer.number != 0 {
-            return Course {
-                number: answer.number,
-                sheet,
-                place: self.place,
-                edition,
-            };
-        }
-        Course {
-            number: 0,
-            sheet,
-            place: next,
-            edition,
-        }
-    }
-
-    // Answers the refusal, or asks.
-    pub fn finish(self, out: &mut [u64]) -> Batch
-        ensures { λ r. ⌜ Finished self (now (out .entry)) (now (out .exit)) r ⌝ }
-    {
-        let refused = self.number;
-        if refused != 0 {
-            return placed(sheet::refusal(refused), self.place);
-        }
-        let sheet = self.sheet;
-        let reply = sheet.ask(&mut *out);
-        placed(reply, self.place)
+    Course {
+        number: 0,
+        head,
+        place,
     }
 }
 

@@ -1,11 +1,12 @@
 // The batch call: an opening, a lent list of rules and a chain buffer, answered as the calls one by one would be.
-ghost use Prim.Native.Nat.{_≤_};
-ghost use lib.ListN.{take};
+ghost use mathlib.Core.Path.{_≡_};
+ghost use lib.ListN.{replicate, take};
+ghost use Rattle.accept.specs.Accept.{noRule};
 ghost use Rattle.batch.specs.Batch.{Batched, MOST};
+ghost use Rattle.batch.specs.Route.{few};
 
 mod course;
 
-use crate::course::Course;
 use page::Opening;
 use rule::Rule;
 use sheet::Reply;
@@ -21,17 +22,45 @@ impl Batch {
     pub const MOST: usize = Rule::LIMIT + 1;
 }
 
-// Opens a sheet, adds each rule in order and asks, up to the first refusal. The adds are of the opening's edition.
+// A place that no rule has taken.
+const NO_RULE: Rule = Rule {
+    form: 0,
+    sense: 0,
+    c1: 0,
+    c2: 0,
+};
+
+// Opens a sheet, adds each rule in order and asks, up to the first refusal. The adds are of the opening's edition. The rule after as many
+// as a sheet takes is refused, so that no rule past it is read.
 pub fn run(opening: Opening, rules: &[Rule], out: &mut [u64]) -> Batch
     ensures { λ r. ⌜ Batched opening (now (rules .entry)) (now (out .entry)) (now (out .exit)) r ⌝ }
 {
-    let length = rules.len();
-    let mut course = Course::begin(opening, length);
-    while course.goes(length) {
-        let place = course.place;
-        course = course.step(rules[place]);
+    let given = rules.len();
+    let count = few(given);
+    let mut list = none();
+    let mut i = 0;
+    while i < count {
+        list[i] = rules[i];
+        i += 1;
     }
-    course.finish(out)
+    course::vet(opening, list, count, given, out)
+}
+
+// As many places as are read, with no rule in them.
+fn none() -> [Rule; Batch::MOST]
+    ensures { λ r. ⌜ r ≡ replicate MOST noRule ⌝ }
+{
+    [NO_RULE; Batch::MOST]
+}
+
+// How many rules of a list are read.
+fn few(count: usize) -> usize
+    ensures { λ r. ⌜ r ≡ few count ⌝ }
+{
+    if Batch::MOST < count {
+        return Batch::MOST;
+    }
+    count
 }
 
 // The batch call on the first rules of an array. A caller of `run` lends a list of records, and has to be proved by hand; a
@@ -39,16 +68,6 @@ pub fn run(opening: Opening, rules: &[Rule], out: &mut [u64]) -> Batch
 pub fn first(opening: Opening, rules: [Rule; Batch::MOST], count: usize, out: &mut [u64]) -> Batch
     ensures { λ r. ⌜ Batched opening (take count rules) (now (out .entry)) (now (out .exit)) r ⌝ }
 {
-    if Batch::MOST < count {
-        return handed(opening, rules, Batch::MOST, &mut *out);
-    }
-    handed(opening, rules, count, &mut *out)
-}
-
-// Lends the first rules of an array.
-fn handed(opening: Opening, rules: [Rule; Batch::MOST], count: usize, out: &mut [u64]) -> Batch
-    requires { ⌜ count ≤ MOST ⌝ }
-    ensures { λ r. ⌜ Batched opening (take count rules) (now (out .entry)) (now (out .exit)) r ⌝ }
-{
-    run(opening, &rules[..count], out)
+    let given = few(count);
+    course::vet(opening, rules, given, given, &mut *out)
 }
