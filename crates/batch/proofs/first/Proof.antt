@@ -1,9 +1,6 @@
 -- `first` meets its contract: more than all rules are all rules. Assumes nothing.
-use mathlib.Core.Path.{sym, subst}
-use Prim.Native.Nat.{ℕ, _≤_}
 use native.Mathlib.Omega.{arith}
 use borrow.Author.Needs.{needs}
-use Rattle.batch.specs.Batch.{MOST}
 use Rattle.batch.proofs.Cut.{few-high, first-so}
 use Rattle.batch.proofs.first.Statement.{statement}
 use Rattle.batch.proofs.first.Tie as tie
@@ -12,7 +9,7 @@ few-requires : tie.Need-few-requires
 few-requires c κs = search needs
 
 vet-requires : tie.Need-vet-requires
-vet-requires c κs = subst (λ (k : ℕ). k ≤ MOST) (sym (c .before .few .ensures)) (few-high (c .before .before .before .args .count))
+vet-requires c κs = omega (arith, c .before .few .ensures, few-high (c .before .before .before .args .count))
 
 same-length : tie.Need-same-length
 same-length c = search needs
