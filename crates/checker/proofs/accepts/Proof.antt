@@ -1,6 +1,6 @@
 -- `accepts` meets its contract: an empty list, the blank sheet and a record that is no sheet get no, and else the walk decides.
 -- Assumes nothing.
-use mathlib.Core.Path.{_≡_, refl, _∙_, subst}
+use mathlib.Core.Path.{_≡_, _∙_, subst}
 use mathlib.Core.Bool.{Bool}
 use Prim.Native.Nat.{_-_}
 use Rattle.sheet.specs.declared.Sheet.{Sheet}

@@ -1,7 +1,7 @@
 -- What `batch::run` hands to the three functions that it calls, what they say, how its own list lies in memory, and how it ends: all of the
 -- proof that walks no code. A number, an opening and a list of rules own only facts, so what a callee asks of them is had for nothing. The
 -- buffer goes to `vet` at its own lifetime, share and ghost name, and is given up for good. Assumes nothing.
-use mathlib.Core.Path.{_≡_, refl, ap, subst}
+use mathlib.Core.Path.{_≡_, refl}
 use mathlib.Core.List.{List, [], _∷_}
 use Prim.Native.Nat.{ℕ, _<_, _≤_, _^_}
 use lib.Dec.{T as Holds}
@@ -17,7 +17,7 @@ use prog.Routine.{Routine}
 use prog.Wp.{Heap}
 use ghost.Atoms.{Atoms, sem}
 use contract.Monad.{Fun, fact}
-use types.Kit.{Given, Goal, Item, Seq, Soaks, ‵, raw, _⊛_, some, later, ⋆, _$_, _∵_, !, qed, move, drop, use1, split, join, pick, fjoin, fpack, fpick, fsplit, feqI, feqL, suffices, frame, await, done}
+use types.Kit.{Given, Goal, Item, Seq, Soaks, ‵, raw, _⊛_, some, later, ⋆, _$_, _∵_, !, qed, move, drop, use1, split, join, pick, fjoin, fpack, fpick, fsplit, feqI, suffices, frame, await, done}
 use types.Share.{arr-parts}
 use denote.RattleType.{RattleType}
 use denote.Laws.{Is, Tells, shows}
