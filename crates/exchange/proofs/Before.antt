@@ -29,9 +29,9 @@ use Rattle.frame.specs.Fields.{Line}
 use Rattle.frame.specs.Frames.{bare, byDigits, codeEdition, frameOf, numbered, ruleOf}
 use Rattle.frame.specs.Pages.{answerTo, pageAfter}
 use Rattle.frame.proofs.Rows.{too-short}
-use Rattle.exchange.specs.declared.Desk.{Desk}
 use Rattle.exchange.specs.Before.{OldLine, OldLines, answerBefore, answersBefore, chainBefore, exchangeBefore, frameBefore, groundsBefore, pageBefore, refusalBefore}
-use Rattle.exchange.specs.Begun.{desk, none as no-line}
+use Rattle.exchange.specs.Begun.{none as no-line}
+use Rattle.exchange.specs.Desk.{Desk, desk}
 use Rattle.exchange.specs.Exchange.{answersTo, exchange, lines}
 use Rattle.exchange.specs.Statements.{Finished, Talk}
 use Rattle.exchange.specs.Text.{bytesOf}

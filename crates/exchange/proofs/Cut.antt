@@ -10,9 +10,8 @@ use Rattle.sheet.specs.declared.Sheet.{Sheet}
 use Rattle.frame.specs.Answers.{answerBytes}
 use Rattle.frame.specs.Fields.{Line}
 use Rattle.frame.proofs.Unique.{put-unique, said-unique}
-use Rattle.exchange.specs.declared.Desk.{Desk}
-use Rattle.exchange.specs.declared.Fed.{Fed}
-use Rattle.exchange.specs.Begun.{desk, none}
+use Rattle.exchange.specs.Begun.{none}
+use Rattle.exchange.specs.Desk.{Desk, Fed, desk, fed}
 use Rattle.exchange.specs.Lines.{withEnd}
 use Rattle.exchange.specs.Statements.{Ends, FedSo, Feeds, Finished, Takes, a-line, all-used, ends-line, goes-on, last-line, no-line, no-room, nothing}
 use Rattle.exchange.proofs.Taking.{end-prefix}
@@ -53,9 +52,6 @@ feeds-unique {m} {bs} (a-line {n = i} {f} {p} r h t k) (a-line r′ h′ t′ k�
     let same = ap₂ (λ (x : Desk) (l : List ℕ). Feeds (m - length l) x rest f i p) (u .0) (u .1) in
     let v = feeds-unique (subst (λ (X : Type 0). X) same k) k′ in
     (v .0, ap (λ (j : ℕ). length (withEnd bs) + j) (v .1), ap₂ _++_ (u .1) (v .2))
-
-abbrev fed : Desk → ℕ → ℕ → Fed
-fed d used written = record { desk = d; used = used; written = written }
 
 pub fed-unique : {d : Desk} {part b b₁ b₂ : List ℕ} {r₁ r₂ : Fed} → FedSo d part b b₁ r₁ → FedSo d part b b₂ r₂ → (r₁ ≡ r₂) × (b₁ ≡ b₂)
 fed-unique {r₁} {r₂} u v =

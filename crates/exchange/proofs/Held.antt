@@ -103,6 +103,6 @@ unfolding lineCall
 cut-call l = ap callOf (cut-frame l)
 
 -- a line of which nothing is held yet
-pub first-call : (g : Begun) (l : List ℕ) → Whole g → g .len ≡ 0 → lineCall (begunLine (joined g l)) ≡ lineCall l
+pub first-frame : (g : Begun) (l : List ℕ) → Whole g → g .len ≡ 0 → frameOf (begunLine (joined g l)) ≡ frameOf l
 unfolding begunLine
-first-call g l w e = ap lineCall (joined-held g l w ∙ ap (λ (n : ℕ). take HELD (take n (g .bytes) ++ l)) e) ∙ cut-call l
+first-frame g l w e = ap frameOf (joined-held g l w ∙ ap (λ (n : ℕ). take HELD (take n (g .bytes) ++ l)) e) ∙ cut-frame l

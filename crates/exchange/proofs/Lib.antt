@@ -1,5 +1,6 @@
 pub mod Before
 pub mod Cut
+pub mod Finishing
 pub mod Held
 pub mod Parts
 pub mod Taking

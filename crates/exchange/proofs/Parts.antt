@@ -1,4 +1,4 @@
--- A part goes in by turns, a line each; what a feeding has come to can be gone on from. Assumes nothing.
+-- A part goes in line by line; what a feeding has come to can be gone on from. Assumes nothing.
 use mathlib.Core.Path.{_≡_, refl, sym, ap, _∙_}
 use mathlib.Core.List.{List, [], _++_, append-assoc, append-nil}
 use Prim.Native.Nat.{ℕ, _+_, _-_, _≤_, _<_}
@@ -7,22 +7,30 @@ use lib.ListN.{drop, drop-of-length-le, length, length-append, length-drop}
 use lib.Seq.{drop-drop}
 use Rattle.sheet.specs.declared.Sheet.{Sheet}
 use Rattle.frame.specs.Answers.{ROOM, answerBytes}
-use Rattle.frame.specs.Statements.{PutAt}
+use Rattle.frame.specs.Calls.{lineCall}
+use Rattle.frame.specs.Statements.{Answered, PutAt}
 use Rattle.frame.proofs.Lines.{put-none, put-on}
 use Rattle.exchange.specs.declared.Begun.{Begun}
-use Rattle.exchange.specs.declared.Desk.{Desk}
-use Rattle.exchange.specs.declared.Fed.{Fed}
-use Rattle.exchange.specs.Begun.{desk, joined, none}
+use Rattle.exchange.specs.Begun.{begunLine, joined, none}
+use Rattle.exchange.specs.Desk.{Desk, Fed, desk}
 use Rattle.exchange.specs.Lines.{lineOf, withEnd}
-use Rattle.exchange.specs.Statements.{FedSo, Feeds, Turned, WholeAnswered, a-line, all-used, no-room}
+use Rattle.exchange.specs.Statements.{FedSo, Feeds, Takes, a-line, all-used, no-room}
 use Rattle.exchange.proofs.Taking.{end-fits, end-none, end-some, end-there, ended, line-fits, unended}
 
--- ---- one turn
+-- ---- the next line of a part
+
+-- it goes in, with its byte 10 or without it
+pub record NextLine (d : Desk) (part : List ℕ) (from : ℕ) (b : List ℕ) (at : ℕ) (b′ : List ℕ) (e : Desk) (next end : ℕ) : Type 0 where
+  pub bytes : List ℕ
+  pub takes : Takes d (withEnd (drop from part)) e bytes
+  pub puts : PutAt b at bytes b′ end
+  pub fits : length bytes ≤ ROOM
+  pub goes : next ≡ from + length (withEnd (drop from part))
 
 module _ (d : Desk) (part : List ℕ) (from : ℕ) {line : List ℕ} (e : line ≡ lineOf (drop from part)) (h : from ≤ length part) where
-  pub turned-unended : (b : List ℕ) (at : ℕ) {g : Begun} → at ≤ length b → g ≡ joined (d .begun) line → from + length line ≡ length part
-      → Turned d part from b at b (desk (d .sheet) g) (from + length line) at
-  turned-unended b at r k q =
+  pub line-unended : (b : List ℕ) (at : ℕ) {g : Begun} → at ≤ length b → g ≡ joined (d .begun) line → from + length line ≡ length part
+      → NextLine d part from b at b (desk (d .sheet) g) (from + length line) at
+  line-unended b at r k q =
       let n : length (lineOf (drop from part)) ≡ length (drop from part) = omega (arith, ap length e, length-drop from part) in
       record {
         bytes = [];
@@ -32,9 +40,9 @@ module _ (d : Desk) (part : List ℕ) (from : ℕ) {line : List ℕ} (e : line �
         goes = omega (arith, ap length e, ap length (end-none (drop from part) n));
       }
 
-  pub turned-ended : {b b′ : List ℕ} {at end : ℕ} {t : Sheet} {g : Begun} → WholeAnswered (d .sheet) (d .begun) line b at b′ t end → g ≡ none
-      → (from + length line ≡ length part → ⊥) → Turned d part from b at b′ (desk t g) (from + length line + 1) end
-  turned-ended w k n =
+  pub line-ended : {b b′ : List ℕ} {at end : ℕ} {t : Sheet} {g : Begun} → Answered (d .sheet) (lineCall (begunLine (joined (d .begun) line))) b at b′ t end → g ≡ none
+      → (from + length line ≡ length part → ⊥) → NextLine d part from b at b′ (desk t g) (from + length line + 1) end
+  line-ended w k n =
       let m : length (lineOf (drop from part)) < length (drop from part) = omega (arith, ap length e, length-drop from part, line-fits (drop from part)) in
       record {
         bytes = answerBytes (w .lines);
@@ -44,7 +52,7 @@ module _ (d : Desk) (part : List ℕ) (from : ℕ) {line : List ℕ} (e : line �
         goes = omega (arith, ap length e, simp length-append at (ap length (end-there (drop from part) m)));
       }
 
--- ---- turns one after another
+-- ---- lines one after another
 
 feeds-as : {m m′ n n′ : ℕ} {d f : Desk} {bs bs′ p p′ : List ℕ} → m ≡ m′ → bs ≡ bs′ → n ≡ n′ → p ≡ p′ → Feeds m d bs f n p
     → Feeds m′ d bs′ f n′ p′
@@ -60,7 +68,7 @@ pub midway-start : (d : Desk) (part b : List ℕ) → Midway d part b d 0 0 b
 midway-start d part b = record { bytes = []; puts = put-none b 0 (omega arith); rest = λ q. feeds-as (omega arith) refl (omega arith) refl q }
 
 pub midway-on : {d e f : Desk} {part b b₁ b₂ : List ℕ} {used written next end : ℕ} → Midway d part b e used written b₁
-    → Turned e part used b₁ written b₂ f next end → ROOM ≤ length b - written → used < length part → Midway d part b f next end b₂
+    → NextLine e part used b₁ written b₂ f next end → ROOM ≤ length b - written → used < length part → Midway d part b f next end b₂
 midway-on {part} {b} {used} {written} {next} {end} m t r h =
     let e = t .puts .ends in
     let g = t .goes in

@@ -11,8 +11,8 @@ use lib.Seq.{drop-cons, take-all}
 use Rattle.sheet.specs.declared.Sheet.{Sheet}
 use Rattle.frame.specs.Answers.{NEWLINE, answerBytes}
 use Rattle.frame.specs.Fields.{Line}
-use Rattle.exchange.specs.declared.Desk.{Desk}
-use Rattle.exchange.specs.Begun.{desk, joined, none, put}
+use Rattle.exchange.specs.Begun.{joined, none, put}
+use Rattle.exchange.specs.Desk.{Desk, desk}
 use Rattle.exchange.specs.Lines.{lineOf, withEnd}
 use Rattle.exchange.specs.Statements.{LineSaid, Takes, ends-line, goes-on, nothing}
 

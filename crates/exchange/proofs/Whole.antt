@@ -18,8 +18,8 @@ use Rattle.frame.specs.Frames.{LONGEST}
 use Rattle.frame.specs.Pages.{answerTo, pageAfter}
 use Rattle.frame.specs.Statements.{PutAt}
 use Rattle.frame.proofs.OnPage.{page-answers, page-reached}
-use Rattle.exchange.specs.declared.Desk.{Desk}
-use Rattle.exchange.specs.Begun.{HELD, begunLine, desk, none, put}
+use Rattle.exchange.specs.Begun.{HELD, begunLine, none, put}
+use Rattle.exchange.specs.Desk.{Desk, desk}
 use Rattle.exchange.specs.Exchange.{answersTo, exchange, inFront, lines}
 use Rattle.exchange.specs.Statements.{Ends, Finished, LineSaid, Takes, Talk, a-part, ends-line, goes-on, last-line, no-line, nothing, silence}
 use Rattle.exchange.proofs.Cut.{feeds-takes}

@@ -5,10 +5,8 @@ use mathlib.Core.List.{List, [], _∷_}
 use Prim.Native.Nat.{ℕ, suc}
 use lib.Dec.{ltb}
 use lib.ListN.{replicate, set, take}
-use Rattle.sheet.specs.declared.Sheet.{Sheet}
 use Rattle.frame.specs.Frames.{LONGEST}
 use Rattle.exchange.specs.declared.Begun.{Begun}
-use Rattle.exchange.specs.declared.Desk.{Desk}
 
 -- one byte more than a frame can have shows that a line is none
 abbrev pub HELD : ℕ
@@ -31,6 +29,3 @@ joined g (b ∷ bs) = joined (put g b) bs
 -- the bytes that are held
 unfoldable pub begunLine : Begun → List ℕ
 begunLine g = take (g .len) (g .bytes)
-
-abbrev pub desk : Sheet → Begun → Desk
-desk s g = record { sheet = s; begun = g }

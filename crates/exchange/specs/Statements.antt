@@ -9,10 +9,8 @@ use Rattle.frame.specs.Answers.{NEWLINE, ROOM, answerBytes}
 use Rattle.frame.specs.Calls.{lineCall}
 use Rattle.frame.specs.Fields.{Line}
 use Rattle.frame.specs.Statements.{PutAt, Said}
-use Rattle.exchange.specs.declared.Begun.{Begun}
-use Rattle.exchange.specs.declared.Desk.{Desk}
-use Rattle.exchange.specs.declared.Fed.{Fed}
-use Rattle.exchange.specs.Begun.{begunLine, desk, joined, none, put}
+use Rattle.exchange.specs.Begun.{begunLine, none, put}
+use Rattle.exchange.specs.Desk.{Desk, Fed, desk}
 use Rattle.exchange.specs.Lines.{withEnd}
 
 -- what the line that a desk holds gets
@@ -47,21 +45,6 @@ pub record Finished (d : Desk) (b b′ : List ℕ) (n : ℕ) : Type 0 where
   pub bytes : List ℕ
   pub ends : Ends d bytes
   pub puts : PutAt b 0 bytes b′ n
-
--- one turn: a part's next line goes in
-pub record Turned (d : Desk) (part : List ℕ) (from : ℕ) (b : List ℕ) (at : ℕ) (b′ : List ℕ) (e : Desk) (next end : ℕ) : Type 0 where
-  pub bytes : List ℕ
-  pub takes : Takes d (withEnd (drop from part)) e bytes
-  pub puts : PutAt b at bytes b′ end
-  pub fits : length bytes ≤ ROOM
-  pub goes : next ≡ from + length (withEnd (drop from part))
-
--- a line that was begun, and ends here
-pub record WholeAnswered (s : Sheet) (g : Begun) (line b : List ℕ) (at : ℕ) (b′ : List ℕ) (t : Sheet) (end : ℕ) : Type 0 where
-  pub lines : List Line
-  pub said : LineSaid (desk s (joined g line)) t lines
-  pub puts : PutAt b at (answerBytes lines) b′ end
-  pub fits : length (answerBytes lines) ≤ ROOM
 
 -- Parts go in one after the other, each with any outcome that satisfies what feeding promises; what a feeding leaves of a part
 -- may go in again. The input is what was used of each, and the output what each wrote.

@@ -1,4 +1,4 @@
--- From what a call promises to what its line's answer promises. Assumes nothing.
+-- What is written of a number and of a reply, and that it fits the room for an answer. Assumes nothing.
 use mathlib.Core.Path.{_≡_, sym, ap, _∙_}
 use mathlib.Core.List.{List, [], _∷_, _++_, append-nil}
 use Prim.Native.Nat.{ℕ, _*_, _≤_}
@@ -6,6 +6,7 @@ use native.Mathlib.Decide.{ℕ-discrete}
 use native.Mathlib.Omega.{arith}
 use borrow.Author.Tests.{eq-eqb, ne-eqb}
 use lib.ListN.{drop, length, length-append, length-drop}
+use Rattle.word.specs.declared.Edition.{Edition}
 use Rattle.rule.specs.Meaning.{RULES}
 use Rattle.chain.specs.declared.Link.{Link}
 use Rattle.chain.specs.Links.{chainRoom, numbersOf, mostLinks}
@@ -16,29 +17,13 @@ use Rattle.page.specs.Calls.{ask, refusal}
 use Rattle.page.specs.Page.{Page}
 use Rattle.sheet.specs.Statements.{Asked, IsSheet, chainOn, overlaid, reply}
 use Rattle.sheet.proofs.Tested.{sheet-dec}
-use Rattle.frame.specs.declared.Frame.{Frame}
 use Rattle.frame.specs.Answers.{ROOM, answerBytes, askLines, keptLine, lineBytes, linkLines, numberLine}
-use Rattle.frame.specs.Calls.{callOf, lineCall}
-use Rattle.frame.specs.Fields.{Line}
-use Rattle.frame.specs.Frames.{frameOf}
-use Rattle.frame.specs.Statements.{AskPut, LineAnswered, PutAt, Said, asked}
+use Rattle.frame.specs.Statements.{PutAt}
 use Rattle.frame.proofs.Lines.{length-kept, length-links, length-number, one-line}
 
-number-fits : (n : ℕ) → length (answerBytes (numberLine n ∷ [])) ≤ ROOM
+pub number-fits : (n : ℕ) → length (answerBytes (numberLine n ∷ [])) ≤ ROOM
 unfolding answerBytes
 number-fits n = rw (append-nil (lineBytes (numberLine n))) (omega (arith, length-number n))
-
-pub line-answered : {s : Sheet} (line : List ℕ) {b b′ : List ℕ} {at end : ℕ} {f : Frame} {t u : Sheet} {lines : List Line}
-    → f ≡ frameOf line → Said s (callOf f) t lines → u ≡ t → PutAt b at (answerBytes lines) b′ end → length (answerBytes lines) ≤ ROOM
-    → LineAnswered s line b at b′ u end
-unfolding lineCall
-line-answered line {lines} e h q l k = record { lines = lines; said = rw (sym e, q) h; puts = l; fits = k }
-
--- the answer is a number
-pub number-answered : {s : Sheet} (line : List ℕ) {b b′ : List ℕ} {at end : ℕ} {f : Frame} {t u : Sheet} (n : ℕ)
-    → f ≡ frameOf line → Said s (callOf f) t (numberLine n ∷ []) → u ≡ t → PutAt b at (lineBytes (numberLine n)) b′ end
-    → LineAnswered s line b at b′ u end
-number-answered line n e h q l = line-answered line e h q (one-line (numberLine n) l) (number-fits n)
 
 -- ---- asking
 
@@ -68,25 +53,23 @@ few-links {s} {b} {b′} {r} a e e′ = go (sheet-dec s)
         omega (arith, laid-fit ls b (ap length (sym (p .1)) ∙ e′ ∙ sym e))
     go (no n) = let z : r .links ≡ 0 = ap (λ (t : Reply). t .links) (a .no-sheet n .0) in omega arith
 
-module _ {s : Sheet} {c c′ : List ℕ} {r : Reply} (e : length c ≡ chainRoom RULES) (a : Asked s c c′ r) {b b′ : List ℕ} {at end : ℕ} where
-  pub ask-refused : (r .number ≡ 0 → ⊥) → PutAt b at (lineBytes (numberLine (r .number))) b′ end → AskPut s b at b′ end
+-- what is written of a reply
+module _ (e : Edition) (r : Reply) (c : List ℕ) {b b′ : List ℕ} {at end : ℕ} where
+  pub refusal-put : (r .number ≡ 0 → ⊥) → PutAt b at (lineBytes (numberLine (r .number))) b′ end → PutAt b at (answerBytes (askLines e r c)) b′ end
   unfolding askLines
-  ask-refused n l =
-      record {
-        lines = askLines (s .edition) r c′;
-        said = asked (chainRoom RULES) c c′ r e a;
-        puts = rw (ne-eqb (r .number) 0 n) (one-line (numberLine (r .number)) l);
-        fits = rw (ne-eqb (r .number) 0 n) (number-fits (r .number));
-      }
+  refusal-put n l = rw (ne-eqb (r .number) 0 n) (one-line (numberLine (r .number)) l)
 
-  pub ask-answered : r .number ≡ 0 → r .links ≤ mostLinks RULES
-      → PutAt b at (lineBytes (keptLine (s .edition) (r .kept)) ++ answerBytes (linkLines (s .edition) (r .links) c′)) b′ end → AskPut s b at b′ end
+  pub reply-put : r .number ≡ 0 → PutAt b at (lineBytes (keptLine e (r .kept)) ++ answerBytes (linkLines e (r .links) c)) b′ end
+      → PutAt b at (answerBytes (askLines e r c)) b′ end
   unfolding askLines answerBytes
-  ask-answered n few l =
-      record {
-        lines = askLines (s .edition) r c′;
-        said = asked (chainRoom RULES) c c′ r e a;
-        puts = rw (eq-eqb (r .number) 0 n) l;
-        fits = rw (eq-eqb (r .number) 0 n, length-append (lineBytes (keptLine (s .edition) (r .kept))) _)
-            (omega (arith, length-kept (s .edition) (r .kept), length-links (s .edition) (r .links) c′));
-      }
+  reply-put n l = rw (eq-eqb (r .number) 0 n) l
+
+pub reply-fits : (e : Edition) (r : Reply) (c : List ℕ) → r .links ≤ mostLinks RULES → length (answerBytes (askLines e r c)) ≤ ROOM
+unfolding askLines answerBytes
+reply-fits e r c few = go (ℕ-discrete (r .number) 0)
+  where
+    go : Dec (r .number ≡ 0) → length (answerBytes (askLines e r c)) ≤ ROOM
+    go (yes n) =
+        rw (eq-eqb (r .number) 0 n, length-append (lineBytes (keptLine e (r .kept))) _)
+        (omega (arith, length-kept e (r .kept), length-links e (r .links) c))
+    go (no n) = rw (ne-eqb (r .number) 0 n) (number-fits (r .number))

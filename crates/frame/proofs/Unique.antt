@@ -1,4 +1,4 @@
--- No second outcome satisfies what answering a line promises: the line picks the call, and a record is a sheet or it is not.
+-- No second outcome satisfies what is promised of an answer: the line picks the call, and a record is a sheet or it is not.
 -- Assumes nothing.
 use mathlib.Core.Path.{_≡_, refl, sym, ap, _∙_}
 use mathlib.Core.List.{List, [], _∷_}
@@ -14,7 +14,7 @@ use Rattle.demands.proofs.Unique.{outcome-unique}
 use Rattle.frame.specs.Answers.{answerBytes, askLines, numberLine}
 use Rattle.frame.specs.Calls.{MadeCall}
 use Rattle.frame.specs.Fields.{Line}
-use Rattle.frame.specs.Statements.{LineAnswered, PutAt, Said, answered, asked, no-call}
+use Rattle.frame.specs.Statements.{Answered, PutAt, Said, answered, asked, no-call}
 use Rattle.frame.proofs.OnPage.{asked-lines}
 
 same-answer : {r r′ : Answer} → r ≡ r′ → (r .sheet ≡ r′ .sheet) × (numberLine (r .number) ∷ [] ≡ numberLine (r′ .number) ∷ [])
@@ -44,7 +44,7 @@ put-unique {b} {at} e u v = (
   u .ends ∙ ap (λ (l : List ℕ). at + length l) e ∙ sym (v .ends),
 )
 
-pub answered-unique : {s : Sheet} {l b b₁ b₂ : List ℕ} {at m n : ℕ} {t₁ t₂ : Sheet} → LineAnswered s l b at b₁ t₁ m → LineAnswered s l b at b₂ t₂ n
+pub answered-unique : {s : Sheet} {c : MadeCall} {b b₁ b₂ : List ℕ} {at m n : ℕ} {t₁ t₂ : Sheet} → Answered s c b at b₁ t₁ m → Answered s c b at b₂ t₂ n
     → (t₁ ≡ t₂) × (b₁ ≡ b₂) × (m ≡ n)
 answered-unique u v =
     let s = said-unique (u .said) (v .said) in

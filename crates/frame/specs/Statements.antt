@@ -3,8 +3,6 @@ use mathlib.Core.Path.{_≡_}
 use mathlib.Core.List.{List, [], _∷_}
 use Prim.Native.Nat.{ℕ, _+_, _≤_}
 use lib.ListN.{length}
-use Rattle.rule.specs.Meaning.{RULES}
-use Rattle.chain.specs.Links.{chainRoom}
 use Rattle.sheet.specs.declared.Answer.{Answer}
 use Rattle.sheet.specs.declared.Reply.{Reply}
 use Rattle.sheet.specs.declared.Sheet.{Sheet}
@@ -12,7 +10,7 @@ use Rattle.page.specs.Calls.{Call}
 use Rattle.sheet.specs.Statements.{Asked, Outcome}
 use Rattle.hex.specs.Hex.{Written}
 use Rattle.frame.specs.Answers.{NO-FRAME, ROOM, answerBytes, askLines, numberLine}
-use Rattle.frame.specs.Calls.{MadeCall, asks, lineCall, makes, none}
+use Rattle.frame.specs.Calls.{MadeCall, asks, makes, none}
 use Rattle.frame.specs.Fields.{Line}
 
 -- bytes are written from a place on, fit the buffer, and end at another place
@@ -28,16 +26,9 @@ pub data Said (s : Sheet) : MadeCall → Sheet → List Line → Type 0 where
   asked : (m : ℕ) (b b′ : List ℕ) (r : Reply) → length b ≡ m → Asked s b b′ r → Said s (asks m) s (askLines (s .edition) r b′)
   no-call : Said s none s (numberLine NO-FRAME ∷ [])
 
--- an asking's answer, written
-pub record AskPut (s : Sheet) (b : List ℕ) (at : ℕ) (b′ : List ℕ) (end : ℕ) : Type 0 where
+-- what a call gets, written, with the record after it and where the answer ends
+pub record Answered (s : Sheet) (c : MadeCall) (b : List ℕ) (at : ℕ) (b′ : List ℕ) (t : Sheet) (end : ℕ) : Type 0 where
   pub lines : List Line
-  pub said : Said s (asks (chainRoom RULES)) s lines
-  pub puts : PutAt b at (answerBytes lines) b′ end
-  pub fits : length (answerBytes lines) ≤ ROOM
-
--- a line's answer, written, with the record after the line and where the answer ends
-pub record LineAnswered (s : Sheet) (line b : List ℕ) (at : ℕ) (b′ : List ℕ) (t : Sheet) (end : ℕ) : Type 0 where
-  pub lines : List Line
-  pub said : Said s (lineCall line) t lines
+  pub said : Said s c t lines
   pub puts : PutAt b at (answerBytes lines) b′ end
   pub fits : length (answerBytes lines) ≤ ROOM
