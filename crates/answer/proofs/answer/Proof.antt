@@ -1,0 +1,33 @@
+-- `answer` meets its contract: what the call comes to is written, and fits the room. Assumes nothing.
+use borrow.Author.Needs.{needs}
+use Rattle.answer.specs.Told.{toldLines}
+use Rattle.answer.proofs.Coming.{told-fits}
+use Rattle.answer.proofs.answer.Statement.{statement}
+use Rattle.answer.proofs.answer.Tie as tie
+
+call-requires : tie.Need-call-requires
+call-requires c κs = search needs
+
+put-requires : tie.Need-put-requires
+put-requires c κs = search needs
+
+same-length : tie.Need-same-length
+same-length c = search needs
+
+returns : tie.Need-returns
+returns c =
+    let k = c .before .before .before .before .before .before .before .call in (
+      record {
+        answered = record {
+          lines = toldLines _ _ _;
+          said = k .ensures .said;
+          puts = c .before .before .put .ensures;
+          fits = told-fits _ _ _ (k .ensures .few);
+        };
+        held = k .ensures .held;
+      },
+      (k .ensures .lent, k .ensures .left),
+    )
+
+pub answer-spec : {M : Type 1} → statement M
+answer-spec = tie.close (tie.spec call-requires put-requires same-length returns)
