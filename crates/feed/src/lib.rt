@@ -1,0 +1,107 @@
+// The exchange on a slate: lines in and answers out, a part of the input at a time.
+ghost use mathlib.Core.Path.{_≡_};
+ghost use Prim.Native.Nat.{_≤_};
+ghost use lib.ListN.{length};
+ghost use Rattle.rule.specs.Meaning.{RULES};
+ghost use Rattle.chain.specs.Links.{chainRoom};
+ghost use Rattle.frame.specs.Answers.{ROOM};
+ghost use Rattle.exchange.specs.Statements.{Finished};
+ghost use Rattle.slate.specs.Held.{Held};
+ghost use Rattle.feed.specs.Statements.{FedOn, deskOf};
+use exchange::Begun;
+use frame::Frame;
+use rows::NUMBERS;
+use rule::Rule;
+use sheet::Sheet;
+use slate::Head;
+
+// What is carried from one part of the input to the next beside the arrays: the head, and the line that is not finished.
+pub struct State {
+    pub head: Head,
+    pub begun: Begun,
+}
+
+// The state after a part, how much of the part was used, and how many bytes were written.
+pub struct Fed {
+    pub state: State,
+    pub used: usize,
+    pub written: usize,
+}
+
+// Takes a part of the input, line by line, while the lent buffer has room for an answer.
+pub fn feed(
+    state: State,
+    rows: &mut [[u64; NUMBERS]; Rule::LIMIT],
+    marks: &mut [usize; Sheet::MARKS],
+    chain: &mut [u64; Sheet::LENT],
+    part: &[u8],
+    out: &mut [u8],
+) -> Fed
+    requires { ⌜ Held (state .head) (now rows) (now marks) ⌝ }
+    requires { ⌜ length (now chain) ≡ chainRoom RULES ⌝ }
+    ensures { λ r. ⌜ FedOn (deskOf state (now (rows .entry)) (now (marks .entry))) (now (part .entry)) (now (out .entry)) (now (out .exit)) r (now (rows .exit)) (now (marks .exit)) ⌝ }
+    ensures { λ r. ⌜ length (now (chain .exit)) ≡ chainRoom RULES ⌝ }
+{
+    let mut head = state.head;
+    let mut begun = state.begun;
+    let mut used = 0;
+    let mut written = 0;
+    while used < part.len() {
+        if out.len() - written < Frame::ROOM {
+            break;
+        }
+        let line = exchange::line_at(part, used);
+        let end = used + line.len();
+        if end == part.len() {
+            begun = begun.with(line);
+            used = end;
+            continue;
+        }
+        let frame = begun.frame(line);
+        let after = answer::answer(
+            head,
+            &mut *rows,
+            &mut *marks,
+            &mut *chain,
+            frame,
+            &mut *out,
+            written,
+        );
+        head = after.head;
+        begun = Begun::none();
+        used = end + 1;
+        written = after.end;
+    }
+    Fed {
+        state: State { head, begun },
+        used,
+        written,
+    }
+}
+
+// At the end of the input: a line that is begun ends as with a byte 10. Says how many bytes were written.
+pub fn finish(
+    state: State,
+    rows: &mut [[u64; NUMBERS]; Rule::LIMIT],
+    marks: &mut [usize; Sheet::MARKS],
+    chain: &mut [u64; Sheet::LENT],
+    out: &mut [u8],
+) -> usize
+    requires { ⌜ Held (state .head) (now rows) (now marks) ⌝ }
+    requires { ⌜ (length (now chain) ≡ chainRoom RULES) × (ROOM ≤ length (now out)) ⌝ }
+    ensures { λ r. ⌜ Finished (deskOf state (now (rows .entry)) (now (marks .entry))) (now (out .entry)) (now (out .exit)) r ⌝ }
+{
+    let begun = state.begun;
+    if begun.len == 0 {
+        return 0;
+    }
+    let last = [Frame::NEWLINE; 1];
+    feed(
+        state,
+        &mut *rows,
+        &mut *marks,
+        &mut *chain,
+        &last,
+        &mut *out,
+    ).written
+}
