@@ -5,7 +5,7 @@ use Prim.Native.Nat.{ℕ, _+_, _-_}
 use native.Mathlib.Omega.{arith}
 use lib.ListN.{drop, length, length-drop, take}
 use lib.Seq.{take-add, take-all}
-use Rattle.exchange.specs.declared.Desk.{Desk}
+use Rattle.exchange.specs.Desk.{Desk}
 use Rattle.exchange.specs.Statements.{Feeds, Takes}
 use Rattle.exchange.proofs.Cut.{feeds-takes, takes-on}
 use Rattle.desk.specs.Passed.{Passed}

@@ -1,7 +1,7 @@
 -- What is handed on from one part of the input to the next.
 use mathlib.Core.List.{List}
 use Prim.Native.Nat.{ℕ}
-use Rattle.exchange.specs.declared.Desk.{Desk}
+use Rattle.exchange.specs.Desk.{Desk}
 use Rattle.exchange.specs.Statements.{Takes}
 
 -- a desk after all bytes of a part went in, each once and in order

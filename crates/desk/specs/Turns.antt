@@ -2,38 +2,46 @@
 use mathlib.Core.Path.{_≡_}
 use mathlib.Core.Bool.{Bool, false, true}
 use mathlib.Core.List.{List}
-use Prim.Native.Nat.{ℕ, suc}
+use Prim.Native.Nat.{ℕ, suc, _≤_}
 use lib.IntN.{ℤ}
 use lib.ListN.{length, take}
 use Rattle.io.specs.Counts.{clamped}
-use Rattle.exchange.specs.declared.Desk.{Desk}
-use Rattle.exchange.specs.Begun.{desk, none}
 use Rattle.sheet.specs.Record.{blank}
+use Rattle.exchange.specs.Begun.{none}
+use Rattle.exchange.specs.Desk.{Desk, desk}
+use Rattle.feed.specs.Statements.{deskOf}
 use Rattle.desk.specs.declared.calls.Came.{Came}
 use Rattle.desk.specs.declared.calls.Came.the-variants.{Interrupted}
+use Rattle.desk.specs.declared.turns.Hearing.{Hearing}
 use Rattle.desk.specs.declared.turns.Talk.{Talk}
 use Rattle.desk.specs.declared.turns.Turn.{Turn}
 use Rattle.desk.specs.Calls.{cameTo, goesOn}
 use Rattle.desk.specs.Passed.{Passed}
 
--- a turn on a read's answer: where the answers are taken, what was read went in whole
-pub record Hears (d : Desk) (got error : ℤ) (input : List ℕ) (r : Turn) : Type 0 where
+-- what is made of a read's answer: what it came to, and how many bytes of the buffer it brought
+pub record Heard (got error : ℤ) (input : List ℕ) (r : Hearing) : Type 0 where
   pub came : r .came ≡ cameTo got error
-  pub passed : r .taken ≡ true → Passed d (take (clamped got (length input)) input) (r .desk)
+  pub count : r .count ≡ clamped got (length input)
+  pub within : r .count ≤ length input
+
+-- a turn on a read's answer, with rows and marks as they are then: where the answers are taken, what was read went in whole
+pub record Hears (d : Desk) (got error : ℤ) (input : List ℕ) (r : Turn) (rows : List (List ℕ)) (marks : List ℕ) : Type 0 where
+  pub came : r .came ≡ cameTo got error
+  pub passed : r .taken ≡ true → Passed d (take (clamped got (length input)) input) (deskOf (r .state) rows marks)
 
 -- a turn, whatever its read answered and left in the buffer
-pub record Turned (d : Desk) (input : List ℕ) (r : Turn) : Type 0 where
+pub record Turned (d : Desk) (input : List ℕ) (r : Turn) (rows : List (List ℕ)) (marks : List ℕ) : Type 0 where
   pub got : ℤ
   pub error : ℤ
-  pub hears : Hears d got error input r
+  pub hears : Hears d got error input r rows marks
 
 -- so many turns from the desk before the first byte, each on the desk that the one before it left
 pub data Turns : ℕ → Came → (taken : Bool) → Desk → Type 0 where
   none-yet : Turns 0 Interrupted true (desk blank none)
-  another : {n : ℕ} {c : Came} {t : Bool} {d : Desk} {input : List ℕ} {r : Turn} → Turns n c t d → goesOn c t n ≡ true → Turned d input r
-      → Turns (suc n) (r .came) (r .taken) (r .desk)
+  another : {n : ℕ} {c : Came} {t : Bool} {d : Desk} {input : List ℕ} {r : Turn} {rows : List (List ℕ)} {marks : List ℕ} → Turns n c t d → goesOn c t n ≡ true
+      → Turned d input r rows marks → Turns (suc n) (r .came) (r .taken) (deskOf (r .state) rows marks)
 
 -- turns stop only at the end of the input, at a read or a write that fails, or after as many as no run uses up
-pub record Stops (r : Talk) : Type 0 where
-  pub turns : Turns (r .turns) (r .came) (r .taken) (r .desk)
-  pub stops : goesOn (r .came) (r .taken) (r .turns) ≡ false
+pub record Stops (r : Talk) (rows : List (List ℕ)) (marks : List ℕ) : Type 0 where
+  pub turns : Turns (r .turns) (r .turn .came) (r .turn .taken) (deskOf (r .turn .state) rows marks)
+  pub stops : goesOn (r .turn .came) (r .turn .taken) (r .turns) ≡ false

@@ -1,19 +1,27 @@
-// The desk: frames on standard input, a line each, and answers on standard output.
+// The desk: frames on standard input, a line each, and answers on standard output. The sheet is laid out once, and stays so.
 
 mod calls;
 mod output;
 mod turns;
 
 use calls::Came;
+use rows::NUMBERS;
+use rule::Rule;
+use sheet::Sheet;
 
 // At the end of the input the last line is answered, which may lack its byte 10. An input that could not be read has no last line.
 fn main() {
-    let talk = turns::converse();
-    let desk = talk.desk;
-    let came = talk.came;
+    let none = [0; NUMBERS];
+    let mut rows = [none; Rule::LIMIT];
+    let mut marks: [usize; Sheet::MARKS] = [0; Sheet::MARKS];
+    let mut chain = [0; Sheet::LENT];
+    let mut out = io::large_buffer();
+    let talk = turns::converse(&mut rows, &mut marks, &mut chain, &mut out);
+    let turn = talk.turn;
+    let came = turn.came;
     if let Came::Nothing = came {
-        let mut out = io::large_buffer();
-        let n = lent_exchange::finish(desk, &mut out);
+        let state = turn.state;
+        let n = feed::finish(state, &mut rows, &mut marks, &mut chain, &mut out);
         output::send(&out[..n]);
     }
 }

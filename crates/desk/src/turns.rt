@@ -3,83 +3,140 @@ ghost use mathlib.Core.Path.{_≡_};
 ghost use mathlib.Core.Bool.{true};
 ghost use Prim.Native.Nat.{_≤_};
 ghost use lib.ListN.{length};
+ghost use Rattle.rule.specs.Meaning.{RULES};
+ghost use Rattle.chain.specs.Links.{chainRoom};
 ghost use Rattle.frame.specs.Answers.{ROOM};
+ghost use Rattle.slate.specs.Held.{Held, Room};
+ghost use Rattle.feed.specs.Statements.{deskOf};
+ghost use Rattle.desk.specs.Calls.{goesOn};
 ghost use Rattle.desk.specs.Passed.{Passed};
-ghost use Rattle.desk.specs.Turns.{Hears, Stops, Turned};
+ghost use Rattle.desk.specs.Turns.{Heard, Stops, Turned};
 use crate::calls::Came;
 use crate::output;
-use exchange::Desk;
+use exchange::Begun;
+use feed::State;
 use libc::STDIN_FILENO;
+use rows::NUMBERS;
+use rule::Rule;
+use sheet::Sheet;
+use sheet::laid;
 
-// The desk after a part of the input, and whether its answers were taken.
+// The state after a part of the input, and whether its answers were taken.
 pub struct Served {
-    pub desk: Desk,
+    pub state: State,
     pub taken: bool,
 }
 
-// The desk after a turn, what its read came to, and whether the answers were taken.
+// What a read came to, and how many bytes it brought.
+pub struct Hearing {
+    pub came: Came,
+    pub count: usize,
+}
+
+// The state after a turn, what its read came to, and whether the answers were taken.
 pub struct Turn {
-    pub desk: Desk,
+    pub state: State,
     pub came: Came,
     pub taken: bool,
 }
 
-// The desk after the last turn, what its read came to, whether the answers were taken, and how many turns there were.
+// The last turn, and how many turns there were.
 pub struct Talk {
-    pub desk: Desk,
-    pub came: Came,
-    pub taken: bool,
+    pub turn: Turn,
     pub turns: u64,
 }
 
 // Turn after turn, until the input ends, or a read or a write fails. The first turn comes as after a read that was interrupted.
-pub fn converse() -> Talk
-    ensures { λ r. ⌜ Stops r ⌝ }
+pub fn converse(
+    rows: &mut [[u64; NUMBERS]; Rule::LIMIT],
+    marks: &mut [usize; Sheet::MARKS],
+    chain: &mut [u64; Sheet::LENT],
+    out: &mut [u8],
+) -> Talk
+    requires { ⌜ Room (now rows) (now marks) ⌝ }
+    requires { ⌜ (length (now chain) ≡ chainRoom RULES) × (ROOM ≤ length (now out)) ⌝ }
+    ensures { λ r. ⌜ Stops r (now (rows .exit)) (now (marks .exit)) ⌝ }
+    ensures { λ r. ⌜ Held (r .turn .state .head) (now (rows .exit)) (now (marks .exit)) × (length (now (chain .exit)) ≡ chainRoom RULES) ⌝ }
 {
     let mut input = io::large_buffer();
-    let mut out = io::large_buffer();
-    let mut desk = Desk::new();
-    let mut came = Came::Interrupted;
-    let mut taken = true;
+    let head = laid::lay_out(Sheet::blank(), &mut *rows, &mut *marks);
+    let begun = Begun::none();
+    let first = Turn {
+        state: State { head, begun },
+        came: Came::Interrupted,
+        taken: true,
+    };
+    let mut turn = first;
     let mut turns = 0;
-    while came.goes_on(taken, turns) {
-        let turn = take_turn(desk, &mut input, &mut out);
-        desk = turn.desk;
-        came = turn.came;
-        taken = turn.taken;
+    while turn.goes_on(turns) {
+        turn = take_turn(
+            turn,
+            &mut *rows,
+            &mut *marks,
+            &mut *chain,
+            &mut input,
+            &mut *out,
+        );
         turns += 1;
     }
-    Talk {
-        desk,
-        came,
-        taken,
-        turns,
+    Talk { turn, turns }
+}
+
+impl Turn {
+    // Whether another turn follows, after so many.
+    fn goes_on(self, turns: u64) -> bool
+        ensures { λ r. ⌜ r ≡ goesOn (self .came) (self .taken) turns ⌝ }
+    {
+        let turn = self;
+        let came = turn.came;
+        came.goes_on(turn.taken, turns)
     }
 }
 
-// One read, and what is read is answered before the next, so that a conversation can be held.
-fn take_turn(desk: Desk, input: &mut [u8], out: &mut [u8]) -> Turn
-    requires { ⌜ ROOM ≤ length (now out) ⌝ }
-    ensures { λ r. ⌜ Turned desk (now (input .exit)) r ⌝ }
+// One read after the last turn, and what is read is answered before the next, so that a conversation can be held.
+fn take_turn(
+    last: Turn,
+    rows: &mut [[u64; NUMBERS]; Rule::LIMIT],
+    marks: &mut [usize; Sheet::MARKS],
+    chain: &mut [u64; Sheet::LENT],
+    input: &mut [u8],
+    out: &mut [u8],
+) -> Turn
+    requires { ⌜ Held (last .state .head) (now rows) (now marks) ⌝ }
+    requires { ⌜ (length (now chain) ≡ chainRoom RULES) × (ROOM ≤ length (now out)) ⌝ }
+    ensures { λ r. ⌜ Turned (deskOf (last .state) (now (rows .entry)) (now (marks .entry))) (now (input .exit)) r (now (rows .exit)) (now (marks .exit)) ⌝ }
+    ensures { λ r. ⌜ Held (r .state .head) (now (rows .exit)) (now (marks .exit)) × (length (now (chain .exit)) ≡ chainRoom RULES) ⌝ }
 {
     let got = libc::read(STDIN_FILENO, &mut *input);
-    hear(desk, got, os::errno(), input, &mut *out)
+    let heard = hear(got, os::errno(), &*input);
+    let state = last.state;
+    let came = heard.came;
+    let n = heard.count;
+    let served = serve(
+        state,
+        &mut *rows,
+        &mut *marks,
+        &mut *chain,
+        &input[..n],
+        &mut *out,
+    );
+    let after = served.state;
+    Turn {
+        state: after,
+        came,
+        taken: served.taken,
+    }
 }
 
-// Answers what a read brought; nothing, where it brought nothing.
-fn hear(desk: Desk, got: isize, error: i32, input: &[u8], out: &mut [u8]) -> Turn
-    requires { ⌜ ROOM ≤ length (now out) ⌝ }
-    ensures { λ r. ⌜ Hears desk got error (now (input .entry)) r ⌝ }
+// What a read's answer comes to, and how many bytes of the buffer it brought: none, where it failed.
+fn hear(got: isize, error: i32, input: &[u8]) -> Hearing
+    ensures { λ r. ⌜ Heard got error (now (input .entry)) r ⌝ }
 {
     let came = Came::of(got, error);
     say_unread(came);
-    let n = io::count(got, input);
-    let served = serve(desk, &input[..n], &mut *out);
-    let desk = served.desk;
-    Turn {
-        desk,
+    Hearing {
         came,
-        taken: served.taken,
+        count: io::count(got, input),
     }
 }
 
@@ -91,21 +148,40 @@ fn say_unread(came: Came) {
 }
 
 // Answers a part of the input, with a write each time that the buffer is full and one at the end.
-fn serve(desk: Desk, part: &[u8], out: &mut [u8]) -> Served
-    requires { ⌜ ROOM ≤ length (now out) ⌝ }
-    ensures { λ r. ⌜ (r .taken ≡ true → Passed desk (now (part .entry)) (r .desk)) ⌝ }
+fn serve(
+    state: State,
+    rows: &mut [[u64; NUMBERS]; Rule::LIMIT],
+    marks: &mut [usize; Sheet::MARKS],
+    chain: &mut [u64; Sheet::LENT],
+    part: &[u8],
+    out: &mut [u8],
+) -> Served
+    requires { ⌜ Held (state .head) (now rows) (now marks) ⌝ }
+    requires { ⌜ (length (now chain) ≡ chainRoom RULES) × (ROOM ≤ length (now out)) ⌝ }
+    ensures { λ r. ⌜ (r .taken ≡ true → Passed (deskOf state (now (rows .entry)) (now (marks .entry))) (now (part .entry)) (deskOf (r .state) (now (rows .exit)) (now (marks .exit)))) ⌝ }
+    ensures { λ r. ⌜ Held (r .state .head) (now (rows .exit)) (now (marks .exit)) × (length (now (chain .exit)) ≡ chainRoom RULES) ⌝ }
 {
-    let mut desk = desk;
+    let mut state = state;
     let mut at = 0;
     while at < part.len() {
-        let fed = lent_exchange::feed(desk, &part[at..], &mut *out);
+        let fed = feed::feed(
+            state,
+            &mut *rows,
+            &mut *marks,
+            &mut *chain,
+            &part[at..],
+            &mut *out,
+        );
         let written = fed.written;
-        desk = fed.desk;
+        state = fed.state;
         at = at + fed.used;
         let sent = output::send(&out[..written]);
         if sent.count < written {
-            return Served { desk, taken: false };
+            return Served {
+                state,
+                taken: false,
+            };
         }
     }
-    Served { desk, taken: true }
+    Served { state, taken: true }
 }

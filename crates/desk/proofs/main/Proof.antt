@@ -1,4 +1,5 @@
--- `main` is safe and ends: the buffer has room for one answer, and the answer's bytes are within it. Assumes nothing.
+-- `main` is safe and ends: the arrays have the places of a record, the buffer has room for one answer, and the answer's bytes are within it.
+-- Assumes nothing.
 use mathlib.Core.Path.{sym}
 use native.Mathlib.Omega.{arith}
 use borrow.Author.Needs.{needs}
@@ -6,14 +7,17 @@ use lib.Seq.{length-take-le}
 use Rattle.desk.proofs.main.Statement.{statement}
 use Rattle.desk.proofs.main.Tie as tie
 
+large-buffer-requires : tie.Need-large-buffer-requires
+large-buffer-requires c κs = search needs
+
+slice-aggregate-converse : tie.Need-slice-aggregate-converse
+slice-aggregate-converse c = search needs
+
 converse-requires : tie.Need-converse-requires
 converse-requires c κs = search needs
 
 enum-told : tie.Need-enum-told
 enum-told c = search needs
-
-large-buffer-requires : tie.Need-large-buffer-requires
-large-buffer-requires c κs = search needs
 
 slice-aggregate-finish : tie.Need-slice-aggregate-finish
 slice-aggregate-finish c = search needs
@@ -40,9 +44,10 @@ pub main-spec : {M : Type 1} → statement M
 main-spec =
     tie.close
     (tie.spec
+    large-buffer-requires
+    slice-aggregate-converse
     converse-requires
     enum-told
-    large-buffer-requires
     slice-aggregate-finish
     finish-requires
     array-share-prefix-out
