@@ -8,13 +8,15 @@ use borrow.Author.Tests.{leb-true, ltb-true, not-true}
 use lib.Dec.{leb, ltb}
 use Rattle.word.specs.Word.{top}
 use Rattle.word.proofs.Tests.{both-pass}
-use Rattle.span.specs.Interval.{Words, hollow}
-use Rattle.span.specs.Join.{isWidth, within}
-use Rattle.span.proofs.Intervals.{is-words}
-use Rattle.net.specs.declared.Join.{Join}
+use Rattle.interval.specs.Interval.{Words, hollow, within}
+use Rattle.span.specs.Join.{isWidth}
+use Rattle.interval.proofs.Intervals.{is-words}
+use Rattle.net_step.specs.declared.Join.{Join}
 use Rattle.net.specs.declared.Net.{Net}
-use Rattle.net.specs.Net.{AllNamed, JOINS, Named, WORDS, every, fits, joinAt, named, refusal, third, wordAt}
-use Rattle.net.proofs.Every.{every-holds}
+use Rattle.net.specs.Net.{AllNamed, refusal}
+use Rattle.net_tests.specs.Fits.{JOINS, every, fits, joinAt}
+use Rattle.net_step.specs.Named.{Named, WORDS, named, third, wordAt}
+use Rattle.net_tests.proofs.Every.{every-holds}
 
 pub record Accepted (net : Net) : Type 0 where
   pub words : net .count ≤ WORDS

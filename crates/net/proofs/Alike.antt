@@ -12,23 +12,25 @@ use borrow.Author.Tests.{eq-eqb, ne-eqb}
 use lib.ListN.{length, length-set}
 use lib.Seq.{getD-set-same, set-out}
 use Rattle.word.specs.Word.{top}
-use Rattle.span.specs.declared.Interval.{Interval}
-use Rattle.span.specs.declared.Op.{Op}
-use Rattle.span.specs.declared.Op.the-variants.{And, Not, Or, Xor}
-use Rattle.span.specs.Interval.{cut, hollow, interval}
-use Rattle.span.specs.Join.{joined, within}
+use Rattle.interval.specs.declared.Interval.{Interval}
+use Rattle.interval.specs.declared.Op.{Op}
+use Rattle.interval.specs.declared.Op.the-variants.{And, Not, Or, Xor}
+use Rattle.interval.specs.Interval.{cut, hollow, interval, within}
+use Rattle.span.specs.Join.{joined}
 use Rattle.net.specs.declared.Ended.{Ended}
 use Rattle.net.specs.declared.Ended.the-variants.{Empty, Spent, Steady}
-use Rattle.net.specs.declared.Join.{Join}
+use Rattle.net_step.specs.declared.Join.{Join}
 use Rattle.net.specs.declared.Net.{Net}
 use Rattle.net.specs.Demand.{Alike, SameAnswer, SameJoin, SameWords, refilled}
-use Rattle.net.specs.Net.{Named, every, fits, joinAt, named, placeOf, refusal, third, turn, wordAt}
+use Rattle.net_step.specs.Named.{Named, named, placeOf, third, wordAt}
+use Rattle.net_tests.specs.Fits.{every, fits, joinAt}
+use Rattle.net.specs.Net.{refusal, turn}
 use Rattle.net.specs.Run.{Stop, goes, next, ran, shown, stand, start, stop, turnedDown, walked}
-use Rattle.net.specs.Step.{after, cutAll, cutAt, emptied, left, noWord, results, stepped, unchanged}
+use Rattle.net_step.specs.Step.{after, cutAll, cutAt, emptied, left, noWord, results, stepped, unchanged}
 use Rattle.net.proofs.Accepted.{accepted}
 use Rattle.net.proofs.Going.{goes-empty, goes-next, goes-spent, goes-steady}
 use Rattle.net.proofs.Reached.{told}
-use Rattle.net.proofs.Unchanged.{elsewhere, tested, unchanged-self}
+use Rattle.net_step.proofs.Unchanged.{elsewhere, tested, unchanged-self}
 
 every-same : (n : ℕ) (f g : ℕ → Bool) → ((k : ℕ) → k < n → f k ≡ g k) → every n f ≡ every n g
 unfolding every

@@ -7,14 +7,14 @@ use native.Mathlib.Decide.{decLt, ℕ-discrete}
 use native.Mathlib.Omega.{arith}
 use lib.ListN.{length}
 use lib.Seq.{getD-set-same, set-out}
-use Rattle.span.specs.declared.Interval.{Interval}
+use Rattle.interval.specs.declared.Interval.{Interval}
 use Rattle.span.specs.declared.Joined.{Joined}
 use Rattle.span.specs.Demand.{Inside}
-use Rattle.span.specs.Interval.{cut, interval}
-use Rattle.net.specs.declared.Join.{Join}
-use Rattle.net.specs.Net.{third, wordAt}
-use Rattle.net.specs.Step.{after, cutAll, cutAt, emptied, left, results}
-use Rattle.net.proofs.Unchanged.{elsewhere}
+use Rattle.interval.specs.Interval.{cut, interval}
+use Rattle.net_step.specs.declared.Join.{Join}
+use Rattle.net_step.specs.Named.{third, wordAt}
+use Rattle.net_step.specs.Step.{after, cutAll, cutAt, emptied, left, results}
+use Rattle.net_step.proofs.Unchanged.{elsewhere}
 
 pub stays : (i : Interval) → Inside i i
 stays i = record { low = omega arith; high = omega arith }

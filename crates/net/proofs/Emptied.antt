@@ -9,30 +9,31 @@ use native.Mathlib.Nat.{mod-lt}
 use native.Mathlib.Omega.{arith}
 use lib.ListN.{length}
 use borrow.Author.Tests.{ltb-true}
-use Rattle.span.specs.declared.Interval.{Interval}
+use Rattle.interval.specs.declared.Interval.{Interval}
 use Rattle.span.specs.declared.Joined.{Joined}
-use Rattle.span.specs.declared.Op.{Op}
-use Rattle.span.specs.declared.Op.the-variants.{And, Not, Or, Xor}
-use Rattle.span.specs.Interval.{hollow}
+use Rattle.interval.specs.declared.Op.{Op}
+use Rattle.interval.specs.declared.Op.the-variants.{And, Not, Or, Xor}
+use Rattle.interval.specs.Interval.{hollow}
 use Rattle.span.specs.Join.{allCut, anyHollow, asGiven, isWidth}
 use Rattle.span.specs.Join as join
-use Rattle.span.specs.Span.{second}
-use Rattle.span.proofs.Intervals.{hollow-none}
+use Rattle.interval.specs.Op.{second}
+use Rattle.interval.proofs.Intervals.{hollow-none}
 use Rattle.span.proofs.Joining.{both-fail}
 use Rattle.span.proofs.Outcome.{else-cut, empty-gives-back}
-use Rattle.net.specs.declared.Join.{Join}
+use Rattle.net_step.specs.declared.Join.{Join}
 use Rattle.net.specs.declared.Net.{Net}
 use Rattle.net.specs.Demand.{EmptyCut, InResults, cuts}
-use Rattle.net.specs.Net.{Named, refusal, third, turn, wordAt}
+use Rattle.net_step.specs.Named.{Named, third, wordAt}
+use Rattle.net.specs.Net.{refusal, turn}
 use Rattle.net.specs.Plain.{emptyAt, wordsAfter}
-use Rattle.net.specs.Step.{after, emptied, left, noWord, results}
+use Rattle.net_step.specs.Step.{after, emptied, left, noWord, results}
 use Rattle.net.proofs.Accepted.{accepted}
 use Rattle.net.proofs.Alike.{no-not}
 use Rattle.net.proofs.Cuts.{either-left}
 use Rattle.net.proofs.Kept.{AllWords, accepts, first-in, words-after}
 use Rattle.net.proofs.Leaves.{after-among, among-after, third-y}
 use Rattle.net.proofs.Reached.{told}
-use Rattle.net.proofs.Unchanged.{as-long}
+use Rattle.net_step.proofs.Unchanged.{as-long}
 
 any-passes : (a b c : Bool) → (a || (b || c)) ≡ true → (a ≡ true) ⊎ ((b ≡ true) ⊎ (c ≡ true))
 any-passes true b c e = inl refl

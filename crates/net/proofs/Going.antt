@@ -7,13 +7,13 @@ use Prim.Native.Nat.{ℕ, zero, suc, _+_, _-_, _≤_, _<_}
 use native.Mathlib.Numerals.{add-one}
 use native.Mathlib.Omega.{arith}
 use borrow.Author.Tests.{le-leb, lt-leb}
-use Rattle.span.specs.declared.Interval.{Interval}
+use Rattle.interval.specs.declared.Interval.{Interval}
 use Rattle.net.specs.declared.Ended.the-variants.{Empty, Spent, Steady}
-use Rattle.net.specs.declared.Join.{Join}
-use Rattle.net.specs.declared.step.Stepped.{Stepped}
+use Rattle.net_step.specs.declared.Join.{Join}
+use Rattle.net_step.specs.declared.Stepped.{Stepped}
 use Rattle.net.specs.Net.{turn}
 use Rattle.net.specs.Run.{Stand, Stop, goes, next, stand, start, steady, stop}
-use Rattle.net.specs.Step.{stepped}
+use Rattle.net_step.specs.Step.{stepped}
 
 met : (b : Bool) (x y : Stop) → b ≡ true → cond b x y ≡ x
 met b x y e = ap (λ (c : Bool). cond c x y) e

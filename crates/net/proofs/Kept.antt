@@ -7,23 +7,23 @@ use native.Mathlib.Decide.{ℕ-discrete}
 use native.Mathlib.Omega.{arith}
 use lib.Dec.{eqb}
 use Rattle.word.specs.Word.{top}
-use Rattle.span.specs.declared.Interval.{Interval}
-use Rattle.span.specs.declared.Op.{Op}
-use Rattle.span.specs.declared.Op.the-variants.{And, Not, Or, Xor}
+use Rattle.interval.specs.declared.Interval.{Interval}
+use Rattle.interval.specs.declared.Op.{Op}
+use Rattle.interval.specs.declared.Op.the-variants.{And, Not, Or, Xor}
 use Rattle.span.specs.Demand.{InSecond, Solves}
-use Rattle.span.specs.Interval.{In, Words, cut, hollow}
-use Rattle.span.specs.Join.{allCut, allWithin, anyHollow, asGiven, inverted, isWidth, joined, newY, refusal, refused}
+use Rattle.interval.specs.Interval.{In, Words, cut, hollow}
+use Rattle.span.specs.Join.{allCut, allWithin, anyHollow, asGiven, isWidth, joined, newY, refusal, refused}
+use Rattle.interval.specs.Op.{inverted, result, second}
 use Rattle.span.specs.Join as join
-use Rattle.span.specs.Span.{result, second}
-use Rattle.span.proofs.Intervals.{both-within, in-cut, not-hollow, ordered}
+use Rattle.interval.proofs.Intervals.{both-within, in-cut, not-hollow, ordered}
 use Rattle.span.proofs.Joining.{both-fail}
 use Rattle.span.proofs.Outcome as outcome
-use Rattle.net.specs.declared.Join.{Join}
+use Rattle.net_step.specs.declared.Join.{Join}
 use Rattle.net.specs.Demand.{AllIn}
-use Rattle.net.specs.Net.{Named, placeOf, third, wordAt}
-use Rattle.net.specs.Step.{after, emptied, noWord, results}
+use Rattle.net_step.specs.Named.{Named, placeOf, third, wordAt}
+use Rattle.net_step.specs.Step.{after, emptied, noWord, results}
 use Rattle.net.proofs.Cuts.{kept-all, shrinks}
-use Rattle.net.proofs.Unchanged.{not-named}
+use Rattle.net_step.proofs.Unchanged.{not-named}
 
 -- words in every one of the first n intervals
 abbrev pub AllWords : (w n : ℕ) → List Interval → Type 0

@@ -7,18 +7,18 @@ use Prim.Native.Nat.{ℕ, _<_}
 use native.Mathlib.Omega.{arith}
 use lib.ListN.{length, length-set}
 use lib.Seq.{getD-set-same}
-use Rattle.span.specs.declared.Interval.{Interval}
+use Rattle.interval.specs.declared.Interval.{Interval}
 use Rattle.span.specs.declared.Joined.{Joined}
-use Rattle.span.specs.declared.Op.{Op}
-use Rattle.span.specs.declared.Op.the-variants.{And, Not, Or, Xor}
+use Rattle.interval.specs.declared.Op.{Op}
+use Rattle.interval.specs.declared.Op.the-variants.{And, Not, Or, Xor}
 use Rattle.span.specs.Demand.{Inside}
-use Rattle.span.specs.Interval.{In, cut, interval}
+use Rattle.interval.specs.Interval.{In, cut, interval}
 use Rattle.span.specs.Join.{joined}
-use Rattle.span.proofs.Intervals.{in-cut}
-use Rattle.net.specs.declared.Join.{Join}
+use Rattle.interval.proofs.Intervals.{in-cut}
+use Rattle.net_step.specs.declared.Join.{Join}
 use Rattle.net.specs.Demand.{InResults}
-use Rattle.net.specs.Net.{placeOf, third, wordAt}
-use Rattle.net.specs.Step.{after, cutAll, cutAt, emptied, left, results}
+use Rattle.net_step.specs.Named.{placeOf, third, wordAt}
+use Rattle.net_step.specs.Step.{after, cutAll, cutAt, emptied, left, results}
 use Rattle.net.proofs.Alike.{no-not}
 use Rattle.net.proofs.Cuts.{cut-inside, kept-all, kept-at, shrinks}
 use Rattle.net.proofs.Kept.{y-back}

@@ -2,7 +2,6 @@ pub mod Accepted
 pub mod Alike
 pub mod Cuts
 pub mod Emptied
-pub mod Every
 pub mod Going
 pub mod Kept
 pub mod Leaves
@@ -10,6 +9,4 @@ pub mod Outcome
 pub mod Plain
 pub mod Reached
 pub mod Round
-pub mod Stepping
-pub mod Unchanged
 pub mod Worked

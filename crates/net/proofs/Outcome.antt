@@ -9,25 +9,27 @@ use native.Mathlib.Nat.{mod-lt, suc-add, zero-add}
 use native.Mathlib.Omega.{arith}
 use borrow.Author.Tests.{eq-eqb, eqb-false, ne-eqb}
 use lib.Dec.{eqb}
-use Rattle.span.specs.declared.Interval.{Interval}
+use Rattle.interval.specs.declared.Interval.{Interval}
 use Rattle.span.specs.Demand.{Inside}
-use Rattle.span.specs.Span.{result}
+use Rattle.interval.specs.Op.{result}
 use Rattle.net.specs.declared.Answer.{Answer}
 use Rattle.net.specs.declared.Ended.{Ended}
 use Rattle.net.specs.declared.Ended.the-variants.{Empty, Refused, Spent, Steady}
-use Rattle.net.specs.declared.Join.{Join}
+use Rattle.net_step.specs.declared.Join.{Join}
 use Rattle.net.specs.declared.Net.{Net}
 use Rattle.net.specs.Demand.{AllIn, Solution, Still, onward, resumed}
-use Rattle.net.specs.Net.{Named, joinAt, refusal, turn, wordAt}
+use Rattle.net_step.specs.Named.{Named, wordAt}
+use Rattle.net_tests.specs.Fits.{joinAt}
+use Rattle.net.specs.Net.{refusal, turn}
 use Rattle.net.specs.Run.{Stand, Stop, goes, next, number, ran, shown, start, turnedDown, walked}
-use Rattle.net.specs.Step.{after, results, stepped}
+use Rattle.net_step.specs.Step.{after, results, stepped}
 use Rattle.net.proofs.Accepted.{accepted}
 use Rattle.net.proofs.Cuts.{either-left, shrinks, stays}
 use Rattle.net.proofs.Going.{goes-empty, goes-next, goes-spent, goes-steady}
 use Rattle.net.proofs.Kept.{AllWords, inside-after, none-empty, words-after}
 use Rattle.net.proofs.Reached.{reach, told}
 use Rattle.net.proofs.Round.{Quiet, all-still, quiet-next, quiet-start}
-use Rattle.net.proofs.Unchanged.{not-named}
+use Rattle.net_step.proofs.Unchanged.{not-named}
 
 -- the ways to end, told apart
 abbrev way : Ended → ℕ

@@ -8,19 +8,19 @@ use Prim.Native.Nat.{ℕ, zero, suc, _+_, _≤_, _<_}
 use native.Mathlib.Decide.{decLt, ℕ-discrete}
 use native.Mathlib.Omega.{arith}
 use borrow.Author.Tests.{eq-eqb}
-use Rattle.span.specs.declared.Interval.{Interval}
+use Rattle.interval.specs.declared.Interval.{Interval}
 use Rattle.net.specs.declared.Answer.{Answer}
 use Rattle.net.specs.declared.Ended.{Ended}
 use Rattle.net.specs.declared.Ended.the-variants.{Empty, Refused, Spent, Steady}
-use Rattle.net.specs.declared.Join.{Join}
+use Rattle.net_step.specs.declared.Join.{Join}
 use Rattle.net.specs.declared.Net.{Net}
 use Rattle.net.specs.Net.{refusal, turn}
 use Rattle.net.specs.Plain.{QuietFor, Reason, Stops, emptyAt, order, wordsAfter}
 use Rattle.net.specs.Run.{Stand, given, next, number, ran, shown, start, stop, walked}
-use Rattle.net.specs.Step.{emptied, left, stepped, unchanged}
+use Rattle.net_step.specs.Step.{emptied, left, stepped, unchanged}
 use Rattle.net.proofs.Outcome.{number-is}
 use Rattle.net.proofs.Reached.{reach, told}
-use Rattle.net.proofs.Unchanged.{unchanged-equal, unchanged-self}
+use Rattle.net_step.proofs.Unchanged.{unchanged-equal, unchanged-self}
 
 module _ (net : Net) where
   -- q is the longest row of steps, up to n, that changed nothing

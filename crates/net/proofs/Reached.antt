@@ -7,7 +7,7 @@ use Prim.Native.Nat.{ℕ, zero, suc, _≤_, _<_}
 use native.Mathlib.Decide.{decLe}
 use native.Mathlib.Omega.{arith}
 use Rattle.net.specs.declared.Ended.the-variants.{Empty, Spent, Steady}
-use Rattle.net.specs.declared.Join.{Join}
+use Rattle.net_step.specs.declared.Join.{Join}
 use Rattle.net.specs.Run.{Stand, Stop, goes, next, stop}
 use Rattle.net.proofs.Going.{goes-empty, goes-next, goes-spent, goes-steady}
 

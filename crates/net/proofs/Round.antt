@@ -8,14 +8,15 @@ use Prim.Native.Nat.{ℕ, zero, suc, _+_, _%_, _≤_, _<_}
 use native.Mathlib.Decide.{decLe, ℕ-discrete}
 use native.Mathlib.Nat.{add-mod-right, mod-eq-of-lt}
 use native.Mathlib.Omega.{arith}
-use Rattle.span.specs.declared.Interval.{Interval}
-use Rattle.net.specs.declared.Join.{Join}
+use Rattle.interval.specs.declared.Interval.{Interval}
+use Rattle.net_step.specs.declared.Join.{Join}
 use Rattle.net.specs.Demand.{Still}
-use Rattle.net.specs.Net.{joinAt, turn}
+use Rattle.net_tests.specs.Fits.{joinAt}
+use Rattle.net.specs.Net.{turn}
 use Rattle.net.specs.Run.{Stand, next, stand, start}
-use Rattle.net.specs.Step.{after, emptied, left, stepped, unchanged}
+use Rattle.net_step.specs.Step.{after, emptied, left, stepped, unchanged}
 use Rattle.net.proofs.Reached.{told}
-use Rattle.net.proofs.Unchanged.{unchanged-equal}
+use Rattle.net_step.proofs.Unchanged.{unchanged-equal}
 
 -- of the m steps before step s, the one at which join k had its turn
 record Turn (m s k : ℕ) : Type 0 where

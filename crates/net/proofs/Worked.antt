@@ -3,14 +3,17 @@ use mathlib.Core.Path.{_≡_, refl}
 use mathlib.Core.List.{map}
 use Rattle.word.specs.Word.{top}
 use Rattle.word.specs.Search.{first, last}
-use Rattle.span.specs.Interval.{cut, hollow}
+use Rattle.interval.specs.Interval.{cut, hollow, within}
 use Rattle.span.specs.Join as join
-use Rattle.span.specs.Join.{allCut, allWithin, anyHollow, asGiven, inverted, isWidth, joined, newH, newX, newY, refused, within}
-use Rattle.span.specs.Span.{gives, isFound, largest, result, second, smallest, some, span, wordOf}
+use Rattle.span.specs.Join.{allCut, allWithin, anyHollow, asGiven, isWidth, joined, newH, newX, newY, refused}
+use Rattle.interval.specs.Op.{inverted, result, second}
+use Rattle.extent.specs.Span.{gives, isFound, largest, smallest, some, span, wordOf}
 use Rattle.net.specs.Cases.{Case, cases}
-use Rattle.net.specs.Net.{every, fits, named, placeOf, refusal, third, turn}
+use Rattle.net_tests.specs.Fits.{every, fits}
+use Rattle.net_step.specs.Named.{named, placeOf, third}
+use Rattle.net.specs.Net.{refusal, turn}
 use Rattle.net.specs.Run.{goes, next, ran, shown, start, steady, turnedDown, walked}
-use Rattle.net.specs.Step.{after, cutAll, cutAt, emptied, left, noWord, results, same, stepped, unchanged}
+use Rattle.net_step.specs.Step.{after, cutAll, cutAt, emptied, left, noWord, results, same, stepped, unchanged}
 
 pub worked : map (λ (c : Case). ran (c .net) (c .pay)) cases ≡ map (λ (c : Case). c .expected) cases
 unfolding

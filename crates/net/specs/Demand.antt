@@ -5,20 +5,21 @@ use mathlib.Core.List.{List}
 use mathlib.Core.Logic.{_⊎_}
 use Prim.Native.Nat.{ℕ, _<_}
 use lib.ListN.{length}
-use Rattle.span.specs.declared.Interval.{Interval}
+use Rattle.interval.specs.declared.Interval.{Interval}
 use Rattle.span.specs.declared.Joined.{Joined}
-use Rattle.span.specs.declared.Op.the-variants.{Not}
-use Rattle.span.specs.Interval.{In}
+use Rattle.interval.specs.declared.Op.the-variants.{Not}
+use Rattle.interval.specs.Interval.{In}
 use Rattle.span.specs.Join.{allCut}
-use Rattle.span.specs.Span.{result}
+use Rattle.interval.specs.Op.{result}
 use Rattle.net.specs.declared.Answer.{Answer}
 use Rattle.net.specs.declared.Ended.{Ended}
 use Rattle.net.specs.declared.Ended.the-variants.{Empty, Refused, Spent, Steady}
-use Rattle.net.specs.declared.Join.{Join}
+use Rattle.net_step.specs.declared.Join.{Join}
 use Rattle.net.specs.declared.Net.{Net}
-use Rattle.net.specs.Net.{joinAt, third, wordAt}
+use Rattle.net_tests.specs.Fits.{joinAt}
+use Rattle.net_step.specs.Named.{third, wordAt}
 use Rattle.net.specs.Run.{Stop, goes}
-use Rattle.net.specs.Step.{after, emptied}
+use Rattle.net_step.specs.Step.{after, emptied}
 
 -- an assignment, a word for each place, gives words of the first n intervals
 abbrev pub AllIn : ℕ → List Interval → (ℕ → ℕ) → Type 0

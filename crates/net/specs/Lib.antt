@@ -3,4 +3,3 @@ pub mod Demand
 pub mod Net
 pub mod Plain
 pub mod Run
-pub mod Step

@@ -3,13 +3,13 @@ use mathlib.Core.Path.{_≡_}
 use mathlib.Core.Bool.{Bool, true, false}
 use mathlib.Core.List.{List}
 use Prim.Native.Nat.{ℕ, zero, suc, _+_, _≤_, _<_}
-use Rattle.span.specs.declared.Interval.{Interval}
+use Rattle.interval.specs.declared.Interval.{Interval}
 use Rattle.net.specs.declared.Answer.{Answer}
 use Rattle.net.specs.declared.Ended.{Ended}
 use Rattle.net.specs.declared.Ended.the-variants.{Empty, Refused, Spent, Steady}
 use Rattle.net.specs.declared.Net.{Net}
 use Rattle.net.specs.Net.{turn}
-use Rattle.net.specs.Step.{emptied, left}
+use Rattle.net_step.specs.Step.{emptied, left}
 
 -- the words after n steps: "one step is one join, in order, round and round"
 unfoldable pub wordsAfter : Net → ℕ → List Interval

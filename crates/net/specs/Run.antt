@@ -3,14 +3,14 @@ use mathlib.Core.Bool.{Bool, false, cond}
 use mathlib.Core.List.{List}
 use Prim.Native.Nat.{ℕ, zero, suc}
 use lib.Dec.{eqb, leb}
-use Rattle.span.specs.declared.Interval.{Interval}
+use Rattle.interval.specs.declared.Interval.{Interval}
 use Rattle.net.specs.declared.Answer.{Answer}
 use Rattle.net.specs.declared.Ended.{Ended}
 use Rattle.net.specs.declared.Ended.the-variants.{Empty, Refused, Spent, Steady}
-use Rattle.net.specs.declared.Join.{Join}
+use Rattle.net_step.specs.declared.Join.{Join}
 use Rattle.net.specs.declared.Net.{Net}
 use Rattle.net.specs.Net.{refusal, turn}
-use Rattle.net.specs.Step.{stepped}
+use Rattle.net_step.specs.Step.{stepped}
 
 -- where a run stands: the words, the steps used, how many steps in a row, up to here, changed nothing, and whether the last one found
 -- an empty cut

@@ -3,22 +3,15 @@
 ghost use mathlib.Core.Path.{_≡_};
 ghost use mathlib.Core.Bool.{cond};
 ghost use Prim.Native.Nat.{suc, _<_};
-ghost use Rattle.net.specs.Net.{AllNamed, JOINS, third};
+ghost use Rattle.net.specs.Net.{AllNamed};
+ghost use Rattle.net_tests.specs.Fits.{JOINS};
 ghost use Rattle.net.specs.Run.{given, ran, walked};
 
 mod refusal;
-mod step;
 
+pub use net_step::Join;
+use net_step::step;
 use span::Interval;
-use span::Op;
-
-// A join: what joins, and the places of its words. A NOT's y isn't read.
-pub struct Join {
-    pub op: Op,
-    pub h: usize,
-    pub x: usize,
-    pub y: usize,
-}
 
 // A width, the words' intervals with how many are in use, and the joins with how many are in use.
 pub struct Net {
@@ -46,9 +39,9 @@ pub struct Answer {
 
 impl Net {
     // The most words and the most joins of a net.
-    pub const WORDS: usize = 16;
+    pub const WORDS: usize = net_step::WORDS;
 
-    pub const JOINS: usize = 32;
+    pub const JOINS: usize = net_tests::JOINS;
 
     // Cuts the intervals for as many steps as are paid for, one step a join, in order, round and round.
     pub fn run(self, pay: u64) -> Answer
@@ -86,7 +79,7 @@ impl Net {
                 return given(Ended::Spent, steps, words);
             }
             let turn = (steps % (joined as u64)) as usize;
-            let next = step::step(width, joins[turn], words);
+            let next = step(width, joins[turn], words);
             steps += 1;
             quiet = in_a_row(quiet, next.quiet);
             empty = next.empty;
@@ -112,19 +105,4 @@ fn in_a_row(before: usize, quiet: bool) -> usize
     ensures { λ r. ⌜ r ≡ cond quiet (suc before) 0 ⌝ }
 {
     if quiet { before + 1 } else { 0 }
-}
-
-impl Join {
-    // The place of y. A NOT has none, and its x stands there.
-    fn third(self) -> usize
-        ensures { λ r. ⌜ r ≡ third self ⌝ }
-    {
-        let op = self.op;
-        match op {
-            Op::Not => self.x,
-            Op::And => self.y,
-            Op::Or => self.y,
-            Op::Xor => self.y,
-        }
-    }
 }

@@ -5,14 +5,16 @@ use Prim.Native.Nat.{ℕ, _^_, _<_}
 use native.Mathlib.Omega.{arith}
 use Rattle.word.specs.Word.{top}
 use Rattle.word.proofs.Widths.{top-suc}
-use Rattle.span.specs.declared.Interval.{Interval}
-use Rattle.span.specs.declared.Op.{Op}
-use Rattle.span.specs.declared.Op.the-variants.{And, Not, Or, Xor}
+use Rattle.interval.specs.declared.Interval.{Interval}
+use Rattle.interval.specs.declared.Op.{Op}
+use Rattle.interval.specs.declared.Op.the-variants.{And, Not, Or, Xor}
 use Rattle.span.specs.Demand.{Exact}
-use Rattle.span.specs.Interval.{In, Words, interval}
-use Rattle.span.specs.Span.{result, second, span}
-use Rattle.span.proofs.Ops.{and-bitwise, not-turns, or-bitwise, xor-bitwise}
-use Rattle.span.proofs.Searched.{has-largest, has-smallest}
+use Rattle.interval.specs.Interval.{In, Words, interval}
+use Rattle.interval.specs.Op.{result, second}
+use Rattle.extent.specs.Span.{span}
+use Rattle.steps.proofs.Bitwise.{and-bitwise, or-bitwise, xor-bitwise}
+use Rattle.extent.proofs.Ops.{not-turns}
+use Rattle.extent.proofs.Searched.{has-largest, has-smallest}
 
 result-word : (w : ℕ) (op : Op) (a b : ℕ) → a < 2 ^ w → b < 2 ^ w → result w op a b < 2 ^ w
 unfolding result

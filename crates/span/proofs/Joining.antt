@@ -6,29 +6,15 @@ use native.Mathlib.Omega.{arith}
 use borrow.Author.Tests.{eq-eqb, ne-eqb}
 use Rattle.word.specs.Word.{IsWidth, top}
 use Rattle.word.proofs.Tests.{both-pass}
-use Rattle.span.specs.declared.Interval.{Interval}
+use Rattle.interval.specs.declared.Interval.{Interval}
 use Rattle.span.specs.declared.Joined.{Joined}
-use Rattle.span.specs.declared.Op.{Op}
-use Rattle.span.specs.declared.Op.the-variants.{And, Not, Or, Xor}
-use Rattle.span.specs.Interval.{Words, hollow}
-use Rattle.span.specs.Span.{second}
-use Rattle.span.specs.Join.{
-  allCut,
-  allWithin,
-  anyHollow,
-  asGiven,
-  emptied,
-  inverted,
-  isWidth,
-  joined,
-  newH,
-  newX,
-  newY,
-  refusal,
-  refused,
-  within,
-}
-use Rattle.span.proofs.Intervals.{is-words, width-passes}
+use Rattle.interval.specs.declared.Op.{Op}
+use Rattle.interval.specs.declared.Op.the-variants.{And, Not, Or, Xor}
+use Rattle.interval.specs.Interval.{Words, hollow, within}
+use Rattle.interval.specs.Op.{inverted, second}
+use Rattle.span.specs.Join.{allCut, allWithin, anyHollow, asGiven, emptied, isWidth, joined, newH, newX, newY, refusal, refused}
+use Rattle.interval.proofs.Intervals.{is-words}
+use Rattle.span.proofs.Widths.{width-passes}
 
 -- what is not refused
 pub record Accepted (w : ℕ) (h x y : Interval) : Type 0 where

@@ -1,12 +1,5 @@
-pub mod Ends
 pub mod Exact
-pub mod Halves
-pub mod Intervals
 pub mod Joining
-pub mod Ops
 pub mod Outcome
-pub mod Searched
-pub mod Settled
-pub mod Turn
-pub mod Way
+pub mod Widths
 pub mod Worked

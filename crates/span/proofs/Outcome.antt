@@ -9,18 +9,19 @@ use native.Mathlib.Omega.{arith}
 use borrow.Author.Tests.{eq-eqb, ne-eqb}
 use lib.Bits.{bitXor, xor-comm}
 use Rattle.word.specs.Word.{top}
-use Rattle.span.specs.declared.Interval.{Interval}
+use Rattle.interval.specs.declared.Interval.{Interval}
 use Rattle.span.specs.declared.Joined.{Joined}
-use Rattle.span.specs.declared.Op.{Op}
-use Rattle.span.specs.declared.Op.the-variants.{And, Not, Or, Xor}
+use Rattle.interval.specs.declared.Op.{Op}
+use Rattle.interval.specs.declared.Op.the-variants.{And, Not, Or, Xor}
 use Rattle.span.specs.Demand.{CutBy, Cuts, CutsX, CutsY, Exact, GivesX, GivesY, InSecond, Inside, Solves}
-use Rattle.span.specs.Interval.{In, Words, cut, hollow}
-use Rattle.span.specs.Join.{allCut, anyHollow, asGiven, emptied, inverted, joined, newH, newX, newY, refusal}
-use Rattle.span.specs.Span.{result, second, span}
+use Rattle.interval.specs.Interval.{In, Words, cut, hollow}
+use Rattle.span.specs.Join.{allCut, anyHollow, asGiven, emptied, joined, newH, newX, newY, refusal}
+use Rattle.interval.specs.Op.{inverted, result, second}
+use Rattle.extent.specs.Span.{span}
 use Rattle.span.proofs.Exact.{exact-unique, span-exact}
-use Rattle.span.proofs.Intervals.{in-cut, not-hollow}
+use Rattle.interval.proofs.Intervals.{in-cut, not-hollow}
 use Rattle.span.proofs.Joining.{Accepted, accepted}
-use Rattle.span.proofs.Ops.{xor-back, xor-back-left}
+use Rattle.extent.proofs.Ops.{xor-back, xor-back-left}
 
 same : (i : Interval) → Inside i i
 same i = record { low = omega arith; high = omega arith }

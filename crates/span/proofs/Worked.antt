@@ -4,26 +4,12 @@ use mathlib.Core.Path.{_≡_, refl}
 use mathlib.Core.List.{map}
 use Rattle.word.specs.Word.{top}
 use Rattle.word.specs.Search.{first, last}
-use Rattle.span.specs.declared.Op.the-variants.{And}
+use Rattle.interval.specs.declared.Op.the-variants.{And}
 use Rattle.span.specs.Cases.{Case, cases, ones, prefixAnd, trailing, zeros}
-use Rattle.span.specs.Interval.{cut, hollow, interval}
-use Rattle.span.specs.Join.{
-  allCut,
-  allWithin,
-  anyHollow,
-  asGiven,
-  emptied,
-  inverted,
-  isWidth,
-  joined,
-  newH,
-  newX,
-  newY,
-  refusal,
-  refused,
-  within,
-}
-use Rattle.span.specs.Span.{gives, isFound, largest, result, second, smallest, some, span, wordOf}
+use Rattle.interval.specs.Interval.{cut, hollow, interval, within}
+use Rattle.span.specs.Join.{allCut, allWithin, anyHollow, asGiven, emptied, isWidth, joined, newH, newX, newY, refusal, refused}
+use Rattle.interval.specs.Op.{inverted, result, second}
+use Rattle.extent.specs.Span.{gives, isFound, largest, smallest, some, span, wordOf}
 
 pub worked : map (λ (c : Case). joined (c .width) (c .op) (c .h) (c .x) (c .y)) cases ≡ map (λ (c : Case). c .expected) cases
 unfolding

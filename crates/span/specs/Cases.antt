@@ -5,12 +5,12 @@ use Prim.Native.Nat.{ℕ, suc, _+_, _-_, _*_, _/_, _^_}
 use lib.Bits.{bitAnd}
 use lib.Dec.{eqb}
 use Rattle.word.specs.Search.{first}
-use Rattle.span.specs.declared.Interval.{Interval}
+use Rattle.interval.specs.declared.Interval.{Interval}
 use Rattle.span.specs.declared.Joined.{Joined}
-use Rattle.span.specs.declared.Op.{Op}
-use Rattle.span.specs.declared.Op.the-variants.{And, Not, Or, Xor}
-use Rattle.span.specs.Interval.{interval}
-use Rattle.span.specs.Span.{wordOf}
+use Rattle.interval.specs.declared.Op.{Op}
+use Rattle.interval.specs.declared.Op.the-variants.{And, Not, Or, Xor}
+use Rattle.interval.specs.Interval.{interval}
+use Rattle.extent.specs.Span.{wordOf}
 
 -- 000: "it is checked whether the bounds have a common bit-prefix"; how many bits trail it, at width w
 unfoldable pub trailing : ℕ → Interval → ℕ

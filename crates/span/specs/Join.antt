@@ -3,20 +3,16 @@ use mathlib.Core.Bool.{Bool, true, false, _&&_, _||_, cond}
 use Prim.Native.Nat.{ℕ}
 use lib.Dec.{eqb, leb}
 use Rattle.word.specs.Word.{top}
-use Rattle.span.specs.declared.Interval.{Interval}
+use Rattle.interval.specs.declared.Interval.{Interval}
 use Rattle.span.specs.declared.Joined.{Joined}
-use Rattle.span.specs.declared.Op.{Op}
-use Rattle.span.specs.declared.Op.the-variants.{Not, And, Or, Xor}
-use Rattle.span.specs.Interval.{cut, hollow}
-use Rattle.span.specs.Span.{second, span}
+use Rattle.interval.specs.declared.Op.{Op}
+use Rattle.interval.specs.Interval.{cut, hollow, within}
+use Rattle.interval.specs.Op.{inverted, second}
+use Rattle.extent.specs.Span.{span}
 
 -- a width from 1 to 64
 unfoldable pub isWidth : ℕ → Bool
 isWidth w = leb 1 w && leb w 64
-
--- neither bound is above t
-unfoldable pub within : ℕ → Interval → Bool
-within t i = leb (i .low) t && leb (i .high) t
 
 unfoldable pub allWithin : ℕ → Interval → Interval → Interval → Bool
 allWithin t h x y = within t h && (within t x && within t y)
@@ -37,14 +33,6 @@ refusal w op h x y = refused w h x (second op y)
 -- "h's new one is its old one cut with the span"
 unfoldable pub newH : ℕ → Op → Interval → Interval → Interval → Interval
 newH w op h x y = cut h (span w op x y)
-
--- "For NOT and XOR, the arguments are cut in the same way by the inverse operation; for AND and OR they stay": how many are cut,
--- x first. A NOT has no y.
-unfoldable pub inverted : Op → ℕ
-inverted Not = 1
-inverted And = 0
-inverted Or = 0
-inverted Xor = 2
 
 -- the inverse of NOT is NOT, x from h, and that of XOR is XOR: x from h and y
 unfoldable pub newX : ℕ → Op → Interval → Interval → Interval → Interval

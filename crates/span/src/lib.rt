@@ -1,31 +1,14 @@
 // Joins of words: h is NOT x, or x AND y, OR y, XOR y, at one width, each word with an interval, and what each interval says
 // of the others.
 ghost use mathlib.Core.Path.{_≡_};
-ghost use Prim.Native.Nat.{min, max};
 ghost use Rattle.word.specs.Word.{IsWidth};
-ghost use Rattle.span.specs.Interval.{Words, cut, hollow};
-ghost use Rattle.span.specs.Span.{second};
-ghost use Rattle.span.specs.Join.{allWithin, anyHollow, asGiven, inverted, isWidth, joined, newX, newY, refused, within};
-
-mod spans;
-mod steps;
-
-use spans::span;
+ghost use Rattle.interval.specs.Interval.{Words};
+ghost use Rattle.interval.specs.Op.{second};
+ghost use Rattle.span.specs.Join.{allWithin, anyHollow, asGiven, isWidth, joined, newX, newY, refused};
+use extent::span;
+pub use interval::Interval;
+pub use interval::Op;
 use word::Width;
-
-// What joins the words.
-pub enum Op {
-    Not,
-    And,
-    Or,
-    Xor,
-}
-
-// The words from low to high.
-pub struct Interval {
-    pub low: u64,
-    pub high: u64,
-}
 
 // What a join answers: 0 or the number of a refusal, whether a cut is empty, and the three intervals.
 pub struct Joined {
@@ -69,32 +52,6 @@ fn as_given(number: u64, empty: bool, h: Interval, x: Interval, y: Interval) -> 
         h,
         x,
         y,
-    }
-}
-
-impl Op {
-    // The second argument: a NOT has none, and one word stands in its place.
-    fn second(self, y: Interval) -> Interval
-        ensures { λ r. ⌜ r ≡ second self y ⌝ }
-    {
-        match self {
-            Op::Not => Interval { low: 0, high: 0 },
-            Op::And => y,
-            Op::Or => y,
-            Op::Xor => y,
-        }
-    }
-
-    // How many arguments the inverse operation cuts, x first.
-    fn inverted(self) -> u64
-        ensures { λ r. ⌜ r ≡ inverted self ⌝ }
-    {
-        match self {
-            Op::Not => 1,
-            Op::And => 0,
-            Op::Or => 0,
-            Op::Xor => 2,
-        }
     }
 }
 
@@ -175,45 +132,4 @@ fn cut_y(width: Width, op: Op, h: Interval, x: Interval, y: Interval) -> Interva
         return y;
     }
     y.cut(span(width, op, h, x))
-}
-
-impl Interval {
-    // The words that lie in both.
-    pub fn cut(self, other: Interval) -> Interval
-        ensures { λ r. ⌜ r ≡ cut self other ⌝ }
-    {
-        Interval {
-            low: larger(self.low, other.low),
-            high: smaller(self.high, other.high),
-        }
-    }
-
-    // Whether its low end is above its high end.
-    pub fn hollow(self) -> bool
-        ensures { λ r. ⌜ r ≡ hollow self ⌝ }
-    {
-        self.high < self.low
-    }
-
-    // Whether neither end is above the top word.
-    pub fn within(self, top: u64) -> bool
-        ensures { λ r. ⌜ r ≡ within top self ⌝ }
-    {
-        if top < self.low {
-            return false;
-        }
-        self.high <= top
-    }
-}
-
-fn larger(a: u64, b: u64) -> u64
-    ensures { λ r. ⌜ r ≡ max a b ⌝ }
-{
-    if a < b { b } else { a }
-}
-
-fn smaller(a: u64, b: u64) -> u64
-    ensures { λ r. ⌜ r ≡ min a b ⌝ }
-{
-    if a < b { a } else { b }
 }

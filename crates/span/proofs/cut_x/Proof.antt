@@ -2,8 +2,9 @@
 use mathlib.Core.Path.{ap, _∙_}
 use native.Mathlib.Omega.{arith}
 use borrow.Author.Tests.{le-leb, lt-leb}
-use Rattle.span.specs.Interval.{cut}
-use Rattle.span.specs.Join.{inverted, newX}
+use Rattle.interval.specs.Interval.{cut}
+use Rattle.interval.specs.Op.{inverted}
+use Rattle.span.specs.Join.{newX}
 use borrow.Author.Needs.{needs}
 use Rattle.span.proofs.cut_x.Statement.{statement}
 use Rattle.span.proofs.cut_x.Tie as tie

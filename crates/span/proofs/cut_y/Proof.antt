@@ -2,8 +2,9 @@
 use mathlib.Core.Path.{ap, _∙_}
 use native.Mathlib.Omega.{arith}
 use borrow.Author.Tests.{le-leb, lt-leb}
-use Rattle.span.specs.Interval.{cut}
-use Rattle.span.specs.Join.{inverted, newY}
+use Rattle.interval.specs.Interval.{cut}
+use Rattle.interval.specs.Op.{inverted}
+use Rattle.span.specs.Join.{newY}
 use Rattle.span.proofs.Joining.{has-y}
 use borrow.Author.Needs.{needs}
 use Rattle.span.proofs.cut_y.Statement.{statement}

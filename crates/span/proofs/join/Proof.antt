@@ -1,6 +1,6 @@
 -- `join` meets its contract: each way out is a case of the definition. Assumes nothing.
 use mathlib.Core.Path.{ap, _∙_}
-use Rattle.span.specs.Interval.{cut}
+use Rattle.interval.specs.Interval.{cut}
 use Rattle.span.specs.Join.{newH}
 use Rattle.span.proofs.Joining.{may-cut, out-cut, out-empty, out-refused}
 use borrow.Author.Needs.{needs}

@@ -2,7 +2,7 @@
 use mathlib.Core.Path.{sym, _∙_}
 use borrow.Author.Tests.{not-false, not-true}
 use Rattle.span.specs.Join.{refused}
-use Rattle.span.proofs.Intervals.{width-passes}
+use Rattle.span.proofs.Widths.{width-passes}
 use borrow.Author.Needs.{needs}
 use Rattle.span.proofs.refused.Statement.{statement}
 use Rattle.span.proofs.refused.Tie as tie

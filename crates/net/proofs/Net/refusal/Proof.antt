@@ -5,9 +5,12 @@ use Prim.Native.Nat.{ℕ}
 use borrow.Author.Needs.{needs}
 use borrow.Author.Tests.{not-false, not-true}
 use Rattle.word.specs.Word.{top}
-use Rattle.span.specs.Join.{isWidth, within}
-use Rattle.span.proofs.Intervals.{width-passes}
-use Rattle.net.specs.Net.{every, fits, refusal, wordAt}
+use Rattle.span.specs.Join.{isWidth}
+use Rattle.interval.specs.Interval.{within}
+use Rattle.span.proofs.Widths.{width-passes}
+use Rattle.net_tests.specs.Fits.{every, fits}
+use Rattle.net.specs.Net.{refusal}
+use Rattle.net_step.specs.Named.{wordAt}
 use Rattle.net.proofs.Accepted.{count-fits}
 use Rattle.net.proofs.Net.refusal.Statement.{statement}
 use Rattle.net.proofs.Net.refusal.Tie as tie

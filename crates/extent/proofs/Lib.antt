@@ -1,0 +1,5 @@
+pub mod Ops
+pub mod Searched
+pub mod Spans
+pub mod Turn
+pub mod Way

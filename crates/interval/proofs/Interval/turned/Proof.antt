@@ -1,0 +1,19 @@
+-- `Interval::turned` meets its contract. Assumes nothing.
+use mathlib.Core.Path.{refl}
+use Rattle.interval.specs.Interval.{turned}
+use borrow.Author.Needs.{needs}
+use Rattle.interval.proofs.Interval.turned.Statement.{statement}
+use Rattle.interval.proofs.Interval.turned.Tie as tie
+
+sub-t3 : tie.Need-sub-t3
+sub-t3 c = search needs
+
+sub-t4 : tie.Need-sub-t4
+sub-t4 c = search needs
+
+returns : tie.Need-returns
+unfolding turned
+returns c = refl
+
+pub turned-spec : {M : Type 1} → statement M
+turned-spec = tie.close (tie.spec sub-t3 sub-t4 returns)

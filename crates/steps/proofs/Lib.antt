@@ -1,0 +1,3 @@
+pub mod Bitwise
+pub mod Halves
+pub mod Settled
