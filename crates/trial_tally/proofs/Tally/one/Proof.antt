@@ -1,8 +1,8 @@
 -- `Tally::one` meets its contract, number by number. Assumes nothing.
 use borrow.Author.Needs.{needs}
-use Rattle.trial_direct.specs.Tally.{one}
-use Rattle.trial_direct.proofs.tally.Tally.one.Statement.{statement}
-use Rattle.trial_direct.proofs.tally.Tally.one.Tie as tie
+use Rattle.trial_tally.specs.Tally.{one}
+use Rattle.trial_tally.proofs.Tally.one.Statement.{statement}
+use Rattle.trial_tally.proofs.Tally.one.Tie as tie
 
 returns : tie.Need-returns
 unfolding one

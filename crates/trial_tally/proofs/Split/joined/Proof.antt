@@ -1,8 +1,8 @@
 -- `Split::joined` meets its contract, number by number. Assumes nothing.
 use borrow.Author.Needs.{needs}
-use Rattle.trial_direct.specs.Tally.{joined}
-use Rattle.trial_direct.proofs.tally.Split.joined.Statement.{statement}
-use Rattle.trial_direct.proofs.tally.Split.joined.Tie as tie
+use Rattle.trial_tally.specs.Tally.{joined}
+use Rattle.trial_tally.proofs.Split.joined.Statement.{statement}
+use Rattle.trial_tally.proofs.Split.joined.Tie as tie
 
 returns : tie.Need-returns
 unfolding joined

@@ -1,8 +1,8 @@
 -- `Tally::none` meets its contract, number by number. Assumes nothing.
 use mathlib.Core.Path.{refl}
-use Rattle.trial_direct.specs.Tally.{none}
-use Rattle.trial_direct.proofs.tally.Tally.none.Statement.{statement}
-use Rattle.trial_direct.proofs.tally.Tally.none.Tie as tie
+use Rattle.trial_tally.specs.Tally.{none}
+use Rattle.trial_tally.proofs.Tally.none.Statement.{statement}
+use Rattle.trial_tally.proofs.Tally.none.Tie as tie
 
 returns : tie.Need-returns
 unfolding none

@@ -1,8 +1,8 @@
 -- `Split::none` meets its contract, number by number. Assumes nothing.
 use mathlib.Core.Path.{refl}
-use Rattle.trial_direct.specs.Tally.{noKind}
-use Rattle.trial_direct.proofs.tally.Split.none.Statement.{statement}
-use Rattle.trial_direct.proofs.tally.Split.none.Tie as tie
+use Rattle.trial_tally.specs.Tally.{noKind}
+use Rattle.trial_tally.proofs.Split.none.Statement.{statement}
+use Rattle.trial_tally.proofs.Split.none.Tie as tie
 
 returns : tie.Need-returns
 unfolding noKind

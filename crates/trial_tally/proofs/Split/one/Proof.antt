@@ -1,8 +1,8 @@
 -- `Split::one` meets its contract, number by number. Assumes nothing.
 use borrow.Author.Needs.{needs}
-use Rattle.trial_direct.specs.Tally.{oneOf}
-use Rattle.trial_direct.proofs.tally.Split.one.Statement.{statement}
-use Rattle.trial_direct.proofs.tally.Split.one.Tie as tie
+use Rattle.trial_tally.specs.Tally.{oneOf}
+use Rattle.trial_tally.proofs.Split.one.Statement.{statement}
+use Rattle.trial_tally.proofs.Split.one.Tie as tie
 
 returns : tie.Need-returns
 unfolding oneOf

@@ -1,8 +1,8 @@
 -- `Split::plus` meets its contract, number by number. Assumes nothing.
 use borrow.Author.Needs.{needs}
-use Rattle.trial_direct.specs.Tally.{plusSplit}
-use Rattle.trial_direct.proofs.tally.Split.plus.Statement.{statement}
-use Rattle.trial_direct.proofs.tally.Split.plus.Tie as tie
+use Rattle.trial_tally.specs.Tally.{plusSplit}
+use Rattle.trial_tally.proofs.Split.plus.Statement.{statement}
+use Rattle.trial_tally.proofs.Split.plus.Tie as tie
 
 returns : tie.Need-returns
 unfolding plusSplit

@@ -1,8 +1,8 @@
 -- `Tally::plus` meets its contract, number by number. Assumes nothing.
 use borrow.Author.Needs.{needs}
-use Rattle.trial_direct.specs.Tally.{plus}
-use Rattle.trial_direct.proofs.tally.Tally.plus.Statement.{statement}
-use Rattle.trial_direct.proofs.tally.Tally.plus.Tie as tie
+use Rattle.trial_tally.specs.Tally.{plus}
+use Rattle.trial_tally.proofs.Tally.plus.Statement.{statement}
+use Rattle.trial_tally.proofs.Tally.plus.Tie as tie
 
 returns : tie.Need-returns
 unfolding plus

@@ -2,8 +2,8 @@
 use mathlib.Core.Bool.{Bool, cond, not}
 use Prim.Native.Nat.{ℕ, _+_, _%_, _^_}
 use lib.Dec.{eqb}
-use Rattle.trial_direct.specs.declared.tally.Split.{Split}
-use Rattle.trial_direct.specs.declared.tally.Tally.{Tally}
+use Rattle.trial_tally.specs.declared.Split.{Split}
+use Rattle.trial_tally.specs.declared.Tally.{Tally}
 
 abbrev sum : (a b : ℕ) → ℕ
 sum a b = (a + b) % 2 ^ 64
