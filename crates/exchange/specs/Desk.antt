@@ -1,4 +1,4 @@
--- What is carried from one part of the input to the next, as one record, and what feeding a part comes to.
+-- A route: what is carried from one part of the input to the next, as one record, and what feeding a part comes to.
 use Prim.Native.Nat.{ℕ}
 use Rattle.sheet.specs.declared.Sheet.{Sheet}
 use Rattle.exchange.specs.declared.Begun.{Begun}

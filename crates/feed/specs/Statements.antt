@@ -1,4 +1,4 @@
--- What feeding a part promises on a slate: what is promised of the record, and that the slate holds it.
+-- A route: what feeding a part promises on a slate, which is what is promised of the record, and that the slate holds it.
 use mathlib.Core.List.{List}
 use Prim.Native.Nat.{ℕ}
 use Rattle.slate.specs.Held.{Held}

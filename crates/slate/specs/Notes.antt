@@ -1,5 +1,5 @@
--- What is noted in a row: whether what is kept of the rules up to this one is known and, if so, what is kept and the bits that they fix. A
--- route: what a note says is what a search would find.
+-- A route: what is noted in a row, which is what a search would find. Whether what is kept of the rules up to this one is known and, if so,
+-- what is kept and the bits that they fix.
 use mathlib.Core.Path.{_≡_}
 use mathlib.Core.Bool.{true, cond}
 use mathlib.Core.List.{List, [], _∷_}
