@@ -4,11 +4,11 @@ use mathlib.Core.List.{List, [], _∷_}
 use Prim.Native.Nat.{ℕ}
 use lib.Dec.{eqb}
 use lib.ListN.{getD}
-use Rattle.span.specs.declared.Interval.{Interval}
+use Rattle.interval.specs.declared.Interval.{Interval}
 use Rattle.span.specs.declared.Joined.{Joined}
-use Rattle.span.specs.declared.Op.{Op}
-use Rattle.span.specs.declared.Op.the-variants.{And, Not, Or, Xor}
-use Rattle.span.specs.Interval.{interval}
+use Rattle.interval.specs.declared.Op.{Op}
+use Rattle.interval.specs.declared.Op.the-variants.{And, Not, Or, Xor}
+use Rattle.interval.specs.Interval.{interval}
 use Rattle.span.specs.Join.{joined}
 
 -- 0 is NOT, 1 AND, 2 OR, any other number XOR
