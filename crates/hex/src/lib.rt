@@ -44,7 +44,8 @@ pub fn number(s: &[u8], from: usize, to: usize) -> u64
     n
 }
 
-fn glyph(d: u64) -> u8
+// The code of the digit for a number below 16.
+pub fn glyph(d: u64) -> u8
     requires { ⌜ d < 16 ⌝ }
     ensures { λ r. ⌜ r ≡ glyph d ⌝ }
 {
