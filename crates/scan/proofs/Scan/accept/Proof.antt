@@ -1,0 +1,48 @@
+-- `Scan::accept` meets its contract: the test picks the case. Assumes nothing.
+use native.Mathlib.Omega.{arith}
+use mathlib.Core.Path.{ap, _∙_}
+use borrow.Author.Tests.{le-leb, lt-leb}
+use Rattle.scan.specs.Scan.{accepted, failed}
+use borrow.Author.Needs.{needs}
+use Rattle.scan.proofs.Scan.accept.Statement.{statement}
+use Rattle.scan.proofs.Scan.accept.Tie as tie
+use Rattle.grammar.proofs.Place.follow.Reads as Place-follow-reads
+use Rattle.scan.proofs.Scan.follow.Reads as Scan-follow-reads
+
+follow-requires : tie.Need-follow-requires
+follow-requires c κs = search needs
+
+expected-requires : tie.Need-expected-requires
+expected-requires c κs = search needs
+
+failed-requires : tie.Need-failed-requires
+failed-requires c κs = search needs
+
+returns : tie.Need-returns
+unfolding accepted
+returns c =
+    let a = c .before .before .before .before .before .before .before .args in
+    let q = c .before .before .before .before .follow .result in
+    rw (← c .before .before .before .before .follow .ensures, le-leb (q .limit) (q .row) (omega arith))
+    (c .failed .ensures ∙ ap (failed (a .self) (a .self .token .from)) (c .before .expected .ensures))
+
+follow-requires-2 : tie.Need-follow-requires-2
+follow-requires-2 c κs = search needs
+
+returns-2 : tie.Need-returns-2
+unfolding accepted
+returns-2 c =
+    let a = c .before .before .before .before .before .before .args in
+    let q = c .before .before .before .follow .result in
+    rw (← c .before .before .before .follow .ensures, lt-leb (q .limit) (q .row) (omega arith)) (c .follow2 .ensures)
+
+pub accept-spec : {M : Type 1} → statement M
+accept-spec =
+    tie.close
+    (tie.spec
+    follow-requires
+    expected-requires
+    failed-requires
+    returns
+    follow-requires-2
+    returns-2)
