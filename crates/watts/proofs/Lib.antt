@@ -1,0 +1,6 @@
+pub mod About
+pub mod Divided
+pub mod Only
+pub mod Rounding
+pub mod Turns
+pub mod Worth
