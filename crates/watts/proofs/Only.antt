@@ -18,7 +18,7 @@ use Rattle.watts.proofs.Worth.{times-rises}
 
 -- ---- patterns with a sign
 
-bare : (x : ℕ) → worth x ≡ worth (x % 2 ^ 31)
+pub bare : (x : ℕ) → worth x ≡ worth (x % 2 ^ 31)
 unfolding worth exponent fraction
 bare x =
     let a : x % 2 ^ 31 % 2 ^ 31 ≡ x % 2 ^ 31 = omega arith in
@@ -29,7 +29,7 @@ bare-finite : (x : ℕ) → Finite x → x % 2 ^ 31 < INFINITY
 unfolding exponent
 bare-finite x f = omega (arith, f .number)
 
-signs : (minus : Bool) (p : ℕ) → p < 2 ^ 31 → (sign (withSign minus p) ≡ minus) × (withSign minus p % 2 ^ 31 ≡ p)
+pub signs : (minus : Bool) (p : ℕ) → p < 2 ^ 31 → (sign (withSign minus p) ≡ minus) × (withSign minus p % 2 ^ 31 ≡ p)
 unfolding withSign sign
 signs false p h = (lt-leb (2 ^ 31) p h, omega arith)
 signs true p h = (le-leb (2 ^ 31) (2 ^ 31 + p) (omega arith), omega arith)
@@ -42,7 +42,7 @@ with-sign x h = go (leb (2 ^ 31) x) refl
     go true e = omega (arith, leb-true (2 ^ 31) x e)
     go false e = omega (arith, leb-false (2 ^ 31) x e)
 
-with-finite : (minus : Bool) (p : ℕ) → p < INFINITY → Finite (withSign minus p)
+pub with-finite : (minus : Bool) (p : ℕ) → p < INFINITY → Finite (withSign minus p)
 unfolding withSign exponent top
 with-finite false p h = record { word = omega arith; number = omega arith }
 with-finite true p h = record { word = omega arith; number = omega arith }

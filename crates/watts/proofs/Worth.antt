@@ -38,6 +38,14 @@ worth-at e m h low high = plain (e * 2 ^ 23 + m) (omega arith) ∙ go (decLt m (
         let k : m ≡ 2 ^ 24 = omega arith in
         ap₂ magnitude q r ∙ rw k (omega (arith, two-pow-succ e))
 
+-- and below 2^23 as itself
+pub worth-low : (m : ℕ) → m < 2 ^ 23 → worth m ≡ m
+unfolding magnitude
+worth-low m h =
+    let q : m / 2 ^ 23 ≡ 0 = omega arith in
+    let r : m % 2 ^ 23 ≡ m = omega arith in
+    plain m (omega arith) ∙ ap₂ magnitude q r
+
 module _ (digits places : ℕ) where
   abbrev N : ℕ
   N = scaled digits

@@ -1,4 +1,4 @@
--- "the nearest single-precision number, ties to even, stated over whole numbers": of all patterns, and without a search.
+-- "read to the nearest single-precision number, ties to even, stated over whole numbers": of all patterns, and without a search.
 use mathlib.Core.Path.{_≡_}
 use mathlib.Core.Bool.{Bool, true, false}
 use Prim.Native.Nat.{ℕ, _+_, _-_, _*_, _%_, _^_, _≤_, _<_}
