@@ -13,7 +13,8 @@ use word::Found;
 use word::Width;
 
 // The first word from a start on that the bands of the first n rows hold and that has the bits, here or on the wheel turned round. It
-// goes from one failing run to the next, never word by word, and leaves both loops as soon as a word fits.
+// goes from one failing run to the next, never word by word, and leaves both loops as soon as a word fits. Where a band failed the bands from
+// the one before it on are looked at first: of rules in a row, up or down the wheel, one of these fails next. The newest band is the first of all.
 pub fn sweep(
     rows: &[[u64; rows::NUMBERS]; Rule::LIMIT],
     n: usize,
@@ -30,30 +31,35 @@ pub fn sweep(
     let top = width.top();
     let mut found = Found::Nothing;
     let mut p = start;
+    let mut i = n;
     'words: loop {
-        let mut i = 0;
+        let Found::At(x) = fixed.next(width, p) else {
+            break;
+        };
+        p = x;
+        if 0 < i {
+            i -= 1;
+        }
+        let mut all = false;
         loop {
-            if i == n {
-                let Found::At(x) = fixed.next(width, p) else {
-                    break 'words;
-                };
-                if x == p {
-                    found = Found::At(p);
-                    break 'words;
+            if i < n {
+                let band = rows::band_at(rows, i, turned, top);
+                if !band.holds(p) {
+                    let reach = band.run(top, p).to;
+                    if reach == top {
+                        break 'words;
+                    }
+                    p = reach + 1;
+                    break;
                 }
-                p = x;
-                break;
+                i += 1;
+            } else if all {
+                found = Found::At(p);
+                break 'words;
+            } else {
+                all = true;
+                i = 0;
             }
-            let band = rows::band_at(rows, i, turned, top);
-            if !band.holds(p) {
-                let reach = band.run(top, p).to;
-                if reach == top {
-                    break 'words;
-                }
-                p = reach + 1;
-                break;
-            }
-            i += 1;
         }
     }
     found
