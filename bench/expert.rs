@@ -1,7 +1,7 @@
 // A Rust desk written for speed, for comparison: the same frames and answers, without proofs. Its sheet is private, so 17 is never
 // tested; what is kept of the rules up to each one is remembered, so a step back or forward looks it up; and an add looks at the new
 // rule alone where the old ends meet it. The three limits are those of the desk that it is compared with: they are handed to the
-// compiler (`compare`).
+// compiler (`rivals`).
 use std::fs::File;
 use std::io::{Read, Result, Write, stdin, stdout};
 use std::os::fd::AsFd;

@@ -1,7 +1,7 @@
 // A plain Rust desk, for comparison: the same frames and answers, written as one would without proofs, with every refusal
 // tested on every line, 17 among them. `plain` answers standard input; `plain talk COMMAND FILE` holds a conversation with
 // a command, one line of the file at a time, and says how many microseconds it took. The three limits are those of the desk
-// that it is compared with: they are handed to the compiler (`compare`).
+// that it is compared with: they are handed to the compiler (`rivals`).
 use std::io::{BufRead, BufReader, Read, Write};
 use std::process::{Command, Stdio};
 use std::time::Instant;
