@@ -11,13 +11,16 @@ ghost use Rattle.rows.specs.Rows.{bandsIn};
 ghost use Rattle.verdict.specs.Kept.{kept};
 ghost use Rattle.chain.specs.Links.{chainRoom, links, numbersOf};
 
-mod reach;
 mod step;
 
 use bits::Fixed;
 use chain::Link;
+use reach::Way;
 use rule::Rule;
 use word::Width;
+
+// A chain of no more links than these is found without sorting the bands.
+const SHORT: usize = 12;
 
 // Writes the chain of the first n bands and the bits, which no word passes, three numbers a link, and says how many links it has.
 pub fn write(
@@ -34,16 +37,26 @@ pub fn write(
     ensures { λ r. ⌜ ((rs : List RuleOf) → OfLawful (width .bits) (take n (bandsIn (now (rows .entry)))) fixed rs → kept (width .bits) rs .verdict ≡ 0 → (r ≡ length (links (width .bits) rs)) × (now (out .exit) ≡ numbersOf (links (width .bits) rs) ++ drop (3 * r) (now (out .entry)))) ⌝ }
 {
     let top = width.top();
+    let mut order: [usize; Rule::LIMIT] = [0; Rule::LIMIT];
+    let mut sorted = false;
+    let mut next = 0;
     let mut count = 0;
     let mut p = 0;
     loop {
-        let link = step::link_at(rows, n, fixed, width, p);
+        if count == SHORT {
+            sorted = order::lay(rows, n, top, &mut order);
+            next = 0;
+        }
+        let due = reach::find(rows, &order, n, width, p, Way { sorted, next });
+        let far = due.far;
+        let link = step::link_at(rows, fixed, width, p, far);
         chain::put(&mut *out, Link::NUMBERS * count, link);
         count += 1;
         if link.to == top {
             break;
         }
         p = link.to + 1;
+        next = due.next;
     }
     count
 }

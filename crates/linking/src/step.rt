@@ -1,13 +1,11 @@
 // One link: where it starts and ends, and why.
 ghost use mathlib.Core.Path.{_≡_};
 ghost use Prim.Native.Nat.{_≤_};
-ghost use lib.ListN.{take};
 ghost use Rattle.word.specs.Word.{IsWidth, top};
 ghost use Rattle.bits.specs.Fixed.{Tidy};
-ghost use Rattle.rows.specs.Bands.{Lie};
 ghost use Rattle.rows.specs.Rows.{bandsIn};
-ghost use Rattle.chain.specs.OnBands.{gapOn, linkOn};
-use crate::reach;
+ghost use Rattle.chain.specs.OnBands.{gapOn};
+ghost use Rattle.linking.specs.Step.{Reached, linkTo};
 use bits::Fixed;
 use chain::Far;
 use chain::Link;
@@ -15,20 +13,20 @@ use rule::Rule;
 use word::Found;
 use word::Width;
 
-// The link at p. Where it names a rule it starts where that rule's run of failing words starts.
+// The link at p by the furthest reach that was found. Where it names a rule it starts where that rule's run of failing words starts.
 pub fn link_at(
     rows: &[[u64; rows::NUMBERS]; Rule::LIMIT],
-    n: usize,
     fixed: Fixed,
     width: Width,
     p: u64,
+    far: Far,
 ) -> Link
     requires { ⌜ IsWidth (width .bits) ⌝ }
-    requires { ⌜ Lie (top (width .bits)) n (bandsIn (now rows)) ⌝ }
     requires { ⌜ Tidy fixed × (p ≤ top (width .bits)) ⌝ }
-    ensures { λ r. ⌜ r ≡ linkOn (take n (bandsIn (now (rows .entry)))) fixed (top (width .bits)) p ⌝ }
+    requires { ⌜ Reached (top (width .bits)) p (bandsIn (now rows)) far ⌝ }
+    ensures { λ r. ⌜ r ≡ linkTo (bandsIn (now (rows .entry))) fixed (top (width .bits)) p far ⌝ }
 {
-    let Far::To { reach, rule } = reach::furthest(rows, n, width, p) else {
+    let Far::To { reach, rule } = far else {
         return Link {
             from: p,
             to: gap(fixed, width, p),

@@ -19,8 +19,8 @@ use Rattle.chain.specs.OnBands.{furtherBand, furthestBand, furthestBandOf}
 use Rattle.chain.proofs.OnBands.{far-kept, far-new, furthest-suc}
 use Rattle.rows.specs.Rows.{bandsIn}
 use Rattle.rule.specs.Meaning.{RULES}
-use Rattle.linking.proofs.reach.furthest.Statement.{statement}
-use Rattle.linking.proofs.reach.furthest.Tie as tie
+use Rattle.reach.proofs.furthest.Statement.{statement}
+use Rattle.reach.proofs.furthest.Tie as tie
 
 abbrev Inv-loop : tie.InvT-loop
 Inv-loop rows n p t far₀ i₀ far i = (i ≤ n) × (far ≡ furthestBand (take i (bandsIn rows)) t p)

@@ -1,0 +1,3 @@
+pub mod Best
+pub mod Starts
+pub mod Walk

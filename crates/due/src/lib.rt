@@ -1,0 +1,72 @@
+// The band of furthest reach found by the order of the bands: after a link only bands whose later run has started since then can fail, so
+// that each is looked at once in a whole chain.
+ghost use mathlib.Core.Path.{_≡_};
+ghost use Prim.Native.Nat.{_≤_};
+ghost use lib.ListN.{take};
+ghost use Rattle.rows.specs.Bands.{Lie};
+ghost use Rattle.rows.specs.Rows.{bandsIn};
+ghost use Rattle.chain.specs.OnBands.{furthestBand};
+ghost use Rattle.order.specs.Order.{InOrder};
+ghost use Rattle.due.specs.Due.{Passed, Ready, better};
+use chain::Far;
+use rule::Rule;
+
+// The furthest reach, and the place in the order up to which bands were looked at.
+pub struct Due {
+    pub far: Far,
+    pub next: usize,
+}
+
+// The furthest reach from p of the first n bands, where those before a place in the order hold p and no run around p starts at 0.
+pub fn furthest(
+    rows: &[[u64; rows::NUMBERS]; Rule::LIMIT],
+    order: &[usize; Rule::LIMIT],
+    n: usize,
+    top: u64,
+    p: u64,
+    from: usize,
+) -> Due
+    requires { ⌜ Lie top n (bandsIn (now rows)) ⌝ }
+    requires { ⌜ p ≤ top ⌝ }
+    requires { ⌜ InOrder top n (bandsIn (now rows)) (now order) ⌝ }
+    requires { ⌜ Ready top n (bandsIn (now rows)) (now order) from p ⌝ }
+    ensures { λ r. ⌜ (r .far ≡ furthestBand (take n (bandsIn (now (rows .entry)))) top p) × Passed top n (bandsIn (now (rows .entry))) (now (order .entry)) (r .next) p ⌝ }
+{
+    let mut far = Far::Nowhere;
+    let mut k = from;
+    while k < n {
+        let i = order[k];
+        let band = rows::band_at(rows, i, false, top);
+        if p <= order::eve(band, top) {
+            return Due { far, next: k };
+        }
+        if !band.holds(p) {
+            far = better(far, band.run(top, p).to, i as u64);
+        }
+        k += 1;
+    }
+    Due { far, next: k }
+}
+
+// The further of two reaches, the one with the lower number on a tie: by the order numbers do not rise.
+fn better(far: Far, reach: u64, rule: u64) -> Far
+    ensures { λ r. ⌜ r ≡ better far reach rule ⌝ }
+{
+    let Far::To {
+        reach: best,
+        rule: number,
+    } = far
+    else {
+        return Far::To { reach, rule };
+    };
+    if best < reach {
+        return Far::To { reach, rule };
+    }
+    if reach < best {
+        return far;
+    }
+    if rule < number {
+        return Far::To { reach, rule };
+    }
+    far
+}

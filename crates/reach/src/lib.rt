@@ -1,0 +1,63 @@
+// The furthest reach from a word: by the order of the bands where there is one, and else by a search over all of them.
+ghost use mathlib.Core.Path.{_≡_};
+ghost use mathlib.Core.Bool.{true};
+ghost use Prim.Native.Nat.{_≤_};
+ghost use lib.ListN.{take};
+ghost use Rattle.word.specs.Word.{IsWidth, top};
+ghost use Rattle.rows.specs.Bands.{Lie};
+ghost use Rattle.rows.specs.Rows.{bandsIn};
+ghost use Rattle.chain.specs.OnBands.{furthestBand};
+ghost use Rattle.order.specs.Order.{InOrder};
+ghost use Rattle.due.specs.Due.{Passed, Ready};
+use chain::Far;
+use due::Due;
+use rule::Rule;
+use word::Width;
+
+// Whether the bands are in order, and if so, the place in the order that the walk has come to.
+pub struct Way {
+    pub sorted: bool,
+    pub next: usize,
+}
+
+// The furthest reach from p of the first n bands: by the order where there is one, and else by a search over all of them.
+pub fn find(
+    rows: &[[u64; rows::NUMBERS]; Rule::LIMIT],
+    order: &[usize; Rule::LIMIT],
+    n: usize,
+    width: Width,
+    p: u64,
+    way: Way,
+) -> Due
+    requires { ⌜ IsWidth (width .bits) ⌝ }
+    requires { ⌜ Lie (top (width .bits)) n (bandsIn (now rows)) ⌝ }
+    requires { ⌜ p ≤ top (width .bits) ⌝ }
+    requires { ⌜ (way .sorted ≡ true → InOrder (top (width .bits)) n (bandsIn (now rows)) (now order) × Ready (top (width .bits)) n (bandsIn (now rows)) (now order) (way .next) p) ⌝ }
+    ensures { λ r. ⌜ (r .far ≡ furthestBand (take n (bandsIn (now (rows .entry)))) (top (width .bits)) p) × (way .sorted ≡ true → Passed (top (width .bits)) n (bandsIn (now (rows .entry))) (now (order .entry)) (r .next) p) ⌝ }
+{
+    if way.sorted {
+        return due::furthest(rows, order, n, width.top(), p, way.next);
+    }
+    Due {
+        far: furthest(rows, n, width, p),
+        next: 0,
+    }
+}
+
+// The furthest reach from p of the first n bands, and that band's number, the lowest on a tie.
+pub fn furthest(rows: &[[u64; rows::NUMBERS]; Rule::LIMIT], n: usize, width: Width, p: u64) -> Far
+    requires { ⌜ IsWidth (width .bits) ⌝ }
+    requires { ⌜ Lie (top (width .bits)) n (bandsIn (now rows)) ⌝ }
+    requires { ⌜ p ≤ top (width .bits) ⌝ }
+    ensures { λ r. ⌜ r ≡ furthestBand (take n (bandsIn (now (rows .entry)))) (top (width .bits)) p ⌝ }
+{
+    let top = width.top();
+    let mut far = Far::Nowhere;
+    for i in 0..n {
+        let band = rows::band_at(rows, i, false, top);
+        if !band.holds(p) {
+            far = far.further(band.run(top, p).to, i as u64);
+        }
+    }
+    far
+}
