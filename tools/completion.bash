@@ -22,10 +22,7 @@ _branchmetal_many() {
 }
 
 _branchmetal_vet() {
-    case $COMP_CWORD,${COMP_WORDS[1]} in
-    1,*) _branchmetal_offer '--help --version --json check smt frames' ;;
-    *) _branchmetal_offer '' ;;
-    esac
+    _branchmetal_desk
 }
 
 complete -o filenames -F _branchmetal_desk desk
