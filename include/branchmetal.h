@@ -106,6 +106,77 @@ typedef struct {
  * bound above the top word; 15, a low end above the high one. */
 uint64_t branchmetal_join(uint64_t width, uint64_t op, branchmetal_interval words[3], uint64_t *empty);
 
+/* A join of a net: what joins, and the places of h, x and y among its words. */
+typedef struct {
+    uint64_t op, h, x, y;
+} branchmetal_joined;
+
+/* How a run of a net ends: with an empty cut; with as many steps in a row as there are joins that changed nothing; or with the steps spent. */
+#define BRANCHMETAL_EMPTY 0
+#define BRANCHMETAL_STEADY 1
+#define BRANCHMETAL_SPENT 2
+
+typedef struct {
+    uint64_t ended, steps;
+} branchmetal_ran;
+
+/* Cuts the intervals of up to 16 words by up to 32 joins, one join a step, in order, round and round, for at most `pay` steps. No assignment
+ * inside the given intervals that satisfies all joins is lost. Refused, with zeros and the intervals as they came: 16, too many words or
+ * joins, or a join that names a word that is not there (a NOT's y is not read); then 2, 5 and 15, as a join is. */
+uint64_t branchmetal_net(uint64_t width, branchmetal_interval *words, size_t count, const branchmetal_joined *joins, size_t many, uint64_t pay,
+                         branchmetal_ran *answer);
+
+/* A sheet that the caller keeps between calls: nothing of it is for the caller to read or write but through the calls below. It is plain
+ * memory: it may be copied, stored and moved. A sheet that is all zeros is the blank one. Memory that was spoiled gets 17 from every call
+ * that reads it, and stays as it was; opening and blanking do not read it. */
+typedef struct {
+    uint64_t numbers[841];
+} branchmetal_sheet;
+
+/* The blank sheet, on which nothing is open. */
+void branchmetal_sheet_blank(branchmetal_sheet *sheet);
+
+/* Opens a sheet for a word of this width, without rules or marks; what was on it is discarded. Refused, with the sheet as it was: 2, a width
+ * that the edition has not. */
+uint64_t branchmetal_sheet_open(branchmetal_sheet *sheet, uint64_t width, uint64_t edition);
+
+/* Adds a rule, numbered from 0 in the order added; what waits is discarded. Refused, with the sheet as it was: 17; 1, the blank sheet; 11, a
+ * sheet of the other edition; 3, 4 and 5, the rule; 6, 200 rules in force. */
+uint64_t branchmetal_sheet_add(branchmetal_sheet *sheet, uint64_t edition, const branchmetal_rule *rule);
+
+/* Sets a mark; what waits is discarded. Refused, with the sheet as it was: 17; 1; 7, 32 marks in force. */
+uint64_t branchmetal_sheet_mark(branchmetal_sheet *sheet);
+
+/* Goes back to the newest mark: the mark and the rules added after it are struck, and wait to come back. Refused, with the sheet as it was:
+ * 17; 1; 8, no mark in force. */
+uint64_t branchmetal_sheet_back(branchmetal_sheet *sheet);
+
+/* Brings back what was most recently struck and waits. Refused, with the sheet as it was: 17; 1; 12, nothing waits. */
+uint64_t branchmetal_sheet_forward(branchmetal_sheet *sheet);
+
+/* Adds the four rules of a gate to a sheet of width 32, or none of them; what waits is discarded. Refused, with the sheet as it was: 17; 1;
+ * 13, another width; 14, a limit that is not a number; 6, fewer than four places free. */
+uint64_t branchmetal_sheet_gate(branchmetal_sheet *sheet, uint64_t kind, uint32_t low, uint32_t high);
+
+typedef struct {
+    uint64_t verdict, smallest, largest, links;
+} branchmetal_asked;
+
+/* Which words meet all rules in force, as branchmetal_vet says it of a list. Refused, with zeros and `links` as it was: 17; 1; 9, too little
+ * room. */
+uint64_t branchmetal_sheet_ask(const branchmetal_sheet *sheet, uint64_t *links, size_t room, branchmetal_asked *answer);
+
+typedef struct {
+    uint64_t quotient, remainder;
+} branchmetal_shared;
+
+/* How many words meet them, as branchmetal_count. Refused, with zeros: 17; 1. */
+uint64_t branchmetal_sheet_count(const branchmetal_sheet *sheet, branchmetal_shared *answer);
+
+/* Which words meet them from `start` upward, as branchmetal_list; *written says how many were written. Refused, with 0 and `words` as it was:
+ * 17; 1; 5, a start above the top word. */
+uint64_t branchmetal_sheet_list(const branchmetal_sheet *sheet, uint64_t start, uint64_t *words, size_t room, uint64_t *written);
+
 #ifdef __cplusplus
 }
 #endif

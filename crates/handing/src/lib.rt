@@ -3,7 +3,7 @@ ghost use mathlib.Core.Path.{_≡_};
 ghost use mathlib.Core.List.{[]};
 ghost use Prim.Native.Nat.{_<_};
 ghost use lib.ListN.{getD, length};
-ghost use Rattle.handing.specs.Handed.{openingOf, ruleIn, weighNumber};
+ghost use Rattle.handing.specs.Handed.{editionOf, openingOf, ruleIn, weighNumber};
 use page::Opening;
 use rule::Rule;
 use word::Edition;
@@ -37,19 +37,24 @@ pub fn rule_at(rules: &[[u64; NUMBERS]], i: usize) -> Rule
     }
 }
 
+// The edition of a number.
+pub fn edition_of(number: u64) -> Edition
+    ensures { λ r. ⌜ r ≡ editionOf number ⌝ }
+{
+    if number == 0 {
+        return Edition::Old;
+    }
+    Edition::New
+}
+
 // What a caller opens a sheet with: a width, and the number of an edition.
 pub fn opening(width: u64, edition: u64) -> Opening
     ensures { λ r. ⌜ r ≡ openingOf width edition ⌝ }
 {
-    if edition == 0 {
-        return Opening {
-            width,
-            edition: Edition::Old,
-        };
-    }
+    let named = edition_of(edition);
     Opening {
         width,
-        edition: Edition::New,
+        edition: named,
     }
 }
 

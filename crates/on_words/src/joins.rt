@@ -39,7 +39,8 @@ fn interval_in(row: [u64; 2]) -> Interval
     }
 }
 
-fn op_of(number: u64) -> Op
+// What a number joins words by.
+pub fn op_of(number: u64) -> Op
     ensures { λ r. ⌜ r ≡ opOf number ⌝ }
 {
     if number == 0 {

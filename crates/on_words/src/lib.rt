@@ -2,5 +2,7 @@
 mod gates;
 mod joins;
 
+pub use gates::gate_of;
 pub use gates::gate_rules;
 pub use joins::join;
+pub use joins::op_of;

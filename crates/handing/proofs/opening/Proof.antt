@@ -1,13 +1,15 @@
--- `opening` meets its contract: 0 is the old edition, and any other number the new one. Assumes nothing.
-use borrow.Author.Tests.{eq-eqb, ne-eqb}
+-- `opening` meets its contract: the width as it is, and the edition of the number. Assumes nothing.
+use mathlib.Core.Path.{ap}
+use Rattle.page.specs.Page.{at-width}
+use borrow.Author.Needs.{needs}
 use Rattle.handing.proofs.opening.Statement.{statement}
 use Rattle.handing.proofs.opening.Tie as tie
 
-returns : tie.Need-returns
-returns c = rw (eq-eqb _ 0 (c .if1 .taken))
+edition-of-requires : tie.Need-edition-of-requires
+edition-of-requires c κs = search needs
 
-returns-2 : tie.Need-returns-2
-returns-2 c = rw (ne-eqb _ 0 (c .if1 .left))
+returns : tie.Need-returns
+returns c = ap (at-width (c .before .args .width)) (c .edition-of .ensures)
 
 pub opening-spec : {M : Type 1} → statement M
-opening-spec = tie.close (tie.spec returns returns-2)
+opening-spec = tie.close (tie.spec edition-of-requires returns)

@@ -1,0 +1,19 @@
+-- No second outcome satisfies the statement of a call on numbers that a caller keeps: they are a sheet's or they are not, and in each case
+-- the statement says what the outcome is. Assumes nothing.
+use mathlib.Core.Path.{_≡_, sym, _∙_}
+use mathlib.Core.List.{List}
+use Prim.Native.Nat.{ℕ}
+use Rattle.page.specs.Calls.{Call}
+use Rattle.keeping.specs.Numbers.{IsKept}
+use Rattle.keeping.proofs.Kept.{kept-dec}
+use Rattle.on_sheets.specs.Changed.{Changed}
+
+pub changed-unique : {c : Call} {ns a b : List ℕ} {r s : ℕ} → Changed c ns a r → Changed c ns b s → (r ≡ s) × (a ≡ b)
+changed-unique {c} {ns} {a} {b} {r} {s} x y = go (kept-dec ns)
+  where
+    go : Dec (IsKept ns) → (r ≡ s) × (a ≡ b)
+    go (yes h) =
+        let p = x .on-page (h .on) (h .reached) (h .gives) in
+        let q = y .on-page (h .on) (h .reached) (h .gives) in
+        (p .0 ∙ sym (q .0), p .1 ∙ sym (q .1))
+    go (no n) = let p = x .spoiled n in let q = y .spoiled n in (p .0 ∙ sym (q .0), p .1 ∙ sym (q .1))

@@ -1,0 +1,18 @@
+-- `blank` meets its contract: the blank record is written down. Assumes nothing.
+use mathlib.Core.Path.{ap, _∙_}
+use Rattle.keeping.specs.Numbers.{numbersOf}
+use borrow.Author.Needs.{needs}
+use Rattle.on_sheets.proofs.blank.Statement.{statement}
+use Rattle.on_sheets.proofs.blank.Tie as tie
+
+blank-requires : tie.Need-blank-requires
+blank-requires c κs = search needs
+
+written-requires : tie.Need-written-requires
+written-requires c κs = search needs
+
+returns : tie.Need-returns
+returns c = c .written .ensures ∙ ap numbersOf (c .before .blank .ensures)
+
+pub blank-spec : {M : Type 1} → statement M
+blank-spec = tie.close (tie.spec blank-requires written-requires returns)
