@@ -1,9 +1,10 @@
-// The rules of a gate, and joins of words.
+// The rules of a gate, joins of words, and nets of them.
 ghost use mathlib.Core.Path.{_≡_};
 ghost use Rattle.gate.specs.Gate.{turned};
 ghost use Rattle.handing.specs.Handed.{numberOf};
 ghost use Rattle.on_words.specs.Gates.{gateNumber, gateOf, gateRows};
 ghost use Rattle.on_words.specs.Joins.{joinIn, joinRows};
+ghost use Rattle.on_nets.specs.Nets.{Ran};
 use gate::Gate;
 use handing::NUMBERS;
 
@@ -34,4 +35,18 @@ pub extern "C" fn branchmetal_join(
     ensures { λ _. ⌜ now (empty .exit) ≡ numberOf (joinIn width op (now (words .entry)) .empty) ⌝ }
 {
     on_words::join(width, op, words, empty)
+}
+
+// Cuts the intervals of a net of words by its joins, for as many steps as are paid for.
+#[no_mangle]
+pub extern "C" fn branchmetal_net(
+    width: u64,
+    words: &mut [[u64; 2]],
+    joins: &[[u64; 4]],
+    pay: u64,
+    answer: &mut [u64; 2],
+) -> u64
+    ensures { λ r. ⌜ Ran width (now (words .entry)) (now (joins .entry)) pay (now (words .exit)) (now (answer .exit)) r ⌝ }
+{
+    on_nets::run(width, words, joins, pay, answer)
 }
