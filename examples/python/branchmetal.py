@@ -21,8 +21,15 @@ class Library:
         words, length, number = ctypes.POINTER(ctypes.c_uint64), ctypes.c_size_t, ctypes.c_uint64
         self._c.branchmetal_vet.argtypes = [number, number, words, length, words, length, words]
         self._c.branchmetal_count.argtypes = [number, number, words, length, words]
-        for function in (self._c.branchmetal_vet, self._c.branchmetal_count):
-            function.restype = number
+        self._c.branchmetal_sheet_open.argtypes = [words, number, number]
+        self._c.branchmetal_sheet_add.argtypes = [words, number, words]
+        self._c.branchmetal_sheet_mark.argtypes = [words]
+        self._c.branchmetal_sheet_back.argtypes = [words]
+        self._c.branchmetal_sheet_forward.argtypes = [words]
+        self._c.branchmetal_sheet_ask.argtypes = [words, words, length, words]
+        self._c.branchmetal_sheet_count.argtypes = [words, words]
+        for name in ("vet", "count", *(f"sheet_{call}" for call in ("open", "add", "mark", "back", "forward", "ask", "count"))):
+            getattr(self._c, f"branchmetal_{name}").restype = number
 
     @staticmethod
     def _rules(rules):
@@ -48,17 +55,67 @@ class Library:
             raise Refused(number, place)
         return quotient * 2**32 + remainder
 
+    def sheet(self, width, edition):
+        """A sheet that is kept between calls."""
+        return Sheet(self._c, width, edition)
+
+
+class Sheet:
+    """Plain memory that the library alone reads and writes. Each call raises Refused with the number of a refusal, and then changes nothing."""
+
+    def __init__(self, c, width, edition):
+        self._c, self._edition, self._numbers = c, edition, (ctypes.c_uint64 * 841)()
+        self._call("open", width, edition)
+
+    def _call(self, name, *arguments):
+        number = getattr(self._c, f"branchmetal_sheet_{name}")(self._numbers, *arguments)
+        if number:
+            raise Refused(number)
+
+    def add(self, form, sense, c1, c2):
+        self._call("add", self._edition, (ctypes.c_uint64 * 4)(form, sense, c1, c2))
+
+    def mark(self):
+        self._call("mark")
+
+    def back(self):
+        """Strikes the newest mark and the rules added after it, which wait to come forward."""
+        self._call("back")
+
+    def forward(self):
+        self._call("forward")
+
+    def ask(self):
+        """As Library.vet, of the rules in force."""
+        links, answer = (ctypes.c_uint64 * (3 * 801))(), (ctypes.c_uint64 * 4)()
+        self._call("ask", links, len(links), answer)
+        verdict, smallest, largest, count = answer
+        return verdict, smallest, largest, [tuple(links[3 * i : 3 * i + 3]) for i in range(count)]
+
+    def count(self):
+        """How many words meet the rules in force."""
+        answer = (ctypes.c_uint64 * 2)()
+        self._call("count", answer)
+        quotient, remainder = answer
+        return quotient * 2**32 + remainder
+
 
 def main():
     library = Library(sys.argv[1])
     # The power came on at tick 65000, and the panel settles in 1000 ticks; it has been viewing from tick 65200 to tick 200 past the wrap.
-    rules = [(8, 1, 65000, 1000), (3, 0, 336, 536)]
-    verdict, smallest, largest, links = library.vet(16, OLD, rules)
+    unsettled, viewing = (8, 1, 65000, 1000), (3, 0, 336, 536)
+    verdict, smallest, largest, links = library.vet(16, OLD, [unsettled, viewing])
     if verdict == NONE:
         print("no tick is both:", links)
-    else:
-        ticks = library.count(16, OLD, rules)
-        print(f"{ticks} ticks are both: the smallest is {smallest}, the largest {largest}")
+        return
+    # The same on a sheet that is kept. A step back strikes the rule again, so that other spans of viewing could be tried.
+    sheet = library.sheet(16, OLD)
+    sheet.add(*unsettled)
+    sheet.mark()
+    sheet.add(*viewing)
+    ticks = sheet.count()
+    sheet.back()
+    print(f"{ticks} ticks are both: the smallest is {smallest}, the largest {largest}")
 
 
 if __name__ == "__main__":

@@ -27,7 +27,7 @@ mod branchmetal {
         Many { smallest: u64, largest: u64 },
     }
 
-    /// The number of a refusal, and the place of the rule that was refused, or the list's length.
+    /// The number of a refusal, and the place of the rule that was refused, or the list's length; of a kept sheet, 0.
     #[derive(Debug)]
     pub struct Refused {
         pub number: u64,
@@ -63,6 +63,11 @@ mod branchmetal {
             answer: *mut Vetted,
         ) -> u64;
         fn branchmetal_count(width: u64, edition: u64, rules: *const Rule, count: usize, answer: *mut Counted) -> u64;
+        fn branchmetal_sheet_open(sheet: *mut Sheet, width: u64, edition: u64) -> u64;
+        fn branchmetal_sheet_add(sheet: *mut Sheet, edition: u64, rule: *const Rule) -> u64;
+        fn branchmetal_sheet_mark(sheet: *mut Sheet) -> u64;
+        fn branchmetal_sheet_back(sheet: *mut Sheet) -> u64;
+        fn branchmetal_sheet_count(sheet: *const Sheet, answer: *mut [u64; 2]) -> u64;
     }
 
     pub fn vet(width: u64, edition: Edition, rules: &[Rule]) -> Result<Verdict, Refused> {
@@ -89,11 +94,54 @@ mod branchmetal {
             number => Err(Refused { number, place: answer.place }),
         }
     }
+
+    /// A sheet that is kept between calls: plain memory that the library alone reads and writes. A refused call leaves it as it was.
+    #[repr(C)]
+    #[derive(Clone)]
+    pub struct Sheet {
+        numbers: [u64; 841],
+    }
+
+    fn told(number: u64) -> Result<(), Refused> {
+        if number == 0 {
+            Ok(())
+        } else {
+            Err(Refused { number, place: 0 })
+        }
+    }
+
+    // Each pointer is that of a live value, and none overlaps another.
+    impl Sheet {
+        pub fn open(width: u64, edition: Edition) -> Result<Sheet, Refused> {
+            let mut sheet = Sheet { numbers: [0; 841] };
+            told(unsafe { branchmetal_sheet_open(&mut sheet, width, edition as u64) })?;
+            Ok(sheet)
+        }
+
+        pub fn add(&mut self, edition: Edition, rule: &Rule) -> Result<(), Refused> {
+            told(unsafe { branchmetal_sheet_add(self, edition as u64, rule) })
+        }
+
+        pub fn mark(&mut self) -> Result<(), Refused> {
+            told(unsafe { branchmetal_sheet_mark(self) })
+        }
+
+        /// Strikes the newest mark and the rules added after it.
+        pub fn back(&mut self) -> Result<(), Refused> {
+            told(unsafe { branchmetal_sheet_back(self) })
+        }
+
+        pub fn count(&self) -> Result<u128, Refused> {
+            let mut answer = [0; 2];
+            told(unsafe { branchmetal_sheet_count(self, &mut answer) })?;
+            Ok((u128::from(answer[0]) << 32) + u128::from(answer[1]))
+        }
+    }
 }
 
-use branchmetal::{count, vet, Edition, Refused, Rule, Verdict};
+use branchmetal::{count, vet, Edition, Refused, Rule, Sheet, Verdict};
 
-fn main() -> Result<(), Refused> {
+fn ask() -> Result<(), Refused> {
     // The power came on at tick 65000, and the panel settles in 1000 ticks; it has been viewing from tick 65200 to tick 200 past the wrap.
     let rules = [Rule { form: 8, sense: 1, c1: 65000, c2: 1000 }, Rule { form: 3, sense: 0, c1: 336, c2: 536 }];
     match vet(16, Edition::Old, &rules)? {
@@ -104,5 +152,18 @@ fn main() -> Result<(), Refused> {
             println!("{ticks} ticks are both: the smallest is {smallest}, the largest {largest}")
         }
     }
-    Ok(())
+    // The same on a sheet that is kept. A step back strikes the rule again, so that other spans of viewing could be tried.
+    let mut sheet = Sheet::open(16, Edition::Old)?;
+    sheet.add(Edition::Old, &rules[0])?;
+    sheet.mark()?;
+    sheet.add(Edition::Old, &rules[1])?;
+    assert_eq!(sheet.count()?, count(16, Edition::Old, &rules)?);
+    sheet.back()
+}
+
+fn main() {
+    if let Err(refused) = ask() {
+        eprintln!("refused with {} at rule {}", refused.number, refused.place);
+        std::process::exit(1);
+    }
 }
