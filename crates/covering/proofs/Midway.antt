@@ -41,7 +41,7 @@ covered-more i e q z = go (ℕ-discrete i 0)
 
 -- ---- the link at a place
 
-next-link : (ns : List ℕ) (i : ℕ) → i + 3 ≤ length ns → linksIn (drop i ns) ≡ linkFrom ns i ∷ linksIn (drop (i + 3) ns)
+pub next-link : (ns : List ℕ) (i : ℕ) → i + 3 ≤ length ns → linksIn (drop i ns) ≡ linkFrom ns i ∷ linksIn (drop (i + 3) ns)
 unfolding linksIn
 next-link ns i h =
     let one : suc i ≡ i + 1 = omega arith in

@@ -27,7 +27,7 @@ or-false : (b : Bool) → b ≡ (b || false)
 or-false true = refl
 or-false false = refl
 
-lawful-at : (w : ℕ) (rs : List Rule) (i : ℕ) → i < length rs → AllLawful w rs → Lawful w (nth rs i)
+pub lawful-at : (w : ℕ) (rs : List Rule) (i : ℕ) → i < length rs → AllLawful w rs → Lawful w (nth rs i)
 unfolding AllLawful
 lawful-at w [] i h l = absurd (omega arith)
 lawful-at w (r ∷ rs) zero h l = l .0

@@ -1,0 +1,5 @@
+pub mod Broken
+pub mod Exactly
+pub mod Meeting
+pub mod Reasons
+pub mod Walk

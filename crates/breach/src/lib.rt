@@ -1,0 +1,88 @@
+// Why a list of links is no chain: the first clause of the paper that does not hold, found by bands and bits and never word by word.
+ghost use mathlib.Core.Path.{_≡_};
+ghost use Prim.Native.Nat.{_%_};
+ghost use lib.ListN.{length, take};
+ghost use Rattle.word.specs.Word.{IsWidth, top};
+ghost use Rattle.bits.specs.Fixed.{Tidy};
+ghost use Rattle.rows.specs.Bands.{Lie};
+ghost use Rattle.rows.specs.OfRules.{OfLawful};
+ghost use Rattle.rows.specs.Rows.{bandsIn, rulesIn};
+ghost use Rattle.covering.specs.Check.{linksIn};
+ghost use Rattle.breach.specs.Clauses.{firstBroken, isYes, listClauses};
+
+mod link;
+
+use bits::Fixed;
+use chain::Link;
+use rule::Rule;
+use word::Width;
+
+// What is found of a list of links: yes, or the first clause that does not hold, where it is one of a link with that link's number,
+// counted from 0, and where it is one of the words with the smallest word of the link that meets what each should fail.
+pub enum Finding {
+    Yes,
+    NoSheet,
+    Empty,
+    Ragged,
+    Backward { link: usize },
+    AboveTop { link: usize },
+    NotFromZero { link: usize },
+    Gap { link: usize },
+    NoRule { link: usize },
+    BitRule { link: usize },
+    MeetsRule { link: usize, word: u64 },
+    MeetsBits { link: usize, word: u64 },
+    Short,
+}
+
+impl Finding {
+    // Whether nothing was found.
+    pub fn is_yes(self) -> bool
+        ensures { λ r. ⌜ r ≡ isYes self ⌝ }
+    {
+        let Finding::Yes = self else {
+            return false;
+        };
+        true
+    }
+}
+
+// The first clause that links do not keep, link by link: where the link lies, then its reason, and at last whether the top word is reached.
+pub fn first(
+    links: &[u64],
+    rows: &[[u64; rows::NUMBERS]; Rule::LIMIT],
+    n: usize,
+    fixed: Fixed,
+    width: Width,
+) -> Finding
+    requires { ⌜ IsWidth (width .bits) ⌝ }
+    requires { ⌜ Lie (top (width .bits)) n (bandsIn (now rows)) ⌝ }
+    requires { ⌜ OfLawful (width .bits) (take n (bandsIn (now rows))) fixed (take n (rulesIn (now rows))) ⌝ }
+    requires { ⌜ Tidy fixed × (length (now links) % 3 ≡ 0) ⌝ }
+    ensures { λ r. ⌜ r ≡ firstBroken (listClauses (width .bits) (take n (rulesIn (now (rows .entry)))) 0 0 (linksIn (now (links .entry)))) ⌝ }
+{
+    let top = width.top();
+    let mut end = 0;
+    let mut number = 0;
+    let mut at = 0;
+    while at < links.len() {
+        let read = chain::link_from(links, at);
+        let lies = link::lies(read, number, end, top);
+        if !lies.is_yes() {
+            return lies;
+        }
+        let shows = link::shows(read, number, rows, n, fixed, width);
+        if !shows.is_yes() {
+            return shows;
+        }
+        if end < read.to {
+            end = read.to;
+        }
+        number += 1;
+        at += Link::NUMBERS;
+    }
+    if end == top {
+        return Finding::Yes;
+    }
+    Finding::Short
+}

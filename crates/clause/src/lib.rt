@@ -1,0 +1,38 @@
+// Why the check of a chain says no: the first clause of the paper that does not hold of a sheet and a list of links.
+ghost use mathlib.Core.Path.{_≡_};
+ghost use Rattle.checker.specs.Check.{accepts};
+ghost use Rattle.breach.specs.Clauses.{isYes};
+ghost use Rattle.clause.specs.Finding.{finding};
+pub use breach::Finding;
+use chain::Link;
+use rows::NUMBERS;
+use rule::Rule;
+use sheet::Sheet;
+use word::Width;
+
+// What is found of the links, three numbers each: any record, and any numbers. It is yes just where the check says yes.
+pub fn first(sheet: Sheet, links: &[u64]) -> Finding
+    ensures { λ r. ⌜ r ≡ finding sheet (now (links .entry)) ⌝ }
+    ensures { λ r. ⌜ isYes r ≡ accepts sheet (now (links .entry)) ⌝ }
+{
+    let mut rows = [[0; NUMBERS]; Rule::LIMIT];
+    let mut marks: [usize; Sheet::MARKS] = [0; Sheet::MARKS];
+    let head = sheet::laid::lay_out(sheet, &mut rows, &mut marks);
+    let width = head.opening.width;
+    let count = head.counts.count;
+    let fixed = head.fixed;
+    let numbers = links.len();
+    if !head.stands {
+        return Finding::NoSheet;
+    }
+    if width == 0 {
+        return Finding::NoSheet;
+    }
+    if numbers == 0 {
+        return Finding::Empty;
+    }
+    if numbers % Link::NUMBERS != 0 {
+        return Finding::Ragged;
+    }
+    breach::first(links, &rows, count, fixed, Width { bits: width })
+}
