@@ -1,0 +1,123 @@
+-- What is drawn of a record that is laid out: bands and bits pass just the words that fit the rules, and those of one rule alone just
+-- the words that meet it. Assumes nothing.
+use mathlib.Core.Path.{_≡_, refl, sym, ap, ap₂, _∙_, subst}
+use mathlib.Core.Bool.{Bool, true, false, not, _&&_, cond}
+use mathlib.Core.List.{List, [], _∷_, map}
+use Prim.Native.Nat.{ℕ, _≤_, _<_}
+use native.Mathlib.Omega.{arith}
+use borrow.Author.Tests.{eq-eqb, le-ltb, lt-ltb, ne-eqb}
+use lib.Dec.{eqb, ltb}
+use lib.ListN.{length, length-map, length-set, set, take}
+use Rattle.word.specs.Word.{top}
+use Rattle.rule.specs.declared.Rule.{Rule}
+use Rattle.rule.specs.Meaning.{AllLawful, Lawful, RULES, fits, meets}
+use Rattle.band.specs.declared.Band.{Band}
+use Rattle.band.specs.Band.{AllLaid, bandOf}
+use Rattle.bits.specs.declared.Fixed.{Fixed}
+use Rattle.bits.specs.declared.Fixed.the-variants.{Bits}
+use Rattle.bits.specs.Fixed.{Tidy, fixedBits, fixedFrom, joined}
+use Rattle.bits.proofs.Joined.{fixed-tidy}
+use Rattle.rows.specs.Bands.{Lie, passes}
+use Rattle.rows.specs.OfRules.{OfLawful}
+use Rattle.rows.specs.Rows.{bandIn, bandsIn, rowOf, rulesIn}
+use Rattle.rows.proofs.Reading.{bands-put}
+use Rattle.rows.proofs.Passes.{bands-laid, passes-fits}
+use Rattle.chain.specs.Links.{nth}
+use Rattle.slate.specs.declared.Head.{Head}
+use Rattle.slate.specs.Held.{Held}
+use Rattle.sheet.specs.declared.Sheet.{Sheet}
+use Rattle.sheet.specs.Held.{packed}
+use Rattle.sheet.proofs.Holding.{packed-told}
+use Rattle.covering.proofs.EveryWord.{every-same}
+use Rattle.shade.specs.declared.Cell.{Cell}
+use Rattle.shade.specs.declared.Cell.the-variants.{Fails, Meets, Nowhere, Partly}
+use Rattle.shade.specs.Cell.{cellOf}
+use Rattle.picture.specs.Picture.{allCell, columnCell, columns, drawable, ruleCell}
+
+-- tests that agree on a stretch draw it alike
+same-cell : (f g : ℕ → Bool) (p q : ℕ) → ((x : ℕ) → p ≤ x → x ≤ q → f x ≡ g x) → cellOf f p q ≡ cellOf g p q
+unfolding cellOf
+same-cell f g p q h =
+    ap₂ (λ (a b : Bool). cond a Fails (cond b Meets Partly)) (every-same _ _ p q (λ x a b. ap not (h x a b))) (every-same f g p q h)
+
+pub by-fits : (w : ℕ) → 1 ≤ w → (bands : List Band) (fixed : Fixed) (rs : List Rule) → OfLawful w bands fixed rs → (p q : ℕ) → q ≤ top w
+    → cellOf (passes bands fixed) p q ≡ cellOf (fits w rs) p q
+by-fits w one bands fixed rs o p q h =
+    ap₂ (λ (b : List Band) (f : Fixed). cellOf (passes b f) p q) (o .1 .own) (o .1 .bits)
+    ∙ same-cell (passes (map (bandOf w) rs) (fixedBits rs)) (fits w rs) p q (λ x a b. passes-fits w one rs (o .0) x (omega arith))
+
+pub by-meets : (w : ℕ) (r : Rule) (p q : ℕ) → cellOf (fits w (r ∷ [])) p q ≡ cellOf (meets w r) p q
+unfolding fits
+by-meets w r p q = same-cell (fits w (r ∷ [])) (meets w r) p q (λ x a b. and-true (meets w r x))
+  where
+    and-true : (b : Bool) → (b && true) ≡ b
+    and-true true = refl
+    and-true false = refl
+
+-- a rule alone in the rows
+module _ (w : ℕ) (one : 1 ≤ w) (r : Rule) (lawful : Lawful w r) (rows rows′ : List (List ℕ)) (room : length rows ≡ RULES) (put : rows′ ≡ set rows 0 (rowOf r (bandOf w r))) where
+  first-of : (bs : List Band) → 0 < length bs → take 1 (set bs 0 (bandOf w r)) ≡ bandOf w r ∷ []
+  first-of [] h = absurd (omega arith)
+  first-of (b ∷ bs) h = refl
+
+  bands-so : bandsIn rows′ ≡ set (bandsIn rows) 0 (bandOf w r)
+  bands-so = ap bandsIn put ∙ bands-put rows 0 r (bandOf w r)
+
+  own-band : take 1 (bandsIn rows′) ≡ map (bandOf w) (r ∷ [])
+  own-band = ap (take 1) bands-so ∙ first-of (bandsIn rows) (omega (arith, room, length-map rows bandIn))
+
+  all-lawful : AllLawful w (r ∷ [])
+  unfolding AllLawful
+  all-lawful = (lawful, tt)
+
+  pub alone-lies : Lie (top w) 1 (bandsIn rows′)
+  alone-lies = record {
+    places = ap length bands-so ∙ length-set (bandsIn rows) 0 (bandOf w r) ∙ length-map rows bandIn ∙ room;
+    count = omega arith;
+    laid = subst (AllLaid (top w)) (sym own-band) (bands-laid w one (r ∷ []) all-lawful);
+  }
+
+  pub alone-of : OfLawful w (take 1 (bandsIn rows′)) (joined (Bits 0 0) r) (r ∷ [])
+  unfolding fixedBits fixedFrom
+  alone-of = (all-lawful, record { own = own-band; bits = refl })
+
+pub alone-tidy : (r : Rule) → Tidy (joined (Bits 0 0) r)
+unfolding fixedBits fixedFrom
+alone-tidy r = fixed-tidy (r ∷ [])
+
+module _ {h : Head} {rows : List (List ℕ)} {marks : List ℕ} (held : Held h rows marks) (c : ℕ) where
+  abbrev s : Sheet
+  s = packed h rows marks
+
+  abbrev w : ℕ
+  w = h .opening .width
+
+  abbrev own : List Rule
+  own = take (h .counts .count) (rulesIn rows)
+
+  drawn-as : {a b d : Bool} → h .stands ≡ a → eqb w 0 ≡ b → ltb c (columns w) ≡ d → (a && (not b && d)) ≡ drawable s c
+  unfolding drawable packed
+  drawn-as p q r =
+      let told = packed-told h rows marks ∙ sym (held .tested) ∙ p in sym (λ k. told k && (not (q k) && r k))
+
+  module _ (v : Bool) (d : v ≡ drawable s c) where
+    pub all-as : cond v (columnCell w c (fits w own)) Nowhere ≡ allCell s c
+    unfolding allCell packed
+    all-as = ap (λ (b : Bool). cond b (columnCell w c (fits w own)) Nowhere) d
+
+    pub rule-as : (i : ℕ) {u : Bool} → ltb i (h .counts .count) ≡ u → cond (v && u) (columnCell w c (meets w (nth own i))) Nowhere ≡ ruleCell s i c
+    unfolding ruleCell packed
+    rule-as i e = ap₂ (λ (a b : Bool). cond (a && b) (columnCell w c (meets w (nth own i))) Nowhere) d (sym e)
+
+  pub no-sheet : h .stands ≡ false → false ≡ drawable s c
+  no-sheet e = drawn-as e refl refl
+
+  pub blank : h .stands ≡ true → w ≡ 0 → false ≡ drawable s c
+  blank e z = drawn-as e (eq-eqb w 0 z) refl
+
+  module _ (e : h .stands ≡ true) (z : w ≡ 0 → ⊥) where
+    pub no-column : columns w ≤ c → false ≡ drawable s c
+    no-column n = drawn-as e (ne-eqb w 0 z) (le-ltb c (columns w) n)
+
+    pub a-column : c < columns w → true ≡ drawable s c
+    a-column n = drawn-as e (ne-eqb w 0 z) (lt-ltb c (columns w) n)
