@@ -34,7 +34,7 @@ use Rattle.exchange.specs.Begun.{none as no-line}
 use Rattle.exchange.specs.Desk.{Desk, desk}
 use Rattle.exchange.specs.Exchange.{answersTo, exchange, lines}
 use Rattle.exchange.specs.Statements.{Finished, Talk}
-use Rattle.exchange.specs.Text.{bytesOf}
+use Rattle.hex.specs.Text.{bytesOf}
 use Rattle.exchange.proofs.Whole.{any-cut}
 use Rattle.sheet.specs.Record.{blank}
 

@@ -20,7 +20,7 @@ use Rattle.frame.specs.Frames.{bare, byDigits, codeEdition, frameOf, numbered, 
 use Rattle.frame.specs.Pages.{answerTo, pageAfter}
 use Rattle.exchange.specs.Exchange.{answersTo, exchange, inFront, lines}
 use Rattle.exchange.specs.Paper.{paper-input, paper-input-new, paper-output, paper-output-new}
-use Rattle.exchange.specs.Text.{bytesOf}
+use Rattle.hex.specs.Text.{bytesOf}
 
 both-papers : (exchange (bytesOf paper-input) ≡ bytesOf paper-output) × (exchange (bytesOf paper-input-new) ≡ bytesOf paper-output-new)
 unfolding

@@ -26,7 +26,7 @@ use Rattle.frame.specs.Answers.{answerBytes}
 use Rattle.frame.specs.Calls.{MadeCall, asks, callOf, makes, none}
 use Rattle.frame.specs.Fields.{Line, field}
 use Rattle.exchange.specs.Exchange.{lines}
-use Rattle.exchange.specs.Text.{bytesOf}
+use Rattle.hex.specs.Text.{bytesOf}
 
 -- ---- lines without the new frames' codes
 

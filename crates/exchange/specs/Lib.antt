@@ -5,4 +5,3 @@ pub mod Exchange
 pub mod Lines
 pub mod Paper
 pub mod Statements
-pub mod Text

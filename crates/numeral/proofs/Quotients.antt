@@ -1,7 +1,7 @@
 -- Digits written and read again are the same number. A number's digits are those of its quotient and then its last one, and the
 -- reader multiplies by the base and adds, which undoes the division. Assumes nothing.
 use mathlib.Core.Path.{_≡_, refl, sym, ap, _∙_}
-use mathlib.Core.Bool.{Bool, false, and-false, cond}
+use mathlib.Core.Bool.{Bool, true, false, and-false, cond}
 use mathlib.Core.List.{List, [], _∷_, _++_}
 use Prim.Native.Nat.{ℕ, zero, suc, _+_, _-_, _*_, _/_, _%_, _^_, _≤_, _<_}
 use native.Mathlib.Decide.{decLt}
@@ -13,7 +13,7 @@ use lib.ListN.{length, length-append}
 use Rattle.hex.specs.Hex.{glyph}
 use Rattle.numeral.specs.declared.Numeral.{Numeral}
 use Rattle.numeral.specs.Digits.{digits, digitsIn}
-use Rattle.numeral.specs.Numeral.{BAD, DIGITS, NEEDS, START, ZERO, afterZero, digit, next, numeral, numeralFrom, pastDigit, start, valueOf}
+use Rattle.numeral.specs.Numeral.{BAD, DIGITS, NEEDS, START, ZERO, afterZero, belowZero, digit, next, numeral, numeralFrom, pastDigit, start, valueOf}
 
 module _ (base : ℕ) (two : 2 ≤ base) where
   -- any number of digits above the number itself is enough
@@ -117,3 +117,8 @@ digits-back x h = back START 10 false (λ e. omega arith) (omega arith) (omega a
 pub hex-back : (x : ℕ) → x ≤ 2 ^ 64 - 1 → numeralFrom start (48 ∷ 120 ∷ digitsIn 16 x) ≡ numeral DIGITS false 16 false x 0
 unfolding digitsIn numeralFrom next afterZero digit valueOf pastDigit
 hex-back x h = back NEEDS 16 false (λ e. omega arith) (omega arith) (omega arith) (omega arith) (suc x) x (omega arith) h
+
+-- after `-`
+pub minus-back : (x : ℕ) → x ≤ 2 ^ 64 - 1 → numeralFrom start (45 ∷ digitsIn 10 x) ≡ numeral DIGITS true 10 false x 0
+unfolding digitsIn numeralFrom next belowZero pastDigit
+minus-back x h = back NEEDS 10 true (λ e. omega arith) (omega arith) (omega arith) (omega arith) (suc x) x (omega arith) h

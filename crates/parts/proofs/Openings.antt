@@ -18,7 +18,7 @@ use Rattle.frame.specs.Calls.{callOf, lineCall, makes}
 use Rattle.frame.specs.Fields.{BYTE, InDigits, digitsIn}
 use Rattle.frame.specs.Frames.{IsFrame, fieldsOf, frameOf}
 use Rattle.frame.proofs.ReadBack.{read-written}
-use Rattle.exchange.specs.Text.{bytesOf}
+use Rattle.hex.specs.Text.{bytesOf}
 use Rattle.parts.specs.Parts.{AcceptedOpening, OpeningDigits}
 use Rattle.parts.specs.Pattern.{AllOpen, matchedLines, matches, pattern}
 

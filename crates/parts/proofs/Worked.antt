@@ -14,7 +14,7 @@ use Rattle.frame.specs.Fields.{digitsIn}
 use Rattle.frame.specs.Frames.{bare, byDigits, codeEdition, frameOf, numbered}
 use Rattle.frame.specs.Pages.{answerTo, pageAfter}
 use Rattle.exchange.specs.Exchange.{answersTo, exchange, inFront, lines}
-use Rattle.exchange.specs.Text.{bytesOf}
+use Rattle.hex.specs.Text.{bytesOf}
 
 -- what one desk says to all parts, and what desks say that have one each
 abbrev byOne : List String → List ℕ

@@ -3,7 +3,7 @@
 use mathlib.Core.List.{List, [], _∷_, flatMap, map}
 use Prim.Native.Nat.{ℕ}
 use Prim.Native.String.{String}
-use Rattle.exchange.specs.Text.{bytesOf}
+use Rattle.hex.specs.Text.{bytesOf}
 use Rattle.parts.specs.Parts.{AcceptedOpening}
 
 -- a row for each way through it, with the bytes that may stand at each place

@@ -1,0 +1,77 @@
+-- A rule as people write it, by the rows of docs/VET.md, and a number as answers have it.
+use mathlib.Core.Bool.{_&&_, cond}
+use mathlib.Core.List.{List, [], _∷_, _++_}
+use mathlib.Core.Path.{_≡_}
+use Prim.Native.Nat.{ℕ, _+_}
+use Prim.Native.String.{String}
+use lib.Dec.{eqb, ltb}
+use lib.ListN.{getD, length}
+use Rattle.word.specs.Word.{half, minus}
+use Rattle.rule.specs.declared.Rule.{Rule}
+use Rattle.hex.specs.Hex.{Written}
+use Rattle.numeral.specs.Digits.{digitsIn}
+use Rattle.hex.specs.Text.{bytesOf}
+
+abbrev pub decimal : ℕ → List ℕ
+decimal n = digitsIn 10 n
+
+-- a text and a number, once and twice
+abbrev pub one : String → ℕ → List ℕ
+one lead n = bytesOf lead ++ decimal n
+
+abbrev pub two : String → ℕ → String → ℕ → List ℕ
+two lead n middle m = bytesOf lead ++ (decimal n ++ one middle m)
+
+-- a word by its signed reading: "a where a < half, else a - 2^w"
+unfoldable pub signedly : (w a : ℕ) → List ℕ
+signedly w a = cond (ltb a (half w)) (decimal a) (one "-" (minus w 0 a))
+
+-- The row of each form from 1 on, as written. 0 is no form.
+abbrev pub forms : (w c1 c2 : ℕ) → List (List ℕ)
+forms w c1 c2 =
+    []
+    ∷ two "x + " c1 " <= x + " c2
+    ∷ two "" c1 " <= x + " c2
+    ∷ two "x + " c1 " <= " c2
+    ∷ (bytesOf "signed x <= " ++ signedly w c1)
+    ∷ (signedly w c1 ++ bytesOf " <= signed x")
+    ∷ one "x = " c1
+    ∷ two "x & " c1 " = " c2
+    ∷ two "settled since " c1 " for " c2
+    ∷ []
+
+-- a number that is no form has no row
+unfoldable pub formText : ℕ → Rule → List ℕ
+formText w r = getD (forms w (r .c1) (r .c2)) (r .form) []
+
+-- what stands before the row of a form, for its sense
+unfoldable pub before : (sense : ℕ) → List ℕ
+before sense = cond (eqb sense 0) [] (bytesOf "not ")
+
+-- forms 2 and 3 where nothing is added to x: a sign for each sense
+unfoldable pub atLeast : (sense n : ℕ) → List ℕ
+atLeast sense n = cond (eqb sense 0) (one "x >= " n) (one "x < " n)
+
+unfoldable pub atMost : (sense n : ℕ) → List ℕ
+atMost sense n = cond (eqb sense 0) (one "x <= " n) (one "x > " n)
+
+unfoldable pub ruleText : ℕ → Rule → List ℕ
+ruleText w r =
+    cond (eqb (r .form) 2 && eqb (r .c2) 0) (atLeast (r .sense) (r .c1))
+    (cond (eqb (r .form) 3 && eqb (r .c1) 0) (atMost (r .sense) (r .c2))
+    (before (r .sense) ++ formText w r))
+
+-- a number in decimal, and in hexadecimal in parentheses: `11 (0xb)`
+unfoldable pub numberText : ℕ → List ℕ
+numberText x = decimal x ++ (bytesOf " (0x" ++ (digitsIn 16 x ++ bytesOf ")"))
+
+-- the most bytes of a rule, `not settled since N for N` with twenty digits a number, and of a number in both ways
+abbrev pub ROOM : ℕ
+ROOM = 63
+
+abbrev pub NUMBER : ℕ
+NUMBER = 41
+
+-- bytes stand in a lent buffer from a place on, every other is as it was, and the place after them is given
+abbrev pub Put : (b : List ℕ) (at : ℕ) (bytes b′ : List ℕ) (end : ℕ) → Type 0
+Put b at bytes b′ end = Written b at bytes b′ × (end ≡ at + length bytes)
