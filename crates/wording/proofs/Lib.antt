@@ -1,2 +1,2 @@
-pub mod Putting
 pub mod Sizes
+pub mod Texts

@@ -17,7 +17,8 @@ use Rattle.rule.specs.declared.Rule.{Rule}
 use Rattle.numeral.specs.Digits.{digitsIn}
 use Rattle.numeral.proofs.Quotients.{last-digit, length-more}
 use Rattle.hex.specs.Text.{bytesOf}
-use Rattle.wording.specs.Wording.{ROOM, atLeast, atMost, before, decimal, formText, forms, ruleText, signedly}
+use Rattle.phrase.specs.Phrase.{decimal, signedly}
+use Rattle.wording.specs.Wording.{ROOM, atLeast, atMost, before, formText, forms, ruleText}
 
 module _ (base : ℕ) (two : 2 ≤ base) where
   few : (k x : ℕ) → x < base ^ suc k → length (digitsIn base x) ≤ suc k

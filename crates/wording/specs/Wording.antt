@@ -1,30 +1,13 @@
 -- A rule as people write it, by the rows of docs/VET.md, and a number as answers have it.
 use mathlib.Core.Bool.{_&&_, cond}
 use mathlib.Core.List.{List, [], _∷_, _++_}
-use mathlib.Core.Path.{_≡_}
-use Prim.Native.Nat.{ℕ, _+_}
-use Prim.Native.String.{String}
-use lib.Dec.{eqb, ltb}
-use lib.ListN.{getD, length}
-use Rattle.word.specs.Word.{half, minus}
+use Prim.Native.Nat.{ℕ}
+use lib.Dec.{eqb}
+use lib.ListN.{getD}
 use Rattle.rule.specs.declared.Rule.{Rule}
-use Rattle.hex.specs.Hex.{Written}
 use Rattle.numeral.specs.Digits.{digitsIn}
+use Rattle.phrase.specs.Phrase.{decimal, one, signedly, two}
 use Rattle.hex.specs.Text.{bytesOf}
-
-abbrev pub decimal : ℕ → List ℕ
-decimal n = digitsIn 10 n
-
--- a text and a number, once and twice
-abbrev pub one : String → ℕ → List ℕ
-one lead n = bytesOf lead ++ decimal n
-
-abbrev pub two : String → ℕ → String → ℕ → List ℕ
-two lead n middle m = bytesOf lead ++ (decimal n ++ one middle m)
-
--- a word by its signed reading: "a where a < half, else a - 2^w"
-unfoldable pub signedly : (w a : ℕ) → List ℕ
-signedly w a = cond (ltb a (half w)) (decimal a) (one "-" (minus w 0 a))
 
 -- The row of each form from 1 on, as written. 0 is no form.
 abbrev pub forms : (w c1 c2 : ℕ) → List (List ℕ)
@@ -71,7 +54,3 @@ ROOM = 63
 
 abbrev pub NUMBER : ℕ
 NUMBER = 41
-
--- bytes stand in a lent buffer from a place on, every other is as it was, and the place after them is given
-abbrev pub Put : (b : List ℕ) (at : ℕ) (bytes b′ : List ℕ) (end : ℕ) → Type 0
-Put b at bytes b′ end = Written b at bytes b′ × (end ≡ at + length bytes)

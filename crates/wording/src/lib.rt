@@ -1,15 +1,14 @@
 // A rule as people write it, so that it reads back as that rule, and a number in decimal and hexadecimal.
-mod pieces;
-
 ghost use Prim.Native.Nat.{_+_, _≤_};
 ghost use lib.ListN.{length};
 ghost use Rattle.word.specs.Word.{IsWidth};
-ghost use Rattle.wording.specs.Wording.{NUMBER, Put, ROOM, atLeast, atMost, before, formText, numberText, ruleText};
+ghost use Rattle.phrase.specs.Phrase.{Put};
+ghost use Rattle.wording.specs.Wording.{NUMBER, ROOM, atLeast, atMost, before, formText, numberText, ruleText};
 use numeral::put_digits;
-use pieces::put_one;
-use pieces::put_signed;
-use pieces::put_text;
-use pieces::put_two;
+use phrase::put_one;
+use phrase::put_signed;
+use phrase::put_text;
+use phrase::put_two;
 use rule::Rule;
 use word::Width;
 

@@ -6,8 +6,9 @@ use borrow.Author.Needs.{needs}
 use borrow.Author.Tests.{eq-eqb, ne-eqb}
 use lib.ListN.{length}
 use Rattle.hex.specs.Text.{bytesOf}
-use Rattle.wording.specs.Wording.{atLeast, one}
-use Rattle.wording.proofs.Putting.{put-as}
+use Rattle.phrase.specs.Phrase.{one}
+use Rattle.wording.specs.Wording.{atLeast}
+use Rattle.phrase.proofs.Putting.{put-as}
 use Rattle.wording.proofs.put_at_least.Statement.{statement}
 use Rattle.wording.proofs.put_at_least.Tie as tie
 use Rattle.wording.proofs.put_at_least.Reads as reads

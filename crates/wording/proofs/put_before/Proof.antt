@@ -9,7 +9,7 @@ use borrow.Author.Tests.{eq-eqb, ne-eqb}
 use lib.ListN.{length}
 use Rattle.hex.specs.Text.{bytesOf}
 use Rattle.wording.specs.Wording.{before}
-use Rattle.wording.proofs.Putting.{put-as, put-nothing}
+use Rattle.phrase.proofs.Putting.{put-as, put-nothing}
 use Rattle.wording.proofs.put_before.Statement.{statement}
 use Rattle.wording.proofs.put_before.Tie as tie
 use Rattle.wording.proofs.put_before.Reads as reads

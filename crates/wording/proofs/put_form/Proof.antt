@@ -8,8 +8,9 @@ use borrow.Author.Needs.{needs}
 use lib.ListN.{List·getD-eq-default, getD, length, length-append}
 use Rattle.rule.specs.declared.Rule.{Rule}
 use Rattle.hex.specs.Text.{bytesOf}
-use Rattle.wording.specs.Wording.{formText, forms, signedly}
-use Rattle.wording.proofs.Putting.{put-as, put-length, put-nothing, put-then}
+use Rattle.phrase.specs.Phrase.{signedly}
+use Rattle.wording.specs.Wording.{formText, forms}
+use Rattle.phrase.proofs.Putting.{put-as, put-length, put-nothing, put-then}
 use Rattle.wording.proofs.put_form.Statement.{statement}
 use Rattle.wording.proofs.put_form.Tie as tie
 use Rattle.wording.proofs.put_form.Reads as reads

@@ -5,8 +5,9 @@ use native.Mathlib.Omega.{arith}
 use borrow.Author.Needs.{needs}
 use Rattle.numeral.specs.Digits.{digitsIn}
 use Rattle.hex.specs.Text.{bytesOf}
-use Rattle.wording.specs.Wording.{decimal, numberText}
-use Rattle.wording.proofs.Putting.{put-as, put-length, put-then}
+use Rattle.phrase.specs.Phrase.{decimal}
+use Rattle.wording.specs.Wording.{numberText}
+use Rattle.phrase.proofs.Putting.{put-as, put-length, put-then}
 use Rattle.wording.proofs.Sizes.{few-decimal, few-hexadecimal}
 use Rattle.wording.proofs.put_number.Statement.{statement}
 use Rattle.wording.proofs.put_number.Tie as tie

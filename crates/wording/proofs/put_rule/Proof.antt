@@ -1,36 +1,20 @@
 -- `put_rule` meets its contract: the tests pick the row, and the longest row has the room that is asked for. Assumes nothing.
 use mathlib.Core.Path.{_≡_, sym, ap, _∙_}
 use mathlib.Core.Bool.{Bool, false, _&&_, and-false}
-use mathlib.Core.List.{_++_}
 use mathlib.Core.Logic.{⊎-elim}
 use Prim.Native.Nat.{ℕ, _+_, _-_, _^_, _≤_}
 use native.Mathlib.Omega.{arith}
 use borrow.Author.Needs.{needs}
-use borrow.Author.Tests.{eq-eqb, ne-eqb}
+use borrow.Author.Tests.{ne-eqb}
 use lib.Dec.{eqb}
 use lib.ListN.{length}
-use Rattle.rule.specs.declared.Rule.{Rule}
-use Rattle.wording.specs.Wording.{atLeast, atMost, before, formText, ruleText}
-use Rattle.wording.proofs.Putting.{put-as, put-length, put-then}
+use Rattle.phrase.proofs.Putting.{put-as, put-length, put-then}
 use Rattle.wording.proofs.Sizes.{few-at-least, few-at-most, few-before, few-text}
+use Rattle.wording.proofs.Texts.{at-least, at-most, by-form}
 use Rattle.wording.proofs.put_rule.Statement.{statement}
 use Rattle.wording.proofs.put_rule.Tie as tie
 use Rattle.wording.proofs.put_rule.Reads as reads
 use Rattle.wording.proofs.put_rule.Lts as lts
-
-module _ (w : ℕ) (r : Rule) where
-  at-least : r .form ≡ 2 → r .c2 ≡ 0 → ruleText w r ≡ atLeast (r .sense) (r .c1)
-  unfolding ruleText
-  at-least f z = rw (eq-eqb (r .form) 2 f, eq-eqb (r .c2) 0 z)
-
-  at-most : r .form ≡ 3 → r .c1 ≡ 0 → ruleText w r ≡ atMost (r .sense) (r .c2)
-  unfolding ruleText
-  at-most f z = rw (ne-eqb (r .form) 2 (λ e. omega arith), eq-eqb (r .form) 3 f, eq-eqb (r .c1) 0 z)
-
-  other : (eqb (r .form) 2 && eqb (r .c2) 0) ≡ false → (eqb (r .form) 3 && eqb (r .c1) 0) ≡ false
-      → ruleText w r ≡ before (r .sense) ++ formText w r
-  unfolding ruleText
-  other p q = rw (p, q)
 
 -- either number is another one
 not-first : (f g a : ℕ) → (f ≡ g → ⊥) → (eqb f g && eqb a 0) ≡ false
@@ -77,7 +61,7 @@ returns-3 c =
     let r = a .rule in
     let least = ⊎-elim (λ w. not-second (r .form) 2 (r .c2) (w .2 .left)) (λ w. not-first (r .form) 2 (r .c2) (w .left)) (c .before .before .before .before .before .before .before .before .before .before .if1 .came) in
     let most = ⊎-elim (λ w. not-second (r .form) 3 (r .c1) (w .2 .left)) (λ w. not-first (r .form) 3 (r .c1) (w .left)) (c .before .before .before .before .before .before .before .before .if3 .came) in
-    put-as (sym (other (a .width .bits) r least most)) (put-then (c .before .before .before .before .before .before .put-before .ensures) (c .before .before .put-form .ensures))
+    put-as (sym (by-form (a .width .bits) r least most)) (put-then (c .before .before .before .before .before .before .put-before .ensures) (c .before .before .put-form .ensures))
 
 pub put-rule-spec : {M : Type 1} → statement M
 put-rule-spec =

@@ -9,10 +9,10 @@ use native.Mathlib.Omega.{arith}
 use borrow.Author.Needs.{needs}
 use lib.ListN.{drop, getD, length, length-set}
 use lib.Seq.{drop-cons, drop-length, sets}
-use Rattle.wording.proofs.pieces.put_text.Statement.{statement}
-use Rattle.wording.proofs.pieces.put_text.Tie as tie
-use Rattle.wording.proofs.pieces.put_text.Reads as reads
-use Rattle.wording.proofs.pieces.put_text.Lts as lts
+use Rattle.phrase.proofs.put_text.Statement.{statement}
+use Rattle.phrase.proofs.put_text.Tie as tie
+use Rattle.phrase.proofs.put_text.Reads as reads
+use Rattle.phrase.proofs.put_text.Lts as lts
 
 abbrev Inv-loop : tie.InvT-loop
 Inv-loop out₀ at text i₀ i-end out i =

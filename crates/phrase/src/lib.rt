@@ -3,7 +3,7 @@ ghost use mathlib.Core.List.{_++_};
 ghost use Prim.Native.Nat.{_+_, _≤_};
 ghost use lib.ListN.{length};
 ghost use Rattle.word.specs.Word.{IsWidth};
-ghost use Rattle.wording.specs.Wording.{Put, decimal, signedly};
+ghost use Rattle.phrase.specs.Phrase.{Put, decimal, signedly};
 use numeral::put_digits;
 use word::Width;
 

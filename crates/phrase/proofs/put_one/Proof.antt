@@ -3,10 +3,10 @@ use mathlib.Core.List.{_++_}
 use native.Mathlib.Omega.{arith}
 use borrow.Author.Needs.{needs}
 use lib.ListN.{length-append}
-use Rattle.wording.specs.Wording.{decimal}
-use Rattle.wording.proofs.Putting.{put-length, put-then}
-use Rattle.wording.proofs.pieces.put_one.Statement.{statement}
-use Rattle.wording.proofs.pieces.put_one.Tie as tie
+use Rattle.phrase.specs.Phrase.{decimal}
+use Rattle.phrase.proofs.Putting.{put-length, put-then}
+use Rattle.phrase.proofs.put_one.Statement.{statement}
+use Rattle.phrase.proofs.put_one.Tie as tie
 
 put-text-requires : tie.Need-put-text-requires
 put-text-requires c κs = let a = c .before .before .before .args in omega (arith, length-append (a .lead .now) (decimal (a .n)))

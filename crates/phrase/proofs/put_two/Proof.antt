@@ -5,10 +5,10 @@ use Prim.Native.Nat.{ℕ, _+_}
 use native.Mathlib.Omega.{arith}
 use borrow.Author.Needs.{needs}
 use lib.ListN.{length, length-append}
-use Rattle.wording.specs.Wording.{decimal}
-use Rattle.wording.proofs.Putting.{put-as, put-length, put-then}
-use Rattle.wording.proofs.pieces.put_two.Statement.{statement}
-use Rattle.wording.proofs.pieces.put_two.Tie as tie
+use Rattle.phrase.specs.Phrase.{decimal}
+use Rattle.phrase.proofs.Putting.{put-as, put-length, put-then}
+use Rattle.phrase.proofs.put_two.Statement.{statement}
+use Rattle.phrase.proofs.put_two.Tie as tie
 
 -- the whole is as long as its two halves
 halves : (a b c d : List ℕ) → length (a ++ (b ++ (c ++ d))) ≡ length (a ++ b) + length (c ++ d)

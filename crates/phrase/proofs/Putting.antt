@@ -7,7 +7,7 @@ use native.Mathlib.Omega.{arith}
 use lib.ListN.{length, length-append}
 use lib.Seq.{length-sets}
 use Rattle.hex.proofs.Digits.{and-then}
-use Rattle.wording.specs.Wording.{Put}
+use Rattle.phrase.specs.Phrase.{Put}
 
 pub put-then : {b b₁ b₂ : List ℕ} {i j k : ℕ} {xs ys : List ℕ} → Put b i xs b₁ j → Put b₁ j ys b₂ k → Put b i (xs ++ ys) b₂ k
 put-then {xs = xs} {ys = ys} u v = (and-then (u .0) (v .0) (u .1), omega (arith, u .1, v .1, length-append xs ys))

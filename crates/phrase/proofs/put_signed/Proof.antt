@@ -1,28 +1,17 @@
 -- `put_signed` meets its contract: the test picks the row. Assumes nothing.
-use mathlib.Core.Path.{_≡_, sym, ap, _∙_}
-use mathlib.Core.Bool.{cond}
-use mathlib.Core.List.{List, _∷_}
-use Prim.Native.Nat.{ℕ, _+_, _≤_, _<_}
+use mathlib.Core.Path.{sym, ap, _∙_}
+use mathlib.Core.List.{_∷_}
+use Prim.Native.Nat.{ℕ}
 use native.Mathlib.Omega.{arith}
 use borrow.Author.Needs.{needs}
-use borrow.Author.Tests.{le-ltb, lt-ltb}
 use lib.ListN.{length}
-use Rattle.word.specs.Word.{half, minus}
-use Rattle.hex.specs.Text.{bytesOf}
-use Rattle.wording.specs.Wording.{decimal, signedly}
-use Rattle.wording.proofs.Putting.{put-as}
-use Rattle.wording.proofs.pieces.put_signed.Statement.{statement}
-use Rattle.wording.proofs.pieces.put_signed.Tie as tie
-use Rattle.wording.proofs.pieces.put_signed.Reads as reads
-use Rattle.wording.proofs.pieces.put_signed.Lts as lts
-
-low : (w a : ℕ) → a < half w → signedly w a ≡ decimal a
-unfolding signedly
-low w a h = rw (lt-ltb a (half w) h)
-
-high : (w a : ℕ) → half w ≤ a → signedly w a ≡ 45 ∷ decimal (minus w 0 a)
-unfolding signedly bytesOf
-high w a h = rw (le-ltb a (half w) h)
+use Rattle.phrase.specs.Phrase.{decimal}
+use Rattle.phrase.proofs.Putting.{put-as}
+use Rattle.phrase.proofs.Signed.{signed-high, signed-low}
+use Rattle.phrase.proofs.put_signed.Statement.{statement}
+use Rattle.phrase.proofs.put_signed.Tie as tie
+use Rattle.phrase.proofs.put_signed.Reads as reads
+use Rattle.phrase.proofs.put_signed.Lts as lts
 
 half-requires : tie.Need-half-requires
 half-requires c κs = search needs
@@ -30,7 +19,7 @@ half-requires c κs = search needs
 put-digits-requires : tie.Need-put-digits-requires
 put-digits-requires c κs =
     let a = c .before .before .before .before .args in
-    let e = low (a .width .bits) (a .a) (omega (arith, c .before .before .half .ensures)) in
+    let e = signed-low (a .width .bits) (a .a) (omega (arith, c .before .before .half .ensures)) in
     ((omega arith, omega arith), omega (arith, ap length e))
 
 same-length : tie.Need-same-length
@@ -39,7 +28,7 @@ same-length c = search needs
 returns : tie.Need-returns
 returns c =
     let a = c .before .before .before .before .before .before .before .args in
-    let e = low (a .width .bits) (a .a) (omega (arith, c .before .before .before .before .before .half .ensures)) in
+    let e = signed-low (a .width .bits) (a .a) (omega (arith, c .before .before .before .before .before .half .ensures)) in
     put-as (sym e) (c .before .before .put-digits .ensures)
 
 slice-aggregate-put-one : tie.Need-slice-aggregate-put-one
@@ -51,7 +40,7 @@ sub-requires c κs = search needs
 put-one-requires : tie.Need-put-one-requires
 put-one-requires c κs =
     let a = c .before .before .before .before .before .before .args in
-    let e = high (a .width .bits) (a .a) (omega (arith, c .before .before .before .before .half .ensures)) in
+    let e = signed-high (a .width .bits) (a .a) (omega (arith, c .before .before .before .before .half .ensures)) in
     omega (arith, ap length e, ap (λ (n : ℕ). length (decimal n)) (c .sub .ensures))
 
 same-length-2 : tie.Need-same-length-2
@@ -60,7 +49,7 @@ same-length-2 c = search needs
 returns-2 : tie.Need-returns-2
 returns-2 c =
     let a = c .before .before .before .before .before .before .before .before .before .args in
-    let e = high (a .width .bits) (a .a) (omega (arith, c .before .before .before .before .before .before .before .half .ensures)) in
+    let e = signed-high (a .width .bits) (a .a) (omega (arith, c .before .before .before .before .before .before .before .half .ensures)) in
     put-as (ap (λ (n : ℕ). 45 ∷ decimal n) (c .before .before .before .sub .ensures) ∙ sym e) (c .before .before .put-one .ensures)
 
 pub put-signed-spec : {M : Type 1} → statement M

@@ -1,0 +1,6 @@
+pub mod Accepted
+pub mod Back
+pub mod Pieces
+pub mod Rows
+pub mod Tokens
+pub mod Worded

@@ -1,0 +1,31 @@
+-- A line that says just a rule, and the name that may stand before it.
+use mathlib.Core.Bool.{true, false}
+use mathlib.Core.List.{List}
+use mathlib.Core.Path.{_≡_}
+use Prim.Native.Nat.{ℕ}
+use lib.ListN.{length}
+use Rattle.rule.specs.declared.Rule.{Rule}
+use Rattle.grammar.specs.Kinds.{NAME}
+use Rattle.token.specs.declared.Token.{Token}
+use Rattle.token.specs.Token.{WORD, kind}
+use Rattle.scan.specs.declared.Name.{Name}
+use Rattle.scan.specs.Scan.{started, steps, withToken}
+use Rattle.line.specs.declared.Line.{Line}
+use Rattle.line.specs.declared.Statement.the-variants as said
+
+abbrev pub says : Name → Rule → Line
+says name r = record { statement = said.Rule r; name = name }
+
+abbrev pub unnamed : Name
+unnamed = record { named = false; from = 0; to = 0 }
+
+-- the name that the letters at the start of a line are
+abbrev pub named : List ℕ → Name
+named a = record { named = true; from = 0; to = length a }
+
+-- what is read as a name: one token, which is neither a number nor a word of the grammar
+pub record IsName (a : List ℕ) : Type 0 where
+  pub token : Token
+  pub one : steps started 0 a ≡ withToken started token
+  pub word : token .class ≡ WORD
+  pub other : kind token false ≡ NAME
