@@ -13,28 +13,63 @@ use Rattle.word.specs.Word.{IsWidth, top}
 use Rattle.word.proofs.Widths.{top-suc}
 use Rattle.rule.specs.declared.Rule.{Rule}
 use Rattle.accept.specs.Accept.{acceptable}
-use Rattle.numeral.specs.Numeral as numeral
-use Rattle.grammar.specs.Kinds.{END}
-use Rattle.token.specs.Token.{BLANK, token}
-use Rattle.scan.specs.Scan.{amount, closed, scanned, started, steps}
+use Rattle.numeral.specs.declared.Numeral.{Numeral}
+use Rattle.numeral.specs.Numeral.{digit, next, start, valueOf}
+use Rattle.grammar.specs.Grammar.{ROWS, find, follow, isWatts, kindOf, rowAt, startAt}
+use Rattle.grammar.specs.Kinds.{END, NAME, packedFrom}
+use Rattle.token.specs.Token.{BLANK, SIGN, WORD, begun, classOf, isBlank, isSign, isWord, kind, textKind, token}
+use Rattle.token.specs.Token as tokens
+use Rattle.scan.specs.declared.Scan.{Scan}
+use Rattle.scan.specs.Scan.{accepted, amount, closed, followed, isNumber, placed, scan, scanned, started, step, steps, withToken}
+use Rattle.scan.specs.Scan as scanning
 use Rattle.line.specs.Line.{LIMIT, read}
 use Rattle.wording.specs.Wording.{ROOM, ruleText}
 use Rattle.wording.proofs.Sizes.{few-rule}
 use Rattle.echo.specs.Echo.{IsName, named, says, unnamed}
-use Rattle.echo.proofs.Accepted.{accepted}
+use Rattle.echo.proofs.Accepted as rules
 use Rattle.echo.proofs.Pieces.{Piece, follows, spaced}
 use Rattle.echo.proofs.Rows.{Opening, lineOf, opened}
+use Rattle.echo.proofs.Tokens.{steps-more}
 use Rattle.echo.proofs.Worded.{Worded, worded}
 
 -- the start of a line that ends at a place
 abbrev atStart : ℕ → Opening
 atStart end =
-    record { token = token BLANK 0 0 numeral.start; name = unnamed; first = amount 0; second = amount 0; mistake = record { at = 0; expected = END }; at = 0; end = end }
+    record { token = token BLANK 0 0 start; name = unnamed; first = amount 0; second = amount 0; mistake = record { at = 0; expected = END }; at = 0; end = end }
+
+-- after a name that ends at a place, its colon and a blank
+abbrev atRule : (to end : ℕ) → Opening
+atRule to end =
+    record { token = begun BLANK 32 (suc to); name = record { named = true; from = 0; to = to }; first = amount 0; second = amount 0; mistake = record { at = 0; expected = END }; at = suc (suc to); end = end }
+
+-- the colon ends the name
+abbrev atColon : (to : ℕ) → Scan
+atColon to =
+    scan (begun SIGN 58 to) (follow (startAt ROWS) NAME) false (record { named = true; from = 0; to = to }) (amount 0) (amount 0) false (record { at = 0; expected = END })
+
+ends-name : (text : ℕ) (n : Numeral) (to : ℕ) → kind (token WORD 0 text n) false ≡ NAME → step (withToken started (token WORD 0 text n)) 58 to ≡ atColon to
+unfolding step closed withToken accepted followed scanning.named isNumber started classOf isWord isSign isBlank find follow isWatts
+ends-name text n to e = ap (λ (k : ℕ). withToken (accepted (withToken started (token WORD 0 text n)) k to) (begun SIGN 58 to)) e
+
+-- and the blank ends the colon
+ends-colon : (to end : ℕ) → step (atColon to) 32 (suc to) ≡ opened true (atRule to end)
+unfolding step closed withToken accepted followed placed begun tokens.opened classOf isWord isSign isBlank find follow isWatts rowAt kind textKind kindOf packedFrom next digit valueOf
+ends-colon to end = refl
+
+after-name : (a : List ℕ) → IsName a → (l : List ℕ) (end : ℕ) → steps started 0 (a ++ 58 ∷ 32 ∷ l) ≡ steps (opened true (atRule (length a) end)) (suc (suc (length a))) l
+unfolding steps
+after-name a n l end =
+    let to = length a in
+    steps-more started 0 a (58 ∷ 32 ∷ l)
+    ∙ ap (λ (k : ℕ). steps (steps started 0 a) k (58 ∷ 32 ∷ l)) (zero-add to)
+    ∙ ap (λ (s : Scan). steps (step (step s 58 to) 32 (suc to)) (suc (suc to)) l) (n .word)
+    ∙ ap (λ (s : Scan). steps (step s 32 (suc to)) (suc (suc to)) l) (ends-name (n .text) (n .numeral) to (n .name))
+    ∙ ap (λ (s : Scan). steps s (suc (suc to)) l) (ends-colon to end)
 
 module _ (w : ℕ) (width : IsWidth w) (r : Rule) (ok : acceptable w r ≡ true) where
   short : length (ruleText w r) ≤ ROOM
   short =
-      let a = accepted w r ok in
+      let a = rules.accepted w r ok in
       let m = pow-mono {i = w} {j = 64} (width .high) in
       few-rule w r (width .high) (omega (arith, a .c1-word, top-suc w)) (omega (arith, a .c2-word, top-suc w))
 
@@ -42,9 +77,22 @@ module _ (w : ℕ) (width : IsWidth w) (r : Rule) (ok : acceptable w r ≡ true)
   pub reads-back : read w (ruleText w r) ≡ says unnamed r
   unfolding read scanned started
   reads-back =
-      let q = worded w width r (accepted w r ok) in
+      let q = worded w width r (rules.accepted w r ok) in
       let end = length (ruleText w r) in
       rw (le-ltb LIMIT end (omega (arith, short)))
       (ap (λ (l : List ℕ). lineOf w (closed (steps started 0 l) end) end) (q .text)
-      ∙ ap (λ s. lineOf w s end) (follows started 0 (q .piece) (q .pieces) end refl (q .right))
+      ∙ ap (λ (s : Scan). lineOf w s end) (follows started 0 (q .piece) (q .pieces) end refl (q .right))
       ∙ q .says false (atStart end))
+
+  -- and with a name before it as that rule and that name, in a line that is not too long
+  pub reads-back-named : (a : List ℕ) → IsName a → length a + 2 + ROOM ≤ LIMIT → read w (a ++ 58 ∷ 32 ∷ ruleText w r) ≡ says (named a) r
+  unfolding read scanned begun tokens.opened
+  reads-back-named a n h =
+      let q = worded w width r (rules.accepted w r ok) in
+      let text : List ℕ = 58 ∷ 32 ∷ ruleText w r in
+      let end = length (a ++ text) in
+      rw (le-ltb LIMIT end (omega (arith, short, length-append a text)))
+      (ap (λ (s : Scan). lineOf w (closed s end) end) (after-name a n (ruleText w r) end)
+      ∙ ap (λ (l : List ℕ). lineOf w (closed (steps (opened true (atRule (length a) end)) (suc (suc (length a))) l) end) end) (q .text)
+      ∙ ap (λ (s : Scan). lineOf w s end) (follows (opened true (atRule (length a) end)) (suc (suc (length a))) (q .piece) (q .pieces) end refl (q .right))
+      ∙ q .says true (atRule (length a) end))

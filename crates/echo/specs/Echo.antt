@@ -5,9 +5,9 @@ use mathlib.Core.Path.{_≡_}
 use Prim.Native.Nat.{ℕ}
 use lib.ListN.{length}
 use Rattle.rule.specs.declared.Rule.{Rule}
+use Rattle.numeral.specs.declared.Numeral.{Numeral}
 use Rattle.grammar.specs.Kinds.{NAME}
-use Rattle.token.specs.declared.Token.{Token}
-use Rattle.token.specs.Token.{WORD, kind}
+use Rattle.token.specs.Token.{WORD, kind, token}
 use Rattle.scan.specs.declared.Name.{Name}
 use Rattle.scan.specs.Scan.{started, steps, withToken}
 use Rattle.line.specs.declared.Line.{Line}
@@ -23,9 +23,9 @@ unnamed = record { named = false; from = 0; to = 0 }
 abbrev pub named : List ℕ → Name
 named a = record { named = true; from = 0; to = length a }
 
--- what is read as a name: one token, which is neither a number nor a word of the grammar
+-- what is read as a name: the letters of one word, which is neither a number nor a word of the grammar
 pub record IsName (a : List ℕ) : Type 0 where
-  pub token : Token
-  pub one : steps started 0 a ≡ withToken started token
-  pub word : token .class ≡ WORD
-  pub other : kind token false ≡ NAME
+  pub text : ℕ
+  pub numeral : Numeral
+  pub word : steps started 0 a ≡ withToken started (token WORD 0 text numeral)
+  pub name : kind (token WORD 0 text numeral) false ≡ NAME
