@@ -4,3 +4,4 @@ pub mod Pieces
 pub mod Rows
 pub mod Tokens
 pub mod Worded
+pub mod Worked

@@ -40,7 +40,8 @@ use Rattle.token.specs.Token.{classOf, isBlank, isSign, isWord, opened, packed,
 use Rattle.line.specs.Rules.{signedWord}
 use Rattle.phrase.specs.Phrase.{decimal, signedly}
 use Rattle.phrase.proofs.Signed.{signed-high, signed-low}
-use Rattle.wording.specs.Wording.{atLeast, atMost, before, formText, ruleText}
+use Rattle.forms.specs.Forms.{formText}
+use Rattle.wording.specs.Wording.{atLeast, atMost, before, ruleText}
 use Rattle.echo.proofs.Accepted.{Acceptable}
 use Rattle.echo.proofs.Pieces.{AllRight, Piece, Right, known, number, spaced, the}
 use Rattle.echo.proofs.Rows.{Both, Opening, Say, integer, rows, signed-rows, signs}

@@ -7,7 +7,8 @@ use native.Mathlib.Omega.{arith}
 use borrow.Author.Tests.{eq-eqb, ne-eqb}
 use lib.Dec.{eqb}
 use Rattle.rule.specs.declared.Rule.{Rule}
-use Rattle.wording.specs.Wording.{atLeast, atMost, before, formText, ruleText}
+use Rattle.forms.specs.Forms.{formText}
+use Rattle.wording.specs.Wording.{atLeast, atMost, before, ruleText}
 
 module _ (w : ℕ) (r : Rule) where
   pub at-least : r .form ≡ 2 → r .c2 ≡ 0 → ruleText w r ≡ atLeast (r .sense) (r .c1)

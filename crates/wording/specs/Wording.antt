@@ -1,31 +1,13 @@
 -- A rule as people write it, by the rows of docs/VET.md, and a number as answers have it.
 use mathlib.Core.Bool.{_&&_, cond}
-use mathlib.Core.List.{List, [], _∷_, _++_}
-use Prim.Native.Nat.{ℕ}
+use mathlib.Core.List.{List, [], _++_}
+use Prim.Native.Nat.{ℕ, _+_}
 use lib.Dec.{eqb}
-use lib.ListN.{getD}
 use Rattle.rule.specs.declared.Rule.{Rule}
-use Rattle.numeral.specs.Digits.{digitsIn}
-use Rattle.phrase.specs.Phrase.{decimal, one, signedly, two}
 use Rattle.hex.specs.Text.{bytesOf}
-
--- The row of each form from 1 on, as written. 0 is no form.
-abbrev pub forms : (w c1 c2 : ℕ) → List (List ℕ)
-forms w c1 c2 =
-    []
-    ∷ two "x + " c1 " <= x + " c2
-    ∷ two "" c1 " <= x + " c2
-    ∷ two "x + " c1 " <= " c2
-    ∷ (bytesOf "signed x <= " ++ signedly w c1)
-    ∷ (signedly w c1 ++ bytesOf " <= signed x")
-    ∷ one "x = " c1
-    ∷ two "x & " c1 " = " c2
-    ∷ two "settled since " c1 " for " c2
-    ∷ []
-
--- a number that is no form has no row
-unfoldable pub formText : ℕ → Rule → List ℕ
-formText w r = getD (forms w (r .c1) (r .c2)) (r .form) []
+use Rattle.numeral.specs.Digits.{digitsIn}
+use Rattle.phrase.specs.Phrase.{decimal, one}
+use Rattle.forms.specs.Forms.{ROW, formText}
 
 -- what stands before the row of a form, for its sense
 unfoldable pub before : (sense : ℕ) → List ℕ
@@ -48,9 +30,10 @@ ruleText w r =
 unfoldable pub numberText : ℕ → List ℕ
 numberText x = decimal x ++ (bytesOf " (0x" ++ (digitsIn 16 x ++ bytesOf ")"))
 
--- the most bytes of a rule, `not settled since N for N` with twenty digits a number, and of a number in both ways
+-- the most bytes of a rule: `not ` and the longest row
 abbrev pub ROOM : ℕ
-ROOM = 63
+ROOM = 4 + ROW
 
+-- and of a number in both ways
 abbrev pub NUMBER : ℕ
 NUMBER = 41

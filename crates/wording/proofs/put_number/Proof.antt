@@ -8,7 +8,7 @@ use Rattle.hex.specs.Text.{bytesOf}
 use Rattle.phrase.specs.Phrase.{decimal}
 use Rattle.wording.specs.Wording.{numberText}
 use Rattle.phrase.proofs.Putting.{put-as, put-length, put-then}
-use Rattle.wording.proofs.Sizes.{few-decimal, few-hexadecimal}
+use Rattle.phrase.proofs.Sizes.{few-decimal, few-hexadecimal}
 use Rattle.wording.proofs.put_number.Statement.{statement}
 use Rattle.wording.proofs.put_number.Tie as tie
 use Rattle.wording.proofs.put_number.Reads as reads

@@ -9,12 +9,12 @@ use lib.ListN.{List·getD-eq-default, getD, length, length-append}
 use Rattle.rule.specs.declared.Rule.{Rule}
 use Rattle.hex.specs.Text.{bytesOf}
 use Rattle.phrase.specs.Phrase.{signedly}
-use Rattle.wording.specs.Wording.{formText, forms}
+use Rattle.forms.specs.Forms.{formText, forms}
 use Rattle.phrase.proofs.Putting.{put-as, put-length, put-nothing, put-then}
-use Rattle.wording.proofs.put_form.Statement.{statement}
-use Rattle.wording.proofs.put_form.Tie as tie
-use Rattle.wording.proofs.put_form.Reads as reads
-use Rattle.wording.proofs.put_form.Lts as lts
+use Rattle.forms.proofs.put_form.Statement.{statement}
+use Rattle.forms.proofs.put_form.Tie as tie
+use Rattle.forms.proofs.put_form.Reads as reads
+use Rattle.forms.proofs.put_form.Lts as lts
 
 row : (w : ℕ) (r : Rule) (k : ℕ) → r .form ≡ k → formText w r ≡ getD (forms w (r .c1) (r .c2)) k []
 unfolding formText
