@@ -21,7 +21,7 @@ pub const NUMBER: usize = 41;
 pub fn put_rule(out: &mut [u8], at: usize, rule: Rule, width: Width) -> usize
     requires { ⌜ IsWidth (width .bits) ⌝ }
     requires { ⌜ at + ROOM ≤ length (now out) ⌝ }
-    ensures { λ r. ⌜ Put (now (out .entry)) at (ruleText (width .bits) rule) (now (out .exit)) r ⌝ }
+    ensures { λ r. ⌜ Put (now (out .entry)) at (ruleText (width .bits) rule) (now (out .exit)) r × (r ≤ at + ROOM) ⌝ }
 {
     let sense = rule.sense;
     if rule.form == 2 {
@@ -41,7 +41,7 @@ pub fn put_rule(out: &mut [u8], at: usize, rule: Rule, width: Width) -> usize
 // A number, as answers have it: `11 (0xb)`.
 pub fn put_number(out: &mut [u8], at: usize, x: u64) -> usize
     requires { ⌜ at + NUMBER ≤ length (now out) ⌝ }
-    ensures { λ r. ⌜ Put (now (out .entry)) at (numberText x) (now (out .exit)) r ⌝ }
+    ensures { λ r. ⌜ Put (now (out .entry)) at (numberText x) (now (out .exit)) r × (r ≤ at + NUMBER) ⌝ }
 {
     let decimal = put_digits(&mut *out, at, 10, x);
     let opened = put_text(&mut *out, decimal, b" (0x");

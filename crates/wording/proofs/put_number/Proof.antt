@@ -9,6 +9,7 @@ use Rattle.phrase.specs.Phrase.{decimal}
 use Rattle.wording.specs.Wording.{numberText}
 use Rattle.phrase.proofs.Putting.{put-as, put-length, put-then}
 use Rattle.phrase.proofs.Sizes.{few-decimal, few-hexadecimal}
+use Rattle.wording.proofs.Sizes.{few-number}
 use Rattle.wording.proofs.put_number.Statement.{statement}
 use Rattle.wording.proofs.put_number.Tie as tie
 use Rattle.wording.proofs.put_number.Reads as reads
@@ -50,7 +51,9 @@ same-length c = search needs
 returns : tie.Need-returns
 unfolding numberText bytesOf
 returns c =
-    put-then (c .before .before .before .before .before .before .before .before .before .before .before .before .before .before .before .before .put-digits .ensures) (put-then (c .before .before .before .before .before .before .before .before .before .before .before .put-text .ensures) (put-then (c .before .before .before .before .before .before .before .put-digits2 .ensures) (c .before .before .put-text2 .ensures)))
+    let x = c .before .before .before .before .before .before .before .before .before .before .before .before .before .before .before .before .before .before .before .args .x in
+    let p = put-then (c .before .before .before .before .before .before .before .before .before .before .before .before .before .before .before .before .put-digits .ensures) (put-then (c .before .before .before .before .before .before .before .before .before .before .before .put-text .ensures) (put-then (c .before .before .before .before .before .before .before .put-digits2 .ensures) (c .before .before .put-text2 .ensures))) in
+    (p, omega (arith, p .1, few-number x (omega arith)))
 
 pub put-number-spec : {M : Type 1} → statement M
 put-number-spec =

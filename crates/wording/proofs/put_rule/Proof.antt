@@ -10,7 +10,7 @@ use lib.Dec.{eqb}
 use lib.ListN.{length}
 use Rattle.phrase.proofs.Putting.{put-as, put-length, put-then}
 use Rattle.forms.proofs.Sizes.{few-text}
-use Rattle.wording.proofs.Sizes.{few-at-least, few-at-most, few-before}
+use Rattle.wording.proofs.Sizes.{few-at-least, few-at-most, few-before, few-rule}
 use Rattle.wording.proofs.Texts.{at-least, at-most, by-form}
 use Rattle.wording.proofs.put_rule.Statement.{statement}
 use Rattle.wording.proofs.put_rule.Tie as tie
@@ -32,7 +32,10 @@ same-length : tie.Need-same-length
 same-length c = search needs
 
 returns : tie.Need-returns
-returns c = let a = c .before .before .before .before .before .before .before .before .before .args in put-as (sym (at-least (a .width .bits) (a .rule) (omega arith) (omega arith))) (c .before .before .put-at-least .ensures)
+returns c =
+    let a = c .before .before .before .before .before .before .before .before .before .args in
+    let p = put-as (sym (at-least (a .width .bits) (a .rule) (omega arith) (omega arith))) (c .before .before .put-at-least .ensures) in
+    (p, omega (arith, p .1, few-rule (a .width .bits) (a .rule) (c .before .before .before .before .before .before .before .before .before .pre .0 .high) (omega arith) (omega arith)))
 
 put-at-most-requires : tie.Need-put-at-most-requires
 put-at-most-requires c κs =
@@ -42,7 +45,10 @@ same-length-2 : tie.Need-same-length-2
 same-length-2 c = search needs
 
 returns-2 : tie.Need-returns-2
-returns-2 c = let a = c .before .before .before .before .before .before .before .before .before .before .before .args in put-as (sym (at-most (a .width .bits) (a .rule) (omega arith) (omega arith))) (c .before .before .put-at-most .ensures)
+returns-2 c =
+    let a = c .before .before .before .before .before .before .before .before .before .before .before .args in
+    let p = put-as (sym (at-most (a .width .bits) (a .rule) (omega arith) (omega arith))) (c .before .before .put-at-most .ensures) in
+    (p, omega (arith, p .1, few-rule (a .width .bits) (a .rule) (c .before .before .before .before .before .before .before .before .before .before .before .pre .0 .high) (omega arith) (omega arith)))
 
 put-before-requires : tie.Need-put-before-requires
 put-before-requires c κs = let a = c .before .before .before .before .before .before .args in omega (arith, few-before (a .rule .sense))
@@ -62,7 +68,8 @@ returns-3 c =
     let r = a .rule in
     let least = ⊎-elim (λ w. not-second (r .form) 2 (r .c2) (w .2 .left)) (λ w. not-first (r .form) 2 (r .c2) (w .left)) (c .before .before .before .before .before .before .before .before .before .before .if1 .came) in
     let most = ⊎-elim (λ w. not-second (r .form) 3 (r .c1) (w .2 .left)) (λ w. not-first (r .form) 3 (r .c1) (w .left)) (c .before .before .before .before .before .before .before .before .if3 .came) in
-    put-as (sym (by-form (a .width .bits) r least most)) (put-then (c .before .before .before .before .before .before .put-before .ensures) (c .before .before .put-form .ensures))
+    let p = put-as (sym (by-form (a .width .bits) r least most)) (put-then (c .before .before .before .before .before .before .put-before .ensures) (c .before .before .put-form .ensures)) in
+    (p, omega (arith, p .1, few-rule (a .width .bits) r (c .before .before .before .before .before .before .before .before .before .before .before .before .before .pre .0 .high) (omega arith) (omega arith)))
 
 pub put-rule-spec : {M : Type 1} → statement M
 put-rule-spec =
