@@ -1,15 +1,15 @@
 -- What is written for a rule reads back as that rule, with a name before it and without: its pieces are followed from the start of the line or
 -- from after the name's colon, and they say just that rule. Assumes nothing.
-use mathlib.Core.Path.{_≡_, refl, sym, ap, _∙_}
+use mathlib.Core.Path.{_≡_, refl, ap, _∙_}
 use mathlib.Core.Bool.{true, false}
-use mathlib.Core.List.{List, [], _∷_, _++_}
-use Prim.Native.Nat.{ℕ, suc, _+_, _-_, _^_, _≤_}
+use mathlib.Core.List.{List, _∷_, _++_}
+use Prim.Native.Nat.{ℕ, suc, _+_, _-_, _≤_}
 use native.Mathlib.Nat.{zero-add}
 use native.Mathlib.Omega.{arith}
-use borrow.Author.Tests.{le-ltb, ne-eqb}
+use borrow.Author.Tests.{le-ltb}
 use lib.ListN.{length, length-append}
 use lib.Pow.{pow-mono}
-use Rattle.word.specs.Word.{IsWidth, top}
+use Rattle.word.specs.Word.{IsWidth}
 use Rattle.word.proofs.Widths.{top-suc}
 use Rattle.rule.specs.declared.Rule.{Rule}
 use Rattle.accept.specs.Accept.{acceptable}
@@ -27,10 +27,10 @@ use Rattle.wording.specs.Wording.{ROOM, ruleText}
 use Rattle.wording.proofs.Sizes.{few-rule}
 use Rattle.echo.specs.Echo.{IsName, named, says, unnamed}
 use Rattle.echo.proofs.Accepted as rules
-use Rattle.echo.proofs.Pieces.{Piece, follows, spaced}
+use Rattle.echo.proofs.Pieces.{follows}
 use Rattle.echo.proofs.Rows.{Opening, lineOf, opened}
 use Rattle.echo.proofs.Tokens.{steps-more}
-use Rattle.echo.proofs.Worded.{Worded, worded}
+use Rattle.echo.proofs.Worded.{worded}
 
 -- the start of a line that ends at a place
 abbrev atStart : ℕ → Opening

@@ -1,13 +1,13 @@
 -- The pieces of a text, words, signs and numbers with a blank between, are followed along the grammar one by one: each is one token, the
 -- blank after it ends it, and its kind is known. Assumes nothing.
-use mathlib.Core.Path.{_≡_, refl, sym, ap, ap₂, _∙_}
+use mathlib.Core.Path.{_≡_, refl, ap, _∙_}
 use mathlib.Core.Bool.{Bool, true, false, _&&_, cond}
 use mathlib.Core.List.{List, [], _∷_, _++_}
-use Prim.Native.Nat.{ℕ, zero, suc, _+_, _-_, _*_, _/_, _%_, _^_, _≤_, _<_}
+use Prim.Native.Nat.{ℕ, zero, suc, _+_, _-_, _/_, _%_, _^_, _≤_, _<_}
 use native.Mathlib.Decide.{decLt}
 use native.Mathlib.Nat.{mod-lt}
 use native.Mathlib.Omega.{arith}
-use borrow.Author.Tests.{eq-eqb, eqb-true, le-leb, le-ltb, leb-true, lt-ltb, ne-eqb}
+use borrow.Author.Tests.{eqb-true, le-leb, le-ltb, leb-true, lt-ltb, ne-eqb}
 use lib.Dec.{eqb, leb}
 use lib.ListN.{getD, length}
 use Rattle.word.proofs.Tests.{both-pass}
@@ -19,23 +19,7 @@ use Rattle.numeral.proofs.Quotients.{digits-back, last-digit, length-more, minu
 use Rattle.grammar.specs.Grammar.{isWatts}
 use Rattle.grammar.specs.Kinds.{AMOUNT, NEGATIVE, NUMBER, texts}
 use Rattle.token.specs.declared.Token.{Token}
-use Rattle.token.specs.Token.{
-  BLANK,
-  COMMENT,
-  SIGN,
-  STRAY,
-  WORD,
-  begun,
-  classOf,
-  isBlank,
-  isSign,
-  isWord,
-  kind,
-  kindOfNumber,
-  opened,
-  textKind,
-  token,
-}
+use Rattle.token.specs.Token.{BLANK, COMMENT, SIGN, STRAY, WORD, begun, classOf, isBlank, isSign, isWord, kind, kindOfNumber, opened, textKind, token}
 use Rattle.scan.specs.declared.Scan.{Scan}
 use Rattle.scan.specs.Scan.{accepted, closed, step, steps, withToken}
 use Rattle.phrase.specs.Phrase.{decimal}

@@ -8,21 +8,7 @@ use Rattle.word.specs.declared.Found.the-variants.{At}
 use Rattle.rule.specs.declared.Rule.{Rule}
 use Rattle.rule.specs.Meaning.{rule}
 use Rattle.grammar.specs.Grammar.{NAME-ROW, ROWS, find, follow, isWatts, isWhole, rowAt, startAt}
-use Rattle.grammar.specs.Kinds.{
-  ABOVE,
-  AND,
-  AT-LEAST,
-  AT-MOST,
-  BELOW,
-  EQUALS,
-  FOR,
-  NOT,
-  PLUS,
-  SETTLED,
-  SIGNED,
-  SINCE,
-  X,
-}
+use Rattle.grammar.specs.Kinds.{ABOVE, AND, AT-LEAST, AT-MOST, BELOW, EQUALS, FOR, NOT, PLUS, SETTLED, SIGNED, SINCE, X}
 use Rattle.token.specs.declared.Token.{Token}
 use Rattle.scan.specs.declared.Amount.{Amount}
 use Rattle.scan.specs.declared.Mistake.{Mistake}

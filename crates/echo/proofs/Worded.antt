@@ -1,15 +1,14 @@
 -- Every rule that a sheet accepts has a text of pieces that say just that rule: the row of its form, or a sign where nothing is added to x. A
 -- signed number is the one that the word is read as, and the word of that number is the word. Assumes nothing.
-use mathlib.Core.Path.{_≡_, refl, sym, ap, _∙_}
-use mathlib.Core.Bool.{Bool, true, false, not, _&&_, _||_, cond}
+use mathlib.Core.Path.{_≡_, refl, ap}
+use mathlib.Core.Bool.{Bool, true, false, not, _&&_}
 use mathlib.Core.List.{List, [], _∷_, _++_}
 use mathlib.Core.Logic.{⊎-elim}
 use Prim.Native.Nat.{ℕ, zero, suc, _+_, _-_, _^_, _≤_, _<_}
 use native.Mathlib.Decide.{decLt}
 use native.Mathlib.Omega.{arith}
-use borrow.Author.Tests.{eqb-true, le-leb, le-ltb, lt-ltb}
-use lib.Dec.{eqb, eqb·suc-zero, leb, ltb}
-use lib.ListN.{length}
+use borrow.Author.Tests.{le-leb, lt-ltb}
+use lib.Dec.{eqb, eqb·suc-zero}
 use lib.Pow.{pow-mono}
 use Rattle.word.specs.Word.{IsWidth, half, minus, top}
 use Rattle.word.specs.declared.Found.the-variants.{At}
@@ -20,25 +19,10 @@ use Rattle.rule.specs.Meaning.{rule}
 use Rattle.hex.specs.Text.{bytesOf}
 use Rattle.numeral.specs.Numeral.{afterZero, belowZero, digit, next, numeralFrom, pointed, valueOf}
 use Rattle.grammar.specs.Grammar.{find, kindOf}
-use Rattle.grammar.specs.Kinds.{
-  ABOVE,
-  AND,
-  AT-LEAST,
-  AT-MOST,
-  BELOW,
-  EQUALS,
-  FOR,
-  NOT,
-  PLUS,
-  SETTLED,
-  SIGNED,
-  SINCE,
-  X,
-  packedFrom,
-}
+use Rattle.grammar.specs.Kinds.{ABOVE, AND, AT-LEAST, AT-MOST, BELOW, EQUALS, FOR, NOT, PLUS, SETTLED, SIGNED, SINCE, X, packedFrom}
 use Rattle.token.specs.Token.{classOf, isBlank, isSign, isWord, opened, packed, textKind}
 use Rattle.line.specs.Rules.{signedWord}
-use Rattle.phrase.specs.Phrase.{decimal, signedly}
+use Rattle.phrase.specs.Phrase.{signedly}
 use Rattle.phrase.proofs.Signed.{signed-high, signed-low}
 use Rattle.forms.specs.Forms.{formText}
 use Rattle.wording.specs.Wording.{atLeast, atMost, before, ruleText}

@@ -1,6 +1,6 @@
 -- `put_form` meets its contract: each arm has its row. Assumes nothing.
-use mathlib.Core.Path.{_≡_, refl, sym, ap, _∙_}
-use mathlib.Core.List.{List, [], append-assoc}
+use mathlib.Core.Path.{_≡_, sym, ap}
+use mathlib.Core.List.{[]}
 use Prim.Native.Nat.{ℕ, suc, _≤_}
 use native.Mathlib.Decide.{decLe}
 use native.Mathlib.Omega.{arith}
@@ -13,8 +13,6 @@ use Rattle.forms.specs.Forms.{formText, forms}
 use Rattle.phrase.proofs.Putting.{put-as, put-length, put-nothing, put-then}
 use Rattle.forms.proofs.put_form.Statement.{statement}
 use Rattle.forms.proofs.put_form.Tie as tie
-use Rattle.forms.proofs.put_form.Reads as reads
-use Rattle.forms.proofs.put_form.Lts as lts
 
 row : (w : ℕ) (r : Rule) (k : ℕ) → r .form ≡ k → formText w r ≡ getD (forms w (r .c1) (r .c2)) k []
 unfolding formText

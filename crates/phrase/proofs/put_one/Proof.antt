@@ -1,5 +1,4 @@
 -- `put_one` meets its contract: the number stands where the text ends. Assumes nothing.
-use mathlib.Core.List.{_++_}
 use native.Mathlib.Omega.{arith}
 use borrow.Author.Needs.{needs}
 use lib.ListN.{length-append}

@@ -10,8 +10,6 @@ use Rattle.phrase.proofs.Putting.{put-as}
 use Rattle.phrase.proofs.Signed.{signed-high, signed-low}
 use Rattle.phrase.proofs.put_signed.Statement.{statement}
 use Rattle.phrase.proofs.put_signed.Tie as tie
-use Rattle.phrase.proofs.put_signed.Reads as reads
-use Rattle.phrase.proofs.put_signed.Lts as lts
 
 half-requires : tie.Need-half-requires
 half-requires c κs = search needs

@@ -1,8 +1,7 @@
 -- `put_text` meets its contract. The loop's invariant: the letters left, written from here over what stands, are all letters written over
 -- what stood. Assumes nothing.
-use mathlib.Core.Path.{_≡_, refl, sym, ap, ap₂, _∙_}
-use mathlib.Core.List.{List}
-use Prim.Native.Nat.{ℕ, suc, _+_, _-_, _≤_, _<_}
+use mathlib.Core.Path.{_≡_, refl, sym, ap, _∙_}
+use Prim.Native.Nat.{ℕ, _+_, _-_, _≤_}
 use native.Mathlib.Nat.{add-suc, add-zero}
 use native.Mathlib.Numerals.{add-one}
 use native.Mathlib.Omega.{arith}
@@ -11,8 +10,6 @@ use lib.ListN.{drop, getD, length, length-set}
 use lib.Seq.{drop-cons, drop-length, sets}
 use Rattle.phrase.proofs.put_text.Statement.{statement}
 use Rattle.phrase.proofs.put_text.Tie as tie
-use Rattle.phrase.proofs.put_text.Reads as reads
-use Rattle.phrase.proofs.put_text.Lts as lts
 
 abbrev Inv-loop : tie.InvT-loop
 Inv-loop out₀ at text i₀ i-end out i =

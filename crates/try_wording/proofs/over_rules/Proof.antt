@@ -1,6 +1,5 @@
 -- `over_rules` is safe and ends: the measure is the numbers left. Assumes nothing.
 use Prim.Native.Nat.{_-_}
-use native.Mathlib.Omega.{arith}
 use borrow.Author.Needs.{needs}
 use Rattle.try_wording.proofs.over_rules.Statement.{statement}
 use Rattle.try_wording.proofs.over_rules.Tie as tie

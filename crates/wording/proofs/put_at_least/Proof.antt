@@ -11,8 +11,6 @@ use Rattle.wording.specs.Wording.{atLeast}
 use Rattle.phrase.proofs.Putting.{put-as}
 use Rattle.wording.proofs.put_at_least.Statement.{statement}
 use Rattle.wording.proofs.put_at_least.Tie as tie
-use Rattle.wording.proofs.put_at_least.Reads as reads
-use Rattle.wording.proofs.put_at_least.Lts as lts
 
 plain : (sense n : ℕ) → sense ≡ 0 → atLeast sense n ≡ one "x >= " n
 unfolding atLeast

@@ -11,8 +11,6 @@ use Rattle.wording.specs.Wording.{atMost}
 use Rattle.phrase.proofs.Putting.{put-as}
 use Rattle.wording.proofs.put_at_most.Statement.{statement}
 use Rattle.wording.proofs.put_at_most.Tie as tie
-use Rattle.wording.proofs.put_at_most.Reads as reads
-use Rattle.wording.proofs.put_at_most.Lts as lts
 
 plain : (sense n : ℕ) → sense ≡ 0 → atMost sense n ≡ one "x <= " n
 unfolding atMost

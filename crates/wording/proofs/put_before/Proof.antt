@@ -1,8 +1,7 @@
 -- `put_before` meets its contract: the sense picks the row. Assumes nothing.
-use mathlib.Core.Path.{_≡_, refl, sym, ap}
-use mathlib.Core.List.{List, []}
+use mathlib.Core.Path.{_≡_, sym, ap}
+use mathlib.Core.List.{[]}
 use Prim.Native.Nat.{ℕ}
-use native.Mathlib.Nat.{add-zero}
 use native.Mathlib.Omega.{arith}
 use borrow.Author.Needs.{needs}
 use borrow.Author.Tests.{eq-eqb, ne-eqb}
@@ -12,8 +11,6 @@ use Rattle.wording.specs.Wording.{before}
 use Rattle.phrase.proofs.Putting.{put-as, put-nothing}
 use Rattle.wording.proofs.put_before.Statement.{statement}
 use Rattle.wording.proofs.put_before.Tie as tie
-use Rattle.wording.proofs.put_before.Reads as reads
-use Rattle.wording.proofs.put_before.Lts as lts
 
 plain : (sense : ℕ) → sense ≡ 0 → before sense ≡ []
 unfolding before

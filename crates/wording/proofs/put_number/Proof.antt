@@ -1,19 +1,13 @@
 -- `put_number` meets its contract: its four parts stand one after the other. Assumes nothing.
-use mathlib.Core.List.{_++_, append-assoc}
-use Prim.Native.Nat.{ℕ, _+_}
 use native.Mathlib.Omega.{arith}
 use borrow.Author.Needs.{needs}
-use Rattle.numeral.specs.Digits.{digitsIn}
 use Rattle.hex.specs.Text.{bytesOf}
-use Rattle.phrase.specs.Phrase.{decimal}
 use Rattle.wording.specs.Wording.{numberText}
-use Rattle.phrase.proofs.Putting.{put-as, put-length, put-then}
+use Rattle.phrase.proofs.Putting.{put-length, put-then}
 use Rattle.phrase.proofs.Sizes.{few-decimal, few-hexadecimal}
 use Rattle.wording.proofs.Sizes.{few-number}
 use Rattle.wording.proofs.put_number.Statement.{statement}
 use Rattle.wording.proofs.put_number.Tie as tie
-use Rattle.wording.proofs.put_number.Reads as reads
-use Rattle.wording.proofs.put_number.Lts as lts
 
 put-digits-requires : tie.Need-put-digits-requires
 put-digits-requires c κs = ((omega arith, omega arith), omega (arith, few-decimal (c .before .before .args .x) (omega arith)))

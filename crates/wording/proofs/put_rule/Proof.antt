@@ -1,21 +1,18 @@
 -- `put_rule` meets its contract: the tests pick the row, and the longest row has the room that is asked for. Assumes nothing.
-use mathlib.Core.Path.{_≡_, sym, ap, _∙_}
-use mathlib.Core.Bool.{Bool, false, _&&_, and-false}
+use mathlib.Core.Path.{_≡_, sym}
+use mathlib.Core.Bool.{false, _&&_, and-false}
 use mathlib.Core.Logic.{⊎-elim}
-use Prim.Native.Nat.{ℕ, _+_, _-_, _^_, _≤_}
+use Prim.Native.Nat.{ℕ, _-_}
 use native.Mathlib.Omega.{arith}
 use borrow.Author.Needs.{needs}
 use borrow.Author.Tests.{ne-eqb}
 use lib.Dec.{eqb}
-use lib.ListN.{length}
 use Rattle.phrase.proofs.Putting.{put-as, put-length, put-then}
 use Rattle.forms.proofs.Sizes.{few-text}
 use Rattle.wording.proofs.Sizes.{few-at-least, few-at-most, few-before, few-rule}
 use Rattle.wording.proofs.Texts.{at-least, at-most, by-form}
 use Rattle.wording.proofs.put_rule.Statement.{statement}
 use Rattle.wording.proofs.put_rule.Tie as tie
-use Rattle.wording.proofs.put_rule.Reads as reads
-use Rattle.wording.proofs.put_rule.Lts as lts
 
 -- either number is another one
 not-first : (f g a : ℕ) → (f ≡ g → ⊥) → (eqb f g && eqb a 0) ≡ false
