@@ -1,0 +1,4 @@
+pub mod Heard
+pub mod OnPage
+pub mod Said
+pub mod Unique
