@@ -1,0 +1,211 @@
+// The input read part by part, its lines taken one after another.
+ghost use Prim.Native.Nat.{_<_, _≤_};
+ghost use lib.ListN.{length};
+ghost use Rattle.io.specs.Counts.{Counts};
+ghost use Rattle.word.specs.Word.{IsWidth};
+use crate::answers;
+use crate::mistakes;
+use dialogue::Dialogue;
+use libc::STDIN_FILENO;
+use sheet::Sheet;
+use word::Width;
+
+// The dialogue; what is held of a line, one byte more than a line may have, so that memory does not grow with a line; the number of lines; the status
+// so far; and whether more is read.
+pub struct Run {
+    pub dialogue: Dialogue,
+    pub bytes: [u8; Run::MOST],
+    pub len: usize,
+    pub line: u64,
+    pub status: u8,
+    pub more: bool,
+}
+
+impl Run {
+    pub const MOST: usize = line::LIMIT + 1;
+
+    // How many words are listed at most.
+    pub const WORDS: usize = 512;
+
+    // A read that failed, and a mistake.
+    pub const FAILED: u8 = 1;
+
+    pub const MISTAKE: u8 = 2;
+
+    pub fn start() -> Run {
+        let dialogue = Dialogue::start();
+        Run {
+            dialogue,
+            bytes: [0; Run::MOST],
+            len: 0,
+            line: 0,
+            status: 0,
+            more: true,
+        }
+    }
+}
+
+// The status as a digit.
+pub fn digit(status: u8) -> u8 {
+    if status == Run::FAILED {
+        return b'1';
+    }
+    if status == Run::MISTAKE {
+        return b'2';
+    }
+    b'0'
+}
+
+// How many turns are left: none where no more is read, and else a number that no run uses up, since a loop has to end.
+pub fn left(turns: u64, more: bool) -> u64
+    requires { ⌜ 0 < turns ⌝ }
+    ensures { λ r. ⌜ r < turns ⌝ }
+{
+    if more {
+        return turns - 1;
+    }
+    0
+}
+
+// One read, and the lines that it completes. At the end of the input the last line may lack its byte 10.
+pub fn turn(run: Run) -> Run {
+    let mut input = io::large_buffer();
+    let got = libc::read(STDIN_FILENO, &mut input);
+    let error = os::errno();
+    let n = io::count(got, &input);
+    if got < 0 {
+        return unread(run, error);
+    }
+    if n == 0 {
+        return last_line(run);
+    }
+    over_part(run, &input[..n])
+}
+
+// A read was interrupted, and is tried again, or failed.
+fn unread(run: Run, error: i32) -> Run {
+    let mut run = run;
+    if error == libc::EINTR {
+        return run;
+    }
+    os::fail(b"vet: standard input");
+    run.status = Run::FAILED;
+    run.more = false;
+    run
+}
+
+// The last line, where one was begun.
+fn last_line(run: Run) -> Run {
+    let mut after = run;
+    if 0 < run.len {
+        after = end_line(run);
+    }
+    after.more = false;
+    after
+}
+
+// The lines of a part.
+fn over_part(run: Run, part: &[u8]) -> Run {
+    let mut run = run;
+    let mut from: usize = 0;
+    while from < part.len() {
+        let to = line_end(part, from);
+        run = hold(run, &part[from..to]);
+        if to < part.len() {
+            run = end_line(run);
+        }
+        from = to + 1;
+    }
+    run
+}
+
+// Where the line that begins at a place ends.
+fn line_end(part: &[u8], from: usize) -> usize
+    requires { ⌜ from ≤ length (now part) ⌝ }
+    ensures { λ r. ⌜ (from ≤ r) × (r ≤ length (now (part .entry))) ⌝ }
+{
+    let mut i = from;
+    while i < part.len() {
+        if part[i] == 10 {
+            return i;
+        }
+        i += 1;
+    }
+    i
+}
+
+// A part of a line more; what is past the most is dropped.
+fn hold(run: Run, part: &[u8]) -> Run {
+    let mut run = run;
+    let mut bytes = run.bytes;
+    let mut len = run.len;
+    let mut i: usize = 0;
+    while i < part.len() {
+        if len < Run::MOST {
+            bytes[len] = part[i];
+            len += 1;
+        }
+        i += 1;
+    }
+    run.bytes = bytes;
+    run.len = len;
+    run
+}
+
+// The line that is held is whole. After a mistake none is taken.
+fn end_line(run: Run) -> Run {
+    let mut run = run;
+    let bytes = run.bytes;
+    let len = run.len;
+    run.len = 0;
+    run.line = std::num::wrapping_add_u64(run.line, 1);
+    if run.status != 0 {
+        return run;
+    }
+    let n = within(len, &bytes);
+    take_line(run, &bytes[..n])
+}
+
+// Takes a line, without its byte 10, and answers it.
+fn take_line(run: Run, text: &[u8]) -> Run {
+    let mut run = run;
+    let dialogue = run.dialogue;
+    let sheet = dialogue.sheet;
+    let read = line::read(text, width_of(sheet));
+    let statement = read.statement;
+    let mut numbers = [0u64; Sheet::LENT];
+    let mut words = [0u64; Run::WORDS];
+    let taken = dialogue.take(statement, &mut numbers, &mut words);
+    let after = taken.dialogue;
+    let response = taken.response;
+    run.dialogue = after;
+    answers::tell(after.sheet, statement, response, &numbers, &words);
+    if mistakes::say(run.line, text, statement, response, after.sheet) {
+        run.status = Run::MISTAKE;
+        run.more = false;
+    }
+    run
+}
+
+// The width of a word: the widest where no sheet is open.
+fn width_of(sheet: Sheet) -> Width
+    ensures { λ r. ⌜ IsWidth (r .bits) ⌝ }
+{
+    if sheet.width < 1 {
+        return Width { bits: 64 };
+    }
+    if 64 < sheet.width {
+        return Width { bits: 64 };
+    }
+    Width { bits: sheet.width }
+}
+
+// So many bytes of a buffer, or none where it has fewer.
+pub fn within(n: usize, buffer: &[u8]) -> usize
+    ensures { λ r. ⌜ Counts r (now (buffer .entry)) ⌝ }
+{
+    if buffer.len() < n {
+        return 0;
+    }
+    n
+}
