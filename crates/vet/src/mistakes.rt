@@ -65,7 +65,7 @@ const HIGH_WORD: u64 = 19;
 // Why a call was refused, by rows.
 fn say_refused(row: u64, width: u64) {
     let table =
-        b"\nno sheet is open: a line such as `word 16` opens one\na word has 1 to 64 bits\nthere is no such form of rule\n`not` does not stand before a rule on bits\na constant is above the top word of \n200 rules are in force\n32 marks are in force\nthere is no mark to go back to\nthe buffer is too short\nthe line is none of the frames\nthe sheet is of another edition\nnothing waits to come forward\na gate on watts wants words of 32 bits\na limit is not a number\n\n\nthe record is no sheet\na bit of the value is not in the mask\nthe word is above the top word of \n";
+        b"\nno sheet is open: a line such as `word 16` opens one\na word has 1 to 64 bits\nthere is no such form of rule\n`not` does not stand before a rule on bits\na constant is above the top word of \na sheet has room for 200 rules\n32 marks are in force\nthere is no mark to go back to\nthe buffer is too short\nthe line is none of the frames\nthe sheet is of another edition\nnothing waits to come forward\na gate on watts wants words of 32 bits\na limit is not a number\n\n\nthe record is no sheet\na bit of the value is not in the mask\nthe word is above the top word of \n";
     put_entry(table, row);
     if row == 5 {
         put_width(width);
