@@ -9,7 +9,7 @@ use lib.ListN.{length}
 use Rattle.word.specs.declared.Edition.the-variants.{New}
 use Rattle.rule.specs.Meaning.{RULES}
 use Rattle.chain.specs.Links.{chainRoom}
-use Rattle.page.specs.Calls.{Call, add, after, back, firstThatApplies, forward, isBlank, mark, open-at, refusal}
+use Rattle.page.specs.Calls.{Call, add, after, back, firstThatApplies, forward, isBlank, mark, open-at, refusal, set-gate}
 use Rattle.page.specs.Page.{Page, at-width, no-page, page}
 use Rattle.page.specs.Reached.{Reached, start}
 use Rattle.page.proofs.Replayed.{after-reached}
@@ -31,8 +31,8 @@ use Rattle.line.specs.declared.Statement.the-variants as said
 use Rattle.dialogue.specs.declared.Response.{Response}
 use Rattle.dialogue.specs.declared.Response.the-variants.{Asked, Blamed, Counted, Done, Listed, Refused, Shown}
 use Rattle.dialogue.specs.declared.Taken.{Taken}
-use Rattle.dialogue.specs.Takes.{Calls, Lent, Says, byNumber, goes, stops, upTo}
-use Rattle.dialogue.specs.Heard.{answerOn, ending, numbered, pageOn}
+use Rattle.dialogue.specs.Takes.{Calls, Gated, Lent, Says, Wanted, atLeast, atMost, byNumber, goes, sets, stops, unread, upTo, within}
+use Rattle.dialogue.specs.Heard.{answerOn, ending, gateAnswer, gatePage, numbered, pageOn}
 
 -- a call's number, and what follows from it
 record Numbered (k : ℕ) (t : Sheet) (a : Response) (r : Taken) : Type 0 where
@@ -75,6 +75,11 @@ module _ (m : ℕ) (pg : Page) (h : Reached pg) {s : Sheet} (e : s ≡ fresh pg)
         sheet = ap (λ (t : Taken). t .dialogue .sheet) q ∙ e ∙ ap fresh (sym y);
       }
 
+  gated : (st : Statement) (w : Wanted) → answerOn m pg st ≡ gateAnswer pg w → pageOn pg st ≡ gatePage pg w → Gated s w b b′ r → Answered m pg st r
+  unfolding Gated gateAnswer gatePage ending
+  gated st (sets g) x y p = by-page st x (ap fresh y) (called (set-gate g) p)
+  gated st (unread w) x y p = plain st true x refl y (p .0)
+
   stands-on : {k : ℕ} → Stands s k → k ≡ firstThatApplies (countGrounds pg)
   unfolding firstThatApplies countGrounds isBlank
   stands-on (no-sheet i) = absurd (i (record { on = pg; reached = h; gives = e }))
@@ -85,9 +90,9 @@ module _ (m : ℕ) (pg : Page) (h : Reached pg) {s : Sheet} (e : s ≡ fresh pg)
   unfolding Says answerOn pageOn ending
   on-a-page ln lw said.Blank p = plain said.Blank false refl refl refl (p .0)
   on-a-page ln lw (said.Rule u) p = by-page (said.Rule u) refl refl (called (add New u) p)
-  on-a-page ln lw (said.AtLeast a) p = plain (said.AtLeast a) true refl refl refl (p .0)
-  on-a-page ln lw (said.AtMost a) p = plain (said.AtMost a) true refl refl refl (p .0)
-  on-a-page ln lw (said.Within a c) p = plain (said.Within a c) true refl refl refl (p .0)
+  on-a-page ln lw (said.AtLeast a) p = gated (said.AtLeast a) (atLeast a) refl refl p
+  on-a-page ln lw (said.AtMost a) p = gated (said.AtMost a) (atMost a) refl refl p
+  on-a-page ln lw (said.Within a c) p = gated (said.Within a c) (within a c) refl refl p
   on-a-page ln lw (said.Open n) p = by-page (said.Open n) refl refl (called (open-at (at-width n New)) p)
   on-a-page ln lw said.Mark p = by-page said.Mark refl refl (called mark p)
   on-a-page ln lw said.Back p = by-page said.Back refl refl (called back p)
@@ -107,13 +112,18 @@ module _ (m : ℕ) (pg : Page) (h : Reached pg) {s : Sheet} (e : s ≡ fresh pg)
       by-page said.Show refl (sym e) (by-number _ _ _ refl (p .0 .result ∙ ap (λ (n : ℕ). byNumber n s Shown) (stands-on (p .0 .stands))))
   on-a-page ln lw (said.Wrong w) p = plain (said.Wrong w) true refl refl refl (p .0)
 
+reached-gate : {pg : Page} → Reached pg → (w : Wanted) → Reached (gatePage pg w)
+unfolding gatePage
+reached-gate h (sets g) = after-reached h (set-gate g)
+reached-gate h (unread w) = h
+
 pub reached-on : {pg : Page} → Reached pg → (st : Statement) → Reached (pageOn pg st)
 unfolding pageOn
 reached-on h said.Blank = h
 reached-on h (said.Rule u) = after-reached h (add New u)
-reached-on h (said.AtLeast a) = h
-reached-on h (said.AtMost a) = h
-reached-on h (said.Within a c) = h
+reached-on h (said.AtLeast a) = reached-gate h (atLeast a)
+reached-on h (said.AtMost a) = reached-gate h (atMost a)
+reached-on h (said.Within a c) = reached-gate h (within a c)
 reached-on h (said.Open n) = after-reached h (open-at (at-width n New))
 reached-on h said.Mark = after-reached h mark
 reached-on h said.Back = after-reached h back

@@ -4,7 +4,7 @@ use mathlib.Core.Bool.{Bool, true, false}
 use mathlib.Core.List.{List}
 use Prim.Native.Nat.{ℕ}
 use native.Mathlib.Omega.{arith}
-use Rattle.page.specs.Calls.{Call, add, back, forward, mark, open-at}
+use Rattle.page.specs.Calls.{Call, add, back, forward, mark, open-at, set-gate}
 use Rattle.page.specs.Page.{Page, no-page, page}
 use Rattle.page.specs.Reached.{start}
 use Rattle.word.specs.declared.Edition.the-variants.{New}
@@ -26,7 +26,7 @@ use Rattle.dialogue.specs.declared.Dialogue.{Dialogue}
 use Rattle.dialogue.specs.declared.Response.{Response}
 use Rattle.dialogue.specs.declared.Response.the-variants.{Asked, Blamed, Counted, Done, Listed, Shown, Silent}
 use Rattle.dialogue.specs.declared.Taken.{Taken}
-use Rattle.dialogue.specs.Takes.{Calls, Lent, Says, Takes, byNumber, lent, stops, upTo}
+use Rattle.dialogue.specs.Takes.{Calls, Gated, Lent, Says, Takes, Wanted, atLeast, atMost, byNumber, lent, sets, stops, unread, upTo, within}
 
 stands-unique : {s : Sheet} {k n : ℕ} → Stands s k → Stands s n → k ≡ n
 stands-unique (no-sheet i) (no-sheet j) = refl
@@ -55,13 +55,18 @@ module _ (s : Sheet) (b b₁ b₂ : Lent) (r₁ r₂ : Taken) where
   same : {r : Taken} → (r₁ ≡ r) × (b₁ ≡ b) → (r₂ ≡ r) × (b₂ ≡ b) → (r₁ ≡ r₂) × (b₁ ≡ b₂)
   same p q = (p .0 ∙ sym (q .0), p .1 ∙ sym (q .1))
 
+  gated : (w : Wanted) → Gated s w b b₁ r₁ → Gated s w b b₂ r₂ → (r₁ ≡ r₂) × (b₁ ≡ b₂)
+  unfolding Gated
+  gated (sets g) p q = called (set-gate g) p q
+  gated (unread w) p q = same p q
+
   pub says-unique : (st : Statement) → Says s st b b₁ r₁ → Says s st b b₂ r₂ → (r₁ ≡ r₂) × (b₁ ≡ b₂)
   unfolding Says
   says-unique said.Blank p q = same p q
   says-unique (said.Rule u) p q = called (add New u) p q
-  says-unique (said.AtLeast a) p q = same p q
-  says-unique (said.AtMost a) p q = same p q
-  says-unique (said.Within a c) p q = same p q
+  says-unique (said.AtLeast a) p q = gated (atLeast a) p q
+  says-unique (said.AtMost a) p q = gated (atMost a) p q
+  says-unique (said.Within a c) p q = gated (within a c) p q
   says-unique (said.Open n) p q = called (open-at (at-width n New)) p q
   says-unique said.Mark p q = called mark p q
   says-unique said.Back p q = called back p q

@@ -8,7 +8,7 @@ use lib.ListN.{length, replicate}
 use Rattle.word.specs.declared.Edition.the-variants.{New}
 use Rattle.rule.specs.Meaning.{RULES}
 use Rattle.chain.specs.Links.{chainRoom}
-use Rattle.page.specs.Calls.{add, after, back, firstThatApplies, forward, mark, open-at, refusal}
+use Rattle.page.specs.Calls.{add, after, back, firstThatApplies, forward, mark, open-at, refusal, set-gate}
 use Rattle.page.specs.Page.{Page, at-width}
 use Rattle.sheet.specs.Statements.{reply}
 use Rattle.counting.specs.Counted.{countGrounds, shareOf}
@@ -16,24 +16,32 @@ use Rattle.listing.specs.Listed.{listNumber, listOn, listings}
 use Rattle.blaming.specs.Blamed.{failedOn, whyNumber}
 use Rattle.line.specs.declared.Statement.{Statement}
 use Rattle.line.specs.declared.Statement.the-variants as said
-use Rattle.line.specs.Line.{mistake}
 use Rattle.dialogue.specs.declared.Dialogue.{Dialogue}
 use Rattle.dialogue.specs.declared.Response.{Response}
 use Rattle.dialogue.specs.declared.Response.the-variants.{Asked, Blamed, Counted, Done, Listed, Mistaken, Refused, Shown, Silent}
 use Rattle.dialogue.specs.declared.Taken.{Taken}
-use Rattle.dialogue.specs.Takes.{Lent, Takes, upTo}
+use Rattle.dialogue.specs.Takes.{Lent, Takes, Wanted, atLeast, atMost, sets, unread, upTo, within}
 
 -- what is answered, or the number of a refusal
 unfoldable pub numbered : ℕ → Response → Response
 numbered k a = cond (eqb k 0) a (Refused k)
 
+-- a line on watts: the call that sets its gate
+unfoldable pub gateAnswer : Page → Wanted → Response
+gateAnswer pg (sets g) = numbered (refusal pg (set-gate g)) Done
+gateAnswer pg (unread e) = Mistaken e
+
+unfoldable pub gatePage : Page → Wanted → Page
+gatePage pg (sets g) = after pg (set-gate g)
+gatePage pg (unread e) = pg
+
 -- what a statement is answered on the sheet of a page, with so many words lent
 unfoldable pub answerOn : (room : ℕ) → Page → Statement → Response
 answerOn m pg said.Blank = Silent
 answerOn m pg (said.Rule u) = numbered (refusal pg (add New u)) Done
-answerOn m pg (said.AtLeast a) = Mistaken (mistake (a .at) 0)
-answerOn m pg (said.AtMost a) = Mistaken (mistake (a .at) 0)
-answerOn m pg (said.Within a c) = Mistaken (mistake (a .at) 0)
+answerOn m pg (said.AtLeast a) = gateAnswer pg (atLeast a)
+answerOn m pg (said.AtMost a) = gateAnswer pg (atMost a)
+answerOn m pg (said.Within a c) = gateAnswer pg (within a c)
 answerOn m pg (said.Open n) = numbered (refusal pg (open-at (at-width n New))) Done
 answerOn m pg said.Mark = numbered (refusal pg mark) Done
 answerOn m pg said.Back = numbered (refusal pg back) Done
@@ -51,9 +59,9 @@ answerOn m pg (said.Wrong e) = Mistaken e
 unfoldable pub pageOn : Page → Statement → Page
 pageOn pg said.Blank = pg
 pageOn pg (said.Rule u) = after pg (add New u)
-pageOn pg (said.AtLeast a) = pg
-pageOn pg (said.AtMost a) = pg
-pageOn pg (said.Within a c) = pg
+pageOn pg (said.AtLeast a) = gatePage pg (atLeast a)
+pageOn pg (said.AtMost a) = gatePage pg (atMost a)
+pageOn pg (said.Within a c) = gatePage pg (within a c)
 pageOn pg (said.Open n) = after pg (open-at (at-width n New))
 pageOn pg said.Mark = after pg mark
 pageOn pg said.Back = after pg back

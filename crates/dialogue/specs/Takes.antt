@@ -5,7 +5,12 @@ use mathlib.Core.List.{List}
 use Prim.Native.Nat.{ℕ, min}
 use lib.Dec.{eqb}
 use Rattle.word.specs.declared.Edition.the-variants.{New}
-use Rattle.page.specs.Calls.{Call, add, back, forward, mark, open-at}
+use Rattle.gate.specs.declared.Gate.{Gate}
+use Rattle.grammar.specs.Kinds.{AMOUNT}
+use Rattle.watts.specs.declared.Limit.{Limit}
+use Rattle.watts.specs.declared.Limit.the-variants.{Bits, TooFine}
+use Rattle.watts.specs.Watts.{limitOf}
+use Rattle.page.specs.Calls.{Call, add, back, forward, mark, open-at, set-gate}
 use Rattle.page.specs.Page.{at-width}
 use Rattle.sheet.specs.declared.Answer.{Answer}
 use Rattle.sheet.specs.declared.Reply.{Reply}
@@ -17,6 +22,8 @@ use Rattle.counting.specs.Counted.{Counted}
 use Rattle.listing.specs.declared.Listing.{Listing}
 use Rattle.listing.specs.Listed.{Listed, listings}
 use Rattle.blaming.specs.Blamed.{Blamed}
+use Rattle.on_words.specs.Gates.{gateOf}
+use Rattle.scan.specs.declared.Amount.{Amount}
 use Rattle.scan.specs.declared.Mistake.{Mistake}
 use Rattle.line.specs.declared.Statement.{Statement}
 use Rattle.line.specs.declared.Statement.the-variants as said
@@ -92,13 +99,51 @@ pub record Shows (s : Sheet) (r : Taken) : Type 0 where
   pub stands : Stands s number
   pub result : r ≡ byNumber number s Shown
 
+-- the bits of a limit, as it is written
+abbrev pub limitAt : Amount → Limit
+limitAt a = limitOf (a .numeral .minus) (a .numeral .value) (a .numeral .places)
+
+abbrev pub tooFine : (at : ℕ) → Mistake
+tooFine at = mistake at AMOUNT
+
+-- what a line on watts comes to
+pub data Wanted : Type 0 where
+  sets : Gate → Wanted
+  unread : Mistake → Wanted
+
+-- the gate of a kind, where both limits are read; else a mistake where the first stands that has too many digits
+unfoldable pub byLimits : (kind low-at high-at : ℕ) → (low high : Limit) → Wanted
+byLimits k i j TooFine h = unread (tooFine i)
+byLimits k i j (Bits l) TooFine = unread (tooFine j)
+byLimits k i j (Bits l) (Bits h) = sets (gateOf k l h)
+
+abbrev pub wanted : (kind : ℕ) (low high : Amount) → Wanted
+wanted k a c = byLimits k (a .at) (c .at) (limitAt a) (limitAt c)
+
+abbrev pub atLeast : Amount → Wanted
+atLeast a = wanted 0 a a
+
+abbrev pub atMost : Amount → Wanted
+atMost a = wanted 1 a a
+
+abbrev pub within : (low high : Amount) → Wanted
+within a c = wanted 2 a c
+
+unfoldable pub Gated : Sheet → Wanted → (b b′ : Lent) → Taken → Type 0
+Gated s (sets g) b b′ r = Calls s (set-gate g) b b′ r
+Gated s (unread m) b b′ r = (r ≡ stops s (Mistaken m)) × (b′ ≡ b)
+
+-- so whatever is lent, which stays as it is
+abbrev pub SetsGate : Sheet → Wanted → Taken → Type 0
+SetsGate s w r = (b : Lent) → Gated s w b b r
+
 -- The row of each statement.
 unfoldable pub Says : Sheet → Statement → (b b′ : Lent) → Taken → Type 0
 Says s said.Blank b b′ r = (r ≡ goes s Silent) × (b′ ≡ b)
 Says s (said.Rule u) b b′ r = Calls s (add New u) b b′ r
-Says s (said.AtLeast a) b b′ r = (r ≡ stops s (Mistaken (mistake (a .at) 0))) × (b′ ≡ b)
-Says s (said.AtMost a) b b′ r = (r ≡ stops s (Mistaken (mistake (a .at) 0))) × (b′ ≡ b)
-Says s (said.Within a c) b b′ r = (r ≡ stops s (Mistaken (mistake (a .at) 0))) × (b′ ≡ b)
+Says s (said.AtLeast a) b b′ r = Gated s (atLeast a) b b′ r
+Says s (said.AtMost a) b b′ r = Gated s (atMost a) b b′ r
+Says s (said.Within a c) b b′ r = Gated s (within a c) b b′ r
 Says s (said.Open n) b b′ r = Calls s (open-at (at-width n New)) b b′ r
 Says s said.Mark b b′ r = Calls s mark b b′ r
 Says s said.Back b b′ r = Calls s back b b′ r

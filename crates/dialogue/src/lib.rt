@@ -2,18 +2,20 @@
 // one is done or answered.
 ghost use mathlib.Core.Path.{_≡_};
 ghost use mathlib.Core.Bool.{false};
-ghost use Rattle.line.specs.Line.{mistake};
 ghost use Rattle.sheet.specs.Record.{blank};
-ghost use Rattle.dialogue.specs.Takes.{Says, Shows, Takes, byNumber, goes, lent, stops, upTo};
+ghost use Rattle.dialogue.specs.Takes.{Says, SetsGate, Shows, Takes, byNumber, goes, lent, limitAt, stops, tooFine, upTo, wanted};
 use blaming::why;
 use counting::Share;
+use grammar::kind;
 use line::Statement;
 use listing::Listing;
 use page::Opening;
+use scan::Amount;
 use scan::Mistake;
 use sheet::Answer;
 use sheet::Reply;
 use sheet::Sheet;
+use watts::Limit;
 use word::Edition;
 
 // The sheet as it is, and whether a mistake or a refusal came.
@@ -41,6 +43,13 @@ pub struct Taken {
     pub dialogue: Dialogue,
     pub response: Response,
 }
+
+// The kinds of gates.
+const AT_LEAST: u64 = 0;
+
+const AT_MOST: u64 = 1;
+
+const WITHIN: u64 = 2;
 
 impl Dialogue {
     // Nothing was said.
@@ -84,9 +93,9 @@ fn says(
     match statement {
         Statement::Blank => goes(sheet, Response::Silent),
         Statement::Rule(rule) => done(sheet.add(Edition::New, rule)),
-        Statement::AtLeast(limit) => unread(sheet, limit.at),
-        Statement::AtMost(limit) => unread(sheet, limit.at),
-        Statement::Within(low, _) => unread(sheet, low.at),
+        Statement::AtLeast(limit) => gated(sheet, AT_LEAST, limit, limit),
+        Statement::AtMost(limit) => gated(sheet, AT_MOST, limit, limit),
+        Statement::Within(low, high) => gated(sheet, WITHIN, low, high),
         Statement::Open(width) => done(sheet.open(Opening {
             width,
             edition: Edition::New,
@@ -107,11 +116,37 @@ fn says(
     }
 }
 
-// A limit in watts is not read.
-fn unread(sheet: Sheet, at: usize) -> Taken
-    ensures { λ r. ⌜ r ≡ stops sheet (Response.Mistaken (mistake at 0)) ⌝ }
+// Sets a gate of a kind. A limit with more digits after the point than are read is a mistake where it stands; no line that was read has one.
+fn gated(sheet: Sheet, kind: u64, low: Amount, high: Amount) -> Taken
+    ensures { λ r. ⌜ SetsGate sheet (wanted kind low high) r ⌝ }
 {
-    stops(sheet, Response::Mistaken(Mistake { at, expected: 0 }))
+    let Limit::Bits(least) = limit_at(low) else {
+        return too_fine(sheet, low.at);
+    };
+    let Limit::Bits(most) = limit_at(high) else {
+        return too_fine(sheet, high.at);
+    };
+    done(gating::set(sheet, on_words::gate_of(kind, least, most)))
+}
+
+// The bits of a limit, as it is written.
+fn limit_at(amount: Amount) -> Limit
+    ensures { λ r. ⌜ r ≡ limitAt amount ⌝ }
+{
+    let n = amount.numeral;
+    watts::nearest(n.minus, n.value, n.places)
+}
+
+fn too_fine(sheet: Sheet, at: usize) -> Taken
+    ensures { λ r. ⌜ r ≡ stops sheet (Response.Mistaken (tooFine at)) ⌝ }
+{
+    stops(
+        sheet,
+        Response::Mistaken(Mistake {
+            at,
+            expected: kind::AMOUNT,
+        }),
+    )
 }
 
 // A call that changes the sheet was made.

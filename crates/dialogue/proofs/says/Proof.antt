@@ -24,20 +24,20 @@ done-requires c κs = search needs
 enum-known-statement-2 : tie.Need-enum-known-statement-2
 enum-known-statement-2 c = search needs
 
-unread-requires : tie.Need-unread-requires
-unread-requires c κs = search needs
+gated-requires : tie.Need-gated-requires
+gated-requires c κs = search needs
 
 enum-known-statement-3 : tie.Need-enum-known-statement-3
 enum-known-statement-3 c = search needs
 
-unread-requires-2 : tie.Need-unread-requires-2
-unread-requires-2 c κs = search needs
+gated-requires-2 : tie.Need-gated-requires-2
+gated-requires-2 c κs = search needs
 
 enum-known-statement-4 : tie.Need-enum-known-statement-4
 enum-known-statement-4 c = search needs
 
-unread-requires-3 : tie.Need-unread-requires-3
-unread-requires-3 c κs = search needs
+gated-requires-3 : tie.Need-gated-requires-3
+gated-requires-3 c κs = search needs
 
 enum-known-statement-5 : tie.Need-enum-known-statement-5
 enum-known-statement-5 c = search needs
@@ -133,15 +133,15 @@ returns-2 c = by-case _ _ _ _ (c .before .before .before .statement .given .1) (
 
 returns-3 : tie.Need-returns-3
 unfolding Says
-returns-3 c = by-case _ _ _ _ (c .before .before .statement2 .given .1) (c .unread .ensures, refl)
+returns-3 c = by-case _ _ _ _ (c .before .before .statement2 .given .1) (c .gated .ensures _)
 
 returns-4 : tie.Need-returns-4
 unfolding Says
-returns-4 c = by-case _ _ _ _ (c .before .before .statement3 .given .1) (c .unread2 .ensures, refl)
+returns-4 c = by-case _ _ _ _ (c .before .before .statement3 .given .1) (c .gated2 .ensures _)
 
 returns-5 : tie.Need-returns-5
 unfolding Says
-returns-5 c = by-case _ _ _ _ (c .before .before .statement4 .given .1) (c .unread3 .ensures, refl)
+returns-5 c = by-case _ _ _ _ (c .before .before .statement4 .given .1) (c .gated3 .ensures _)
 
 returns-6 : tie.Need-returns-6
 unfolding Says
@@ -196,11 +196,11 @@ says-spec =
     add-requires
     done-requires
     enum-known-statement-2
-    unread-requires
+    gated-requires
     enum-known-statement-3
-    unread-requires-2
+    gated-requires-2
     enum-known-statement-4
-    unread-requires-3
+    gated-requires-3
     enum-known-statement-5
     open-requires
     done-requires-2
