@@ -4,15 +4,18 @@ ghost use lib.ListN.{length};
 ghost use Rattle.io.specs.Counts.{Counts};
 ghost use Rattle.word.specs.Word.{IsWidth};
 use crate::answers;
+use crate::manner;
+use crate::manner::Manner;
 use crate::mistakes;
 use dialogue::Dialogue;
 use libc::STDIN_FILENO;
 use sheet::Sheet;
 use word::Width;
 
-// The dialogue; what is held of a line, one byte more than a line may have, so that memory does not grow with a line; the number of lines; the status
+// What is written; the dialogue; what is held of a line, one byte more than a line may have, so that memory does not grow with a line; the number of lines; the status
 // so far; and whether more is read.
 pub struct Run {
+    pub manner: Manner,
     pub dialogue: Dialogue,
     pub bytes: [u8; Run::MOST],
     pub len: usize,
@@ -32,9 +35,10 @@ impl Run {
 
     pub const MISTAKE: u8 = 2;
 
-    pub fn start() -> Run {
+    pub fn start(manner: Manner) -> Run {
         let dialogue = Dialogue::start();
         Run {
+            manner,
             dialogue,
             bytes: [0; Run::MOST],
             len: 0,
@@ -169,6 +173,7 @@ fn end_line(run: Run) -> Run {
 // Takes a line, without its byte 10, and answers it.
 fn take_line(run: Run, text: &[u8]) -> Run {
     let mut run = run;
+    let manner = run.manner;
     let dialogue = run.dialogue;
     let sheet = dialogue.sheet;
     let read = line::read(text, width_of(sheet));
@@ -179,7 +184,9 @@ fn take_line(run: Run, text: &[u8]) -> Run {
     let after = taken.dialogue;
     let response = taken.response;
     run.dialogue = after;
-    answers::tell(after.sheet, statement, response, &numbers, &words);
+    if manner::answers(manner) {
+        answers::tell(after.sheet, statement, response, &numbers, &words);
+    }
     if mistakes::say(run.line, text, statement, response, after.sheet) {
         run.status = Run::MISTAKE;
         run.more = false;

@@ -10,6 +10,9 @@ Inv-loop run₀ turns₀ run turns = 0 ≤ turns
 abbrev μ-loop : tie.MeasureT-loop
 μ-loop run₀ turns₀ run turns = turns
 
+wanted-requires : tie.Need-wanted-requires Inv-loop μ-loop
+wanted-requires c κs = search needs
+
 start-requires : tie.Need-start-requires Inv-loop μ-loop
 start-requires c κs = search needs
 
@@ -27,6 +30,9 @@ loop-less c = search needs
 
 loop-again : tie.Need-loop-again Inv-loop μ-loop
 loop-again c = search needs
+
+write-out-requires : tie.Need-write-out-requires Inv-loop μ-loop
+write-out-requires c κs = search needs
 
 digit-requires : tie.Need-digit-requires Inv-loop μ-loop
 digit-requires c κs = search needs
@@ -46,12 +52,14 @@ main-spec =
     (tie.spec
     Inv-loop
     μ-loop
+    wanted-requires
     start-requires
     loop-holds
     turn-requires
     left-requires
     loop-less
     loop-again
+    write-out-requires
     digit-requires
     slice-aggregate-write-all
     write-all-requires
