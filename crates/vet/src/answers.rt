@@ -26,7 +26,7 @@ pub fn tell(
         Response::Counted(share) => tell_count(share, sheet.width),
         Response::Listed(listing) => tell_words(listing.written, words),
         Response::Blamed(listing) => tell_why(sheet, word_of(statement), listing.written, numbers),
-        Response::Shown => tell_sheet(sheet),
+        Response::Shown => show(sheet),
         _ => {}
     }
 }
@@ -142,6 +142,12 @@ fn tell_words(written: usize, words: &[u64; Run::WORDS]) {
         }
         i += 1;
     }
+}
+
+// What stands, and its picture in comments.
+fn show(sheet: Sheet) {
+    tell_sheet(sheet);
+    drawing::draw(sheet);
 }
 
 // What stands, so that it can be read again: the width, then rules and marks in their order.
