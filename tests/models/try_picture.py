@@ -1,5 +1,5 @@
 # What try_picture prints: each sheet's columns, every word of each looked at by 01's table of forms.
-from paper import meets
+from pictures import row
 
 SHEETS = (
     (4, [(3, 0, 5, 3), (7, 0, 12, 4)]),
@@ -9,14 +9,6 @@ SHEETS = (
     (8, [(2, 1, 77, 200), (7, 0, 0xC0, 0x40)]),
     (12, [(7, 0, 0x800, 0x800), (8, 1, 0xFF0, 30), (3, 0, 0, 2100)]),
 )
-
-
-def row(w, rules):
-    columns = min(2**w, 64)
-    size = 2**w // columns
-    for column in range(columns):
-        fit = sum(all(meets(w, rule, x) for rule in rules) for x in range(column * size, (column + 1) * size))
-        yield "#" if fit == 0 else "." if fit == size else "+"
 
 
 for w, rules in SHEETS:

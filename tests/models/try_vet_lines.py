@@ -1,9 +1,9 @@
-# Foretells crates/try_vet_lines: the lines of its input, read by vet.py. With --lines it writes that input.
+# Foretells crates/try_vet_lines: the lines of its input, read by written.py. With --lines it writes that input.
 import itertools
 import random
 import sys
 
-import vet
+import written
 
 
 # Every line of up to two pieces of each kind, and of three of a few; the rows with drawn numbers and blanks, whole and cut short or with a
@@ -16,7 +16,7 @@ def lines():
     draw = random.Random(33)
     numbers = ["0", "1", "3", "9", "007", "128", "255", "0x0", "0xff", "0b101", "18446744073709551615", "18446744073709551616", "0x", "1a", "-1", "-128", "-129",
                "-0", "-", "5.5", "20.", ".5", "0.125", "1.1234567890", "-2.5", "0xffffffffffffffff", "0x10000000000000000", "99999999999999999999"]
-    rows = vet.RULES + vet.WATTS + vet.OTHERS
+    rows = written.RULES + written.WATTS + written.OTHERS
     fill = {"N": numbers[:11], "M": ["-1", "-3", "-128", "-129", "-0"], "W": ["5.5", "20", "-2.5", "0.125", "0x10"]}
     for i in range(900):
         pieces = [draw.choice(fill[p]) if p in fill else p for p in draw.choice(rows).split()]
@@ -24,9 +24,9 @@ def lines():
         if how == 1:
             pieces = pieces[:-1]
         elif how == 2:
-            pieces[draw.randrange(len(pieces))] = draw.choice(vet.TEXTS + numbers)
+            pieces[draw.randrange(len(pieces))] = draw.choice(written.TEXTS + numbers)
         elif how == 3:
-            pieces.append(draw.choice(vet.TEXTS + numbers))
+            pieces.append(draw.choice(written.TEXTS + numbers))
         before = draw.choice(["", "", "not ", "late: ", "late:not ", "a.1 : not "])
         glue = draw.choice([" ", " ", "  ", "\t"])
         yield before + glue.join(pieces) + draw.choice(["", "", " ", "\r", " # x <= 9", "#"])
@@ -49,7 +49,7 @@ def main():
         return
     width = 64
     for line in sys.stdin.buffer.read().split(b"\n")[:-1]:
-        said, name = vet.read(line, width)
+        said, name = written.read(line, width)
         if said[0] == 5 and 1 <= said[1] <= 64:
             width = said[1]
         print(*said, *name, "")

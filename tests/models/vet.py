@@ -1,128 +1,108 @@
-# Lines as docs/VET.md has them: its rows, read by regular expressions and by trying every row, with nothing of the code's way.
-import re
+# Foretells crates/vet: the lines of its run, read by written.py and answered as docs/VET.md has it, by a clerk's page and a search over all words. What it
+# says of a mistake goes to standard error, and nothing follows.
+import sys
 
-# The rows in the order of the page: a rule's row has its form, its sense and the places of its numbers.
-RULES = [
-    "x <= N", "x < N", "x >= N", "x > N", "x = N", "x + N <= N", "x + N <= x + N", "N <= x + N", "x & N = N",
-    "signed x <= N", "signed x <= M", "N <= signed x", "M <= signed x", "settled since N for N",
-]
-NOT = ["not"]
-WATTS = ["watts at least W", "watts at most W", "watts within W .. W"]
-NAME = ["A :"]
-OTHERS = ["word N", "mark", "back", "forward", "ask", "count", "list N", "list from N N", "why N", "show"]
-ROWS = [r.split() for r in RULES + NOT + WATTS + NAME + OTHERS]
-AFTER_NOT = len(RULES)
-AFTER_NAME = len(RULES + NOT + WATTS)
-
-TEXTS = ("x + <= < >= > = & .. : not signed settled since for watts at least most within word mark back forward ask count list from why "
-         "show").split()
-CODES = {text: i + 1 for i, text in enumerate(TEXTS)}
-CODES.update({"N": 31, "M": 32, "W": 33, "F": 34, "A": 35, "end": 0, "statement": 38, "rule": 39, "signed word": 40, "shorter": 41})
-LIMIT = 1024
-
-# A minus begins a number, signs and words are runs of their letters, and anything else is in no line.
-PIECES = re.compile(rb"-?[A-Za-z0-9_.]+|-|[&+:<=>]+|[^\sA-Za-z0-9_.&+:<=>#-]+|[\n\v\f]+")
+import written
+from paper import BITS, chain, meets, searched_words
+from pictures import row
 
 
-def number(text):
-    """(kind, value, places), or None: decimal digits with at most nine places, or 0x and 0b with their digits."""
-    sign = text.startswith("-")
-    bare = text[1:] if sign else text
-    whole = re.fullmatch(r"[0-9]+", bare)
-    point = re.fullmatch(r"([0-9]+)\.([0-9]+)", bare)
-    based = None if sign else re.fullmatch(r"0(x[0-9a-f]+|b[01]+)", bare)
-    if based:
-        value = int(bare[2:], 16 if bare[1] == "x" else 2)
-        return ("large", 0, 0) if value >> 64 else ("N", value, 0)
-    if whole:
-        return ("large", 0, 0) if int(bare) >> 64 else ("M" if sign else "N", int(bare), 0)
-    if point:
-        value, places = 0, 0
-        for i, digit in enumerate(point.group(1) + point.group(2)):
-            if places == 9:
-                return None
-            if value * 10 + int(digit) >> 64:
-                return ("large", 0, 0)
-            value = value * 10 + int(digit)
-            places += i >= len(point.group(1))
-        return ("F", value, places)
-    return None
+def number(x):
+    return f"{x} ({x:#x})"
 
 
-def pieces(line):
-    body = line.split(b"#")[0]
-    for m in PIECES.finditer(body.replace(b"\t", b" ").replace(b"\r", b" ")):
-        yield m.start(), m.end(), m.group().decode("latin-1")
+class Page:
+    """The page: rules and marks in the order written, and the stretches that wait."""
+
+    def __init__(self, width):
+        self.width, self.entries, self.pile = width, [], []
+
+    def rules(self):
+        return [e for e in self.entries if e != "mark"]
+
+    # A free word needs no search.
+    def fitting(self):
+        rules = self.rules()
+        words = range(1 << self.width)
+        return [x for x in words if all(meets(self.width, r, x) for r in rules)] if rules else words
+
+    def back(self):
+        at = max(i for i, e in enumerate(self.entries) if e == "mark")
+        self.pile.append(self.entries[at:])
+        del self.entries[at:]
 
 
-def kind(text):
-    read = number(text)
-    if read:
-        return read
-    if text in CODES and text in TEXTS:
-        return (text, 0, 0)
-    if re.fullmatch(r"-?[A-Za-z0-9_.]+", text) and not re.fullmatch(r"0[xb]|-?[0-9]+\.", text):
-        return ("A", 0, 0)
-    return ("other", 0, 0)
+def said_of(page, i):
+    return f"rule {i}: {written.text(page.width, page.rules()[i])}"
 
 
-def read(line, width):
-    """The numbers that a line is, with the name's place."""
-    if len(line) > LIMIT:
-        return [14, LIMIT, CODES["shorter"]], (0, 0)
-    limit, sofar, negated, name, numbers = len(ROWS), [], False, (0, 0), []
-    for at, to, text in pieces(line):
-        what, value, places = kind(text)
-        if what in ("N", "M", "F") and sofar[:1] == ["watts"]:
-            what = "W"
-        go = [r for r in ROWS[:limit] if r[:len(sofar) + 1] == sofar + [what]]
-        if not go:
-            return [14, at, wanted(sofar, limit)], name
-        sofar.append(what)
-        if what in ("N", "M", "W", "F"):
-            numbers.append((at, text.startswith("-"), value, places))
-        if what == "A":
-            name = (at, to)
-        if sofar == ["not"]:
-            limit, sofar, negated = AFTER_NOT, [], True
-        if sofar == ["A", ":"]:
-            limit, sofar = AFTER_NAME, []
-    if not sofar and limit == len(ROWS):
-        return [0], name
-    if sofar not in ROWS[:limit]:
-        return [14, len(line), wanted(sofar, limit)], name
-    return said(ROWS.index(sofar), negated, numbers, width), name
+def asked(page):
+    w, rules, fit = page.width, page.rules(), page.fitting()
+    if len(fit) == 1:
+        yield f"one word fits: {fit[0]} ({fit[0]:#x}, {fit[0]:#b})"
+    elif len(fit):
+        yield f"many words fit, {len(fit)} of {1 << w}: the smallest is {number(fit[0])}, the largest {number(fit[-1])}"
+    else:
+        yield "no word fits"
+        for low, high, reason in chain(w, rules, [searched_words(w, r) for r in rules]):
+            yield f"{low} .. {high} fail {'the fixed bits' if reason == BITS else said_of(page, reason)}"
 
 
-def wanted(sofar, limit):
-    if not sofar:
-        return CODES["statement"] if limit == len(ROWS) else CODES["rule"]
-    row = next(r for r in ROWS[:limit] if r[:len(sofar)] == sofar)
-    return CODES[row[len(sofar)]] if len(row) > len(sofar) else CODES["end"]
+def shown(page):
+    w = page.width
+    yield f"word {w}"
+    i = 0
+    for entry in page.entries:
+        yield "mark" if entry == "mark" else f"{written.text(w, entry)}  # rule {i}"
+        i += entry != "mark"
+    for i, rule in enumerate(page.rules()):
+        yield f"# |{''.join(row(w, [rule]))}| rule {i}"
+    yield f"# |{''.join(row(w, page.rules()))}| all"
 
 
-def said(row, negated, numbers, width):
-    words = [n[2] for n in numbers]
-    if row < AFTER_NOT:
-        text = RULES[row]
-        if "signed" in text:
-            at, minus, value, _ = numbers[0]
-            value = -value if minus else value
-            if not -(1 << width - 1) <= value < 1 << width - 1:
-                return [14, at, CODES["signed word"]]
-            form, sense, constants = 4 if text.startswith("signed") else 5, 0, (value % (1 << width), 0)
-        else:
-            form, sense, constants = {
-                "x <= N": lambda n: (3, 0, (0, n)), "x < N": lambda n: (2, 1, (n, 0)), "x >= N": lambda n: (2, 0, (n, 0)),
-                "x > N": lambda n: (3, 1, (0, n)), "x = N": lambda n: (6, 0, (n, 0)), "x + N <= N": lambda a, b: (3, 0, (a, b)),
-                "x + N <= x + N": lambda a, b: (1, 0, (a, b)), "N <= x + N": lambda a, b: (2, 0, (a, b)),
-                "x & N = N": lambda a, b: (7, 0, (a, b)), "settled since N for N": lambda a, b: (8, 0, (a, b)),
-            }[text](*words)
-        return [1, form, sense ^ negated, *constants]
-    text = (RULES + NOT + WATTS + NAME + OTHERS)[row]
-    amounts = [x for n in numbers for x in (int(n[1]), n[2], n[3])]
-    plain = {"mark": 6, "back": 7, "forward": 8, "ask": 9, "count": 10, "show": 13}
-    if text in plain:
-        return [plain[text]]
-    return {"watts at least W": [2, *amounts], "watts at most W": [3, *amounts], "watts within W .. W": [4, *amounts], "word N": [5, *words],
-            "list N": [11, 0, *words], "list from N N": [11, *words], "why N": [12, *words]}[text]
+def why(page, x):
+    failed = [i for i, r in enumerate(page.rules()) if not meets(page.width, r, x)]
+    return [f"{x} fails {said_of(page, i)}" for i in failed] or [f"{x} meets every rule"]
+
+
+def answers(page, said):
+    what, rest = said[0], said[1:]
+    if what == 9:
+        return asked(page)
+    if what == 10:
+        fit = page.fitting()
+        total = 1 << page.width
+        return [f"{total if len(page.rules()) == 0 else len(fit)} of {total} words fit"]
+    if what == 11:
+        return [number(x) for x in [y for y in page.fitting() if y >= rest[0]][: rest[1]]]
+    if what == 12:
+        return why(page, rest[0])
+    if what == 13:
+        return shown(page)
+    return []
+
+
+def main():
+    page = None
+    for line in sys.stdin.buffer.read().split(b"\n")[:-1]:
+        said, _ = written.read(line, page.width if page else 64)
+        what, rest = said[0], said[1:]
+        if what == 14:
+            return
+        if what == 1:
+            page.entries.append(tuple(rest))
+        elif what == 5:
+            page = Page(rest[0])
+        elif what == 6:
+            page.entries.append("mark")
+        elif what == 7:
+            page.back()
+        elif what == 8:
+            page.entries += page.pile.pop()
+        if what in (1, 6):
+            page.pile = []
+        for answer in answers(page, said) if page else []:
+            print(answer)
+
+
+main()
