@@ -22,7 +22,10 @@ _branchmetal_many() {
 }
 
 _branchmetal_vet() {
-    _branchmetal_desk
+    case $COMP_CWORD in
+    1) _branchmetal_offer 'smt frames --help --version' ;;
+    *) _branchmetal_offer '' ;;
+    esac
 }
 
 complete -o filenames -F _branchmetal_desk desk
