@@ -1,6 +1,7 @@
 // Answers in words, on standard output.
 use crate::feeding::Run;
 use crate::feeding::within;
+use chain::Link;
 use counting::Share;
 use dialogue::Response;
 use libc::STDOUT_FILENO;
@@ -9,9 +10,6 @@ use rule::Rule;
 use sheet::Reply;
 use sheet::Sheet;
 use word::Width;
-
-// The reason of a link that names the fixed bits.
-const BITS: u64 = 255;
 
 // Tells what a statement is answered.
 pub fn tell(
@@ -24,7 +22,10 @@ pub fn tell(
     match response {
         Response::Asked(reply) => tell_asked(sheet, reply, numbers),
         Response::Counted(share) => tell_count(share, sheet.width),
-        Response::Listed(listing) => tell_words(listing.written, words),
+        Response::Listed(listing) => {
+            tell_words(listing.written, words);
+            tell_cut(sheet.width, statement, listing.written, words);
+        }
         Response::Blamed(listing) => tell_why(sheet, word_of(statement), listing.written, numbers),
         Response::Shown => show(sheet),
         _ => {}
@@ -85,19 +86,19 @@ fn tell_count(share: Share, width: u64) {
 // The links of a chain, a line each: `0 .. 10 fail rule 0: x + 5 <= 3`.
 fn tell_links(sheet: Sheet, links: usize, numbers: &[u64; Sheet::LENT]) {
     let mut i: usize = 0;
-    while i < Sheet::LENT / 3 {
+    while i < Sheet::LENT / Link::NUMBERS {
         if i < links {
-            io::print_decimal(STDOUT_FILENO, numbers[3 * i]);
+            io::print_decimal(STDOUT_FILENO, numbers[Link::NUMBERS * i]);
             put(b" .. ");
-            io::print_decimal(STDOUT_FILENO, numbers[3 * i + 1]);
-            tell_reason(sheet, numbers[3 * i + 2]);
+            io::print_decimal(STDOUT_FILENO, numbers[Link::NUMBERS * i + 1]);
+            tell_reason(sheet, numbers[Link::NUMBERS * i + 2]);
         }
         i += 1;
     }
 }
 
 fn tell_reason(sheet: Sheet, reason: u64) {
-    if reason == BITS {
+    if reason == Link::BITS {
         put(b" fail the fixed bits\n");
         return;
     }
@@ -142,6 +143,39 @@ fn tell_words(written: usize, words: &[u64; Run::WORDS]) {
         }
         i += 1;
     }
+}
+
+// Where a listing filled what is lent and more words were wanted, how it goes on: no word is left out unsaid.
+fn tell_cut(width: u64, statement: Statement, written: usize, words: &[u64; Run::WORDS]) {
+    let Statement::List(asked) = statement else {
+        return;
+    };
+    let most = Run::WORDS as u64;
+    let last = words[Run::WORDS - 1];
+    if written < Run::WORDS {
+        return;
+    }
+    if asked.most <= most {
+        return;
+    }
+    if is_top(last, width) {
+        return;
+    }
+    put(b"# at most ");
+    io::print_decimal(STDOUT_FILENO, most);
+    put(b" words at once: list from ");
+    io::print_decimal(STDOUT_FILENO, std::num::wrapping_add_u64(last, 1));
+    put(b" ");
+    io::print_decimal(STDOUT_FILENO, asked.most - most);
+    put(b" goes on\n");
+}
+
+// Whether a word is the top word.
+fn is_top(x: u64, width: u64) -> bool {
+    if 63 < width {
+        return x == u64::MAX;
+    }
+    1 << width == std::num::wrapping_add_u64(x, 1)
 }
 
 // What stands, and its picture in comments.
