@@ -98,6 +98,17 @@ fn unread(run: Run, error: i32) -> Run {
     run
 }
 
+// At the end of the input the rules in force are written, where they are wanted and no mistake came.
+pub fn finish(run: Run) -> Run {
+    let manner = run.manner;
+    let dialogue = run.dialogue;
+    if run.status != 0 {
+        return run;
+    }
+    manner::write_out(manner, dialogue.sheet);
+    written(run, os::errno())
+}
+
 // The last line, where one was begun.
 fn last_line(run: Run) -> Run {
     let mut after = run;
@@ -167,7 +178,40 @@ fn end_line(run: Run) -> Run {
         return run;
     }
     let n = within(len, &bytes);
-    take_line(run, &bytes[..n])
+    let after = take_line(run, &bytes[..n]);
+    written(after, os::errno())
+}
+
+// Ends the run where an answer could not be written: what errno then has stays, since calls that succeed leave it. Nobody taking the answers any
+// more is no failure.
+fn written(run: Run, error: i32) -> Run {
+    let mut run = run;
+    if !failed_write(error) {
+        return run;
+    }
+    run.more = false;
+    if error == libc::EPIPE {
+        return run;
+    }
+    if run.status == 0 {
+        os::fail(b"vet: standard output");
+        run.status = Run::FAILED;
+    }
+    run
+}
+
+// Whether a write failed: beside writes, only a missing or a long argument and an interrupted read leave a number.
+fn failed_write(error: i32) -> bool {
+    if error == 0 {
+        return false;
+    }
+    if error == libc::EINVAL {
+        return false;
+    }
+    if error == libc::ENAMETOOLONG {
+        return false;
+    }
+    error != libc::EINTR
 }
 
 // Takes a line, without its byte 10, and answers it.

@@ -1,8 +1,8 @@
 // Sheets as people write them: lines on standard input, answers in words on standard output, up to the first mistake. docs/VET.md says what a
 // line may say. With the argument `smt` or `frames` no line is answered, and at the end the rules in force are written for other tools.
 //
-// A program has no status of its own: at its end it writes one digit to descriptor 3, where the script `vet` reads it. 0: all was answered; 1: a read
-// failed; 2: a mistake.
+// A program has no status of its own: at its end it writes one digit to descriptor 3, where the script `vet` reads it. 0: all was answered; 1: a read or a
+// write failed; 2: a mistake.
 mod answers;
 mod feeding;
 mod manner;
@@ -20,11 +20,7 @@ fn main() {
         run = feeding::turn(run);
         turns = feeding::left(turns, run.more);
     }
-    if run.status == 0 {
-        let manner = run.manner;
-        let dialogue = run.dialogue;
-        manner::write_out(manner, dialogue.sheet);
-    }
-    let status = [feeding::digit(run.status)];
+    let last = feeding::finish(run);
+    let status = [feeding::digit(last.status)];
     io::write_all(STATUS, &status);
 }

@@ -31,8 +31,8 @@ loop-less c = search needs
 loop-again : tie.Need-loop-again Inv-loop μ-loop
 loop-again c = search needs
 
-write-out-requires : tie.Need-write-out-requires Inv-loop μ-loop
-write-out-requires c κs = search needs
+finish-requires : tie.Need-finish-requires Inv-loop μ-loop
+finish-requires c κs = search needs
 
 digit-requires : tie.Need-digit-requires Inv-loop μ-loop
 digit-requires c κs = search needs
@@ -59,7 +59,7 @@ main-spec =
     left-requires
     loop-less
     loop-again
-    write-out-requires
+    finish-requires
     digit-requires
     slice-aggregate-write-all
     write-all-requires
