@@ -1,12 +1,13 @@
 -- Laws of AND, OR, sums and differences under a mask, over all numbers. A number has the whole mask where its OR with it is
 -- itself. Each law goes by halves, or by a block of low bits and the rest. Assumes nothing.
 use mathlib.Core.Path.{_≡_, sym, ap, ap₂, _∙_, subst}
-use Prim.Native.Nat.{ℕ, zero, suc, _+_, _-_, _*_, _/_, _%_, _^_, _≤_, _<_, min}
+use Prim.Native.Nat.{ℕ, zero, suc, _+_, _-_, _*_, _/_, _%_, _^_, _≤_, _<_, min, max}
 use native.Mathlib.Nat.{add-zero, mul-le-mul-right, mod-lt, mod-eq-of-lt, div-eq-of-lt}
+use native.Mathlib.Decide.{decLt}
 use native.Mathlib.Omega.{arith}
 use lib.Arith.{half-le}
 use lib.Bits.{bitAnd, bitOr, and-comm, and-step, and-le-l, and-le-r, and-shr, and-mod, and-zero-l}
-use lib.Bits.{or-zero-l, or-zero-r, or-lt, or-shr, or-mod, or-block, or-add-and, or-disjoint}
+use lib.Bits.{or-zero-l, or-zero-r, or-step, or-lt, or-shr, or-mod, or-block, or-add-and, or-disjoint}
 use lib.Pow.{pow-pos, split, shr-mono}
 use Rattle.word.specs.Word.{top}
 use Rattle.word.proofs.Shared.{shared}
@@ -112,3 +113,28 @@ module _ (a m j : ℕ) (short : lack a m < 2 ^ j) (long : 2 ^ j ≤ 2 * lack a m
 
   pub whole-next : NextWhole a m (bitOr (a / 2 ^ j * 2 ^ j) m)
   whole-next = record { whole = or-twice (a / 2 ^ j * 2 ^ j) m; high = omega (arith, split a j, below, joint); least = lowest }
+
+-- no number between g, which has the whole mask, and one more with the mask set again has it; n bounds the digits to go
+none-between : (n g m y : ℕ) → g ≤ n → bitOr g m ≡ g → g < y → bitOr y m ≡ y → bitOr (suc g) m ≤ y
+none-between zero g m y h e l f = omega (arith, or-add-and g m, and-le-l g m, or-add-and (suc g) m)
+none-between (suc n) g m y h e l f = go (decLt (g % 2) 1) (none-between n (g / 2) (m / 2) (y / 2) (half-le h) half)
+  where
+    half : bitOr (g / 2) (m / 2) ≡ g / 2
+    half = omega (arith, or-step g m)
+
+    -- one more than g by its halves
+    halved : (h : ℕ) → suc g / 2 ≡ h → bitOr (suc g) m ≡ bitOr h (m / 2) * 2 + max (suc g % 2) (m % 2)
+    halved h d = or-step (suc g) m ∙ ap (λ (k : ℕ). bitOr k (m / 2) * 2 + max (suc g % 2) (m % 2)) d
+
+    go : Dec (g % 2 < 1) → (g / 2 < y / 2 → bitOr (y / 2) (m / 2) ≡ y / 2 → bitOr (suc (g / 2)) (m / 2) ≤ y / 2) → bitOr (suc g) m ≤ y
+    go (yes even) ih = omega (arith, or-step g m, half, halved (g / 2) (omega arith))
+    go (no odd) ih = omega (arith, or-step y m, halved (suc (g / 2)) (omega arith), ih (omega arith) (omega (arith, or-step y m)))
+
+-- from a number that has the whole mask the next is one more, with the mask set again
+pub whole-after : (g m : ℕ) → bitOr g m ≡ g → NextWhole (suc g) m (bitOr (suc g) m)
+whole-after g m e =
+    record {
+      whole = or-twice (suc g) m;
+      high = omega (arith, or-add-and (suc g) m, and-le-r (suc g) m);
+      least = λ y h f. none-between g g m y (omega arith) e (omega arith) f;
+    }

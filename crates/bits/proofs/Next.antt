@@ -2,6 +2,7 @@
 -- the numbers that have the whole mask: so the next from p on is the next of those from p and the gap on, less the gap. Assumes nothing.
 use mathlib.Core.Path.{_≡_, refl, sym, ap, _∙_, subst}
 use Prim.Native.Nat.{ℕ, suc, _+_, _-_, _*_, _/_, _^_, _≤_, _<_}
+use native.Mathlib.Numerals.{add-one}
 use native.Mathlib.Omega.{arith}
 use borrow.Author.Tests.{eq-eqb, ne-eqb}
 use lib.Bits.{bitAnd, bitOr, and-comm, and-le-l, and-mask, or-lt}
@@ -17,7 +18,7 @@ use Rattle.bits.specs.declared.Fixed.{Fixed}
 use Rattle.bits.specs.declared.Fixed.the-variants.{Bits, Clash}
 use Rattle.bits.specs.Fixed.{hasBits, Tidy}
 use Rattle.bits.proofs.Bit.{or-twice}
-use Rattle.bits.proofs.Masks.{NextWhole, lack, and-not, or-adds, or-takes, whole-here, whole-next}
+use Rattle.bits.proofs.Masks.{NextWhole, lack, and-not, or-adds, or-takes, whole-after, whole-here, whole-next}
 
 pub tidy-value : (f : Fixed) (m v : ℕ) → f ≡ Bits m v → Tidy f → bitAnd v m ≡ v
 unfolding Tidy
@@ -88,3 +89,23 @@ module _ (w m v p : ℕ) where
 
   pub found-here : NextWhole (p + (m - v)) m (p + (m - v)) → bitAnd v m ≡ v → p ≤ top w → first (hasBits (Bits m v)) (suc (top w) - p) p ≡ At p
   found-here n t h = let e : p + (m - v) - (m - v) ≡ p = omega arith in found-next _ n t (omega arith) ∙ ap At e
+
+-- above a word that has the bits: with the mask's bits set it has the whole mask, and one more is where the next is sought
+module _ (m v x : ℕ) (has : bitAnd x m ≡ v) where
+  set-mask : suc (bitOr x m) ≡ suc x + (m - v)
+  set-mask = omega (arith, or-adds x m v has)
+
+  pub none-after : m < 2 ^ 64 → bitOr x m ≡ 2 ^ 64 - 1 → first (hasBits (Bits m v)) (suc (top 64) - suc x) (suc x) ≡ Nothing
+  none-after h e = past 64 m v (suc x) (omega arith) h (omega (arith, set-mask))
+
+  next-after : NextWhole (suc x + (m - v)) m (bitOr (bitOr x m + 1) m)
+  next-after =
+      subst (λ (n : ℕ). NextWhole (suc x + (m - v)) m (bitOr n m)) (sym (add-one (bitOr x m)))
+      (subst (λ (n : ℕ). NextWhole n m (bitOr (suc (bitOr x m)) m)) set-mask (whole-after (bitOr x m) m (or-twice x m)))
+
+  pub after-gap : m - v ≤ bitOr (bitOr x m + 1) m
+  after-gap = omega (arith, next-after .high)
+
+  pub found-after : bitAnd v m ≡ v → m < 2 ^ 64 → bitOr x m + 1 < 2 ^ 64
+      → first (hasBits (Bits m v)) (suc (top 64) - suc x) (suc x) ≡ At (bitOr (bitOr x m + 1) m - (m - v))
+  found-after t h l = found-next 64 m v (suc x) _ next-after t (omega (arith, or-lt 64 (bitOr x m + 1) m l h, top-suc 64))

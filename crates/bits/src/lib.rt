@@ -1,5 +1,6 @@
 // The bits that rules of form 7 fix, and the words that have them.
 ghost use mathlib.Core.Path.{_≡_};
+ghost use mathlib.Core.Bool.{true};
 ghost use Prim.Native.Nat.{suc, _-_, _≤_};
 ghost use Rattle.word.specs.Word.{IsWidth, top};
 ghost use Rattle.word.specs.Search.{first};
@@ -70,6 +71,23 @@ impl Fixed {
             return Found::Nothing;
         }
         Found::At(x)
+    }
+
+    // The smallest word above x that has the bits, where x has them: the other bits count up, and the mask's are set to carry over them.
+    pub fn after(self, x: u64) -> Found
+        requires { ⌜ Tidy self × (hasBits self x ≡ true) ⌝ }
+        ensures { λ r. ⌜ r ≡ first (hasBits self) (suc (top 64) - suc x) (suc x) ⌝ }
+    {
+        let Fixed::Bits { mask, value } = self else {
+            return Found::Nothing;
+        };
+        let gap = mask - value;
+        let whole = x | mask;
+        if whole == u64::MAX {
+            return Found::Nothing;
+        }
+        let next = (whole + 1 | mask) - gap;
+        Found::At(next)
     }
 
     // The same bits on the wheel of words turned round, where x stands at top - x.

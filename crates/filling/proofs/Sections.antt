@@ -1,22 +1,25 @@
 -- The words of a section, one after the other: up to a word found they are those before it and itself, and none is left where the next
 -- word comes after the section. And the words that pass, section after section. Assumes nothing.
 use mathlib.Core.Path.{_≡_, refl, sym, ap, ap₂, _∙_}
-use mathlib.Core.Bool.{Bool, true, false}
+use mathlib.Core.Bool.{Bool, true, false, false≢true}
 use mathlib.Core.List.{List, [], _∷_, _++_, append-nil}
 use Prim.Native.Nat.{ℕ, suc, _+_, _-_, _≤_, _<_}
 use native.Mathlib.Omega.{arith}
+use borrow.Author.Tests.{eq-eqb, eqb-true}
+use lib.Bits.{bitAnd, and-le-r}
 use lib.ListN.{drop, length, length-append, length-drop, length-take, take}
 use Rattle.word.specs.Search.{passing}
 use Rattle.word.proofs.Searched.{First}
 use Rattle.band.specs.declared.Band.{Band}
 use Rattle.bits.specs.declared.Fixed.{Fixed}
-use Rattle.bits.specs.Fixed.{hasBits}
+use Rattle.bits.specs.declared.Fixed.the-variants.{Bits, Clash}
+use Rattle.bits.specs.Fixed.{Tidy, hasBits}
 use Rattle.rows.specs.Bands.{passes}
 use Rattle.section.specs.declared.Section.{Section}
 use Rattle.section.proofs.Alike.{Alike, failing-passes, held-passes}
 use Rattle.fitting.specs.Words.{atStart}
 use Rattle.fitting.proofs.Passing.{first-passing, none-passing, passing-same, passing-split}
-use Rattle.filling.specs.Put.{putAt, sectionWords}
+use Rattle.filling.specs.Put.{isFree, putAt, runWords, sectionWords}
 use Rattle.filling.proofs.Puts.{put-after, take-more}
 
 module _ (f : ℕ → Bool) where
@@ -55,6 +58,18 @@ module _ (s : Section) (f : Fixed) (p : ℕ) where
   pub no-words : s .held ≡ false → sectionWords s f p ≡ []
   unfolding sectionWords
   no-words e = rw (e, sectionWords)
+
+-- every word has the bits where none is fixed, and so a section that is held is its run of words
+free-has : (f : Fixed) → isFree f ≡ true → Tidy f → (x : ℕ) → hasBits f x ≡ true
+unfolding isFree Tidy hasBits
+free-has (Bits m v) e t x = let z = eqb-true m 0 e in eq-eqb (bitAnd x m) v (omega (arith, z, t, and-le-r x m, and-le-r v m))
+free-has Clash e t x = absurd (false≢true e)
+
+pub free-words : (s : Section) (f : Fixed) (p : ℕ) → s .held ≡ true → isFree f ≡ true → Tidy f
+    → runWords (record { from = p; to = s .to }) ≡ sectionWords s f p
+unfolding runWords
+free-words s f p h e t =
+    passing-same (λ (x : ℕ). true) (hasBits f) (suc (s .to) - p) p (λ y l b. sym (free-has f e t y)) ∙ sym (held-words s f p h)
 
 -- are those that pass
 pub section-words : {t : ℕ} {bs : List Band} {p : ℕ} {s : Section} → Alike t bs p s → (f : Fixed)

@@ -9,36 +9,36 @@ ghost use Rattle.bits.specs.Fixed.{Tidy};
 ghost use Rattle.rows.specs.Bands.{Lie, passes};
 ghost use Rattle.rows.specs.Rows.{bandsIn};
 ghost use Rattle.fitting.specs.Words.{atStart};
-ghost use Rattle.filling.specs.Put.{putAt, sectionWords};
+ghost use Rattle.filling.specs.Put.{isFree, putAt, runWords, sectionWords};
+use band::Run;
 use bits::Fixed;
+use rows::InForce;
 use rule::Rule;
 use section::Section;
 use word::Found;
-use word::Width;
 
-// Writes the words from a start on that the first n bands hold and that have the bits, as many as the buffer holds, and says how many.
+// Writes the words from a start on that the bands in force hold and that have the bits, as many as the buffer holds, and says how many.
 // It looks at no more sections than there can be.
 pub fn fill(
     rows: &[[u64; rows::NUMBERS]; Rule::LIMIT],
-    n: usize,
-    fixed: Fixed,
-    width: Width,
+    force: InForce,
     start: u64,
     out: &mut [u64],
 ) -> usize
-    requires { ⌜ IsWidth (width .bits) ⌝ }
-    requires { ⌜ (start ≤ top (width .bits)) × Lie (top (width .bits)) n (bandsIn (now rows)) ⌝ }
-    requires { ⌜ Tidy fixed ⌝ }
-    ensures { λ r. ⌜ r ≡ length (take (length (now (out .entry))) (passing (passes (take n (bandsIn (now (rows .entry)))) fixed) (suc (top (width .bits)) - start) start)) ⌝ }
-    ensures { λ _. ⌜ now (out .exit) ≡ atStart (take (length (now (out .entry))) (passing (passes (take n (bandsIn (now (rows .entry)))) fixed) (suc (top (width .bits)) - start) start)) (now (out .entry)) ⌝ }
+    requires { ⌜ IsWidth (force .width .bits) ⌝ }
+    requires { ⌜ (start ≤ top (force .width .bits)) × Lie (top (force .width .bits)) (force .count) (bandsIn (now rows)) ⌝ }
+    requires { ⌜ Tidy (force .fixed) ⌝ }
+    ensures { λ r. ⌜ r ≡ length (take (length (now (out .entry))) (passing (passes (take (force .count) (bandsIn (now (rows .entry)))) (force .fixed)) (suc (top (force .width .bits)) - start) start)) ⌝ }
+    ensures { λ _. ⌜ now (out .exit) ≡ atStart (take (length (now (out .entry))) (passing (passes (take (force .count) (bandsIn (now (rows .entry)))) (force .fixed)) (suc (top (force .width .bits)) - start) start)) (now (out .entry)) ⌝ }
 {
-    let top = width.top();
+    let n = force.count;
+    let top = force.width.top();
     let most = section::most(n);
     let mut p = start;
     let mut at = 0;
     for _ in 0..most {
         let section = section::at(rows, n, top, p);
-        at = put_section(section, fixed, width, p, &mut *out, at);
+        at = put_section(section, force, p, &mut *out, at);
         if section.to == top {
             return at;
         }
@@ -51,40 +51,67 @@ pub fn fill(
 }
 
 // Writes the words of a section from p on that have the bits, where the bands hold it, from a place of the buffer on, and says which
-// place comes after them.
-fn put_section(
-    section: Section,
-    fixed: Fixed,
-    width: Width,
-    first: u64,
-    out: &mut [u64],
-    place: usize,
-) -> usize
-    requires { ⌜ IsWidth (width .bits) ⌝ }
-    requires { ⌜ (first ≤ section .to) × (section .to ≤ top (width .bits)) ⌝ }
-    requires { ⌜ Tidy fixed × (place ≤ length (now out)) ⌝ }
-    ensures { λ r. ⌜ r ≡ place + length (take (length (now (out .entry)) - place) (sectionWords section fixed first)) ⌝ }
-    ensures { λ _. ⌜ now (out .exit) ≡ putAt (now (out .entry)) place (take (length (now (out .entry)) - place) (sectionWords section fixed first)) ⌝ }
+// place comes after them. The first is looked for, and the others follow one from another.
+fn put_section(section: Section, force: InForce, p: u64, out: &mut [u64], place: usize) -> usize
+    requires { ⌜ IsWidth (force .width .bits) ⌝ }
+    requires { ⌜ (p ≤ section .to) × (section .to ≤ top (force .width .bits)) ⌝ }
+    requires { ⌜ Tidy (force .fixed) × (place ≤ length (now out)) ⌝ }
+    ensures { λ r. ⌜ r ≡ place + length (take (length (now (out .entry)) - place) (sectionWords section (force .fixed) p)) ⌝ }
+    ensures { λ _. ⌜ now (out .exit) ≡ putAt (now (out .entry)) place (take (length (now (out .entry)) - place) (sectionWords section (force .fixed) p)) ⌝ }
 {
     if !section.held {
         return place;
     }
     let last = section.to;
-    let mut p = first;
+    let fixed = force.fixed;
+    if free(fixed) {
+        return put_run(Run { from: p, to: last }, &mut *out, place);
+    }
+    let Found::At(first) = fixed.next(force.width, p) else {
+        return place;
+    };
+    let mut x = first;
     let mut at = place;
     while at < out.len() {
-        let Found::At(x) = fixed.next(width, p) else {
-            return at;
-        };
         if last < x {
             return at;
         }
         out[at] = x;
         at += 1;
+        let Found::At(next) = fixed.after(x) else {
+            return at;
+        };
+        x = next;
+    }
+    at
+}
+
+// Whether no bit is fixed.
+fn free(fixed: Fixed) -> bool
+    ensures { λ r. ⌜ r ≡ isFree fixed ⌝ }
+{
+    match fixed {
+        Fixed::Bits { mask, value: _ } => mask == 0,
+        Fixed::Clash => false,
+    }
+}
+
+// Writes the words of a run from a place of the buffer on, one after another, and says which place comes after them.
+fn put_run(words: Run, out: &mut [u64], place: usize) -> usize
+    requires { ⌜ (words .from ≤ words .to) × (place ≤ length (now out)) ⌝ }
+    ensures { λ r. ⌜ r ≡ place + length (take (length (now (out .entry)) - place) (runWords words)) ⌝ }
+    ensures { λ _. ⌜ now (out .exit) ≡ putAt (now (out .entry)) place (take (length (now (out .entry)) - place) (runWords words)) ⌝ }
+{
+    let last = words.to;
+    let mut x = words.from;
+    let mut at = place;
+    while at < out.len() {
+        out[at] = x;
+        at += 1;
         if x == last {
             return at;
         }
-        p = x + 1;
+        x += 1;
     }
     at
 }

@@ -1,6 +1,7 @@
 // Which words fit a sheet: from a given word upward, as many as a lent buffer holds.
 ghost use mathlib.Core.Path.{_≡_};
 ghost use Rattle.listing.specs.Listed.{Listed, listings};
+use rows::InForce;
 use rows::NUMBERS;
 use rule::Rule;
 use sheet::Sheet;
@@ -30,7 +31,12 @@ pub fn list(sheet: Sheet, start: u64, out: &mut [u64]) -> Listing
         return refusal(5);
     }
     let fixed = head.fixed;
-    let written = filling::fill(&rows, head.counts.count, fixed, width, start, &mut *out);
+    let force = InForce {
+        count: head.counts.count,
+        fixed,
+        width,
+    };
+    let written = filling::fill(&rows, force, start, &mut *out);
     Listing { number: 0, written }
 }
 

@@ -22,15 +22,15 @@ use Rattle.filling.proofs.fill.Statement.{statement}
 use Rattle.filling.proofs.fill.Tie as tie
 
 abbrev Inv-loop : tie.InvT-loop
-Inv-loop rows n fixed width start out₀ top most p₀ at₀ counter₀ out p at counter =
+Inv-loop rows force start out₀ n top most p₀ at₀ counter₀ out p at counter =
     (start ≤ p)
     × (p ≤ top)
-    × (at ≡ length (upTo out₀ (passes (take n (bandsIn rows)) fixed) start p))
-    × (out ≡ atStart (upTo out₀ (passes (take n (bandsIn rows)) fixed) start p) out₀)
+    × (at ≡ length (upTo out₀ (passes (take n (bandsIn rows)) (force .fixed)) start p))
+    × (out ≡ atStart (upTo out₀ (passes (take n (bandsIn rows)) (force .fixed)) start p) out₀)
     × (counter + turnsFrom top (take n (bandsIn rows)) p ≤ 2 * n)
 
 abbrev μ-loop : tie.MeasureT-loop
-μ-loop rows n fixed width start out₀ top most p₀ at₀ counter₀ out p at counter = most - counter
+μ-loop rows force start out₀ n top most p₀ at₀ counter₀ out p at counter = most - counter
 
 -- what is known in the loop
 abbrev Inner : Type 0
@@ -46,13 +46,13 @@ abbrev lying : Inner → List Band
 lying a = bandsIn (start a .args .rows .now)
 
 abbrev bands : Inner → List Band
-bands a = take (start a .args .n) (lying a)
+bands a = take (start a .args .force .count) (lying a)
 
 abbrev buffer : Inner → List ℕ
 buffer a = start a .args .out .now
 
 abbrev pass : Inner → ℕ → Bool
-pass a = passes (bands a) (start a .args .fixed)
+pass a = passes (bands a) (start a .args .force .fixed)
 
 top-requires : tie.Need-top-requires Inv-loop μ-loop
 top-requires c κs = c .before .pre .0
@@ -65,8 +65,8 @@ loop-holds c =
     let o = c .before in
     let s = o .before .before in
     let b : List ℕ = s .args .out .now in
-    let f : ℕ → Bool = passes (take (s .args .n) (bandsIn (s .args .rows .now))) (s .args .fixed) in
-    let lies = subst (λ (t : ℕ). Lie t (s .args .n) (bandsIn (s .args .rows .now))) (sym (o .top .ensures)) (s .pre .1 .0 .1) in
+    let f : ℕ → Bool = passes (take (s .args .force .count) (bandsIn (s .args .rows .now))) (s .args .force .fixed) in
+    let lies = subst (λ (t : ℕ). Lie t (s .args .force .count) (bandsIn (s .args .rows .now))) (sym (o .top .ensures)) (s .pre .1 .0 .1) in
     let none : upTo b f (s .args .start) (s .args .start) ≡ [] = ap (take (length b)) (passing-none f (s .args .start)) ∙ take-nil (length b) in (
       omega arith,
       omega (arith, o .top .ensures, s .pre .1 .0 .0),
@@ -75,8 +75,8 @@ loop-holds c =
       few-turns lies (s .args .start),
     )
 
-lie : (a : Inner) → Lie (highest a) (start a .args .n) (lying a)
-lie a = subst (λ (t : ℕ). Lie t (start a .args .n) (lying a)) (sym (a .before .before .top .ensures)) (start a .pre .1 .0 .1)
+lie : (a : Inner) → Lie (highest a) (start a .args .force .count) (lying a)
+lie a = subst (λ (t : ℕ). Lie t (start a .args .force .count) (lying a)) (sym (a .before .before .top .ensures)) (start a .pre .1 .0 .1)
 
 at-requires : tie.Need-at-requires Inv-loop μ-loop
 at-requires c κs = (c .before .loop .inv .1, lie (c .before))
@@ -113,7 +113,7 @@ abbrev words : Inner → ℕ → List ℕ
 words a = upTo (buffer a) (pass a) (start a .args .start)
 
 abbrev Written : Put → List ℕ → Type 0
-Written c xs = (c .put-section .result ≡ length xs) × (c .put-section .last .1 .1 .1 .1 .0 ≡ atStart xs (buffer (inner (looked c))))
+Written c xs = (c .put-section .result ≡ length xs) × (c .put-section .last .1 .1 .1 .0 ≡ atStart xs (buffer (inner (looked c))))
 
 put : (c : Put) → Written c (words (inner (looked c)) (suc (looked c .at .result .to)))
 put c =
@@ -121,9 +121,9 @@ put c =
     let a = inner o in
     let s = o .at .result in
     up-to-put (buffer a) (pass a) (start a .args .start) (a .loop .p) (suc (s .to)) _ (a .loop .inv .0) (omega (arith, alike o .order))
-    (section-words (alike o) (start a .args .fixed)) (a .loop .inv .2) (a .loop .inv .3) (c .put-section .ensures .0) (c .put-section .ensures .1)
+    (section-words (alike o) (start a .args .force .fixed)) (a .loop .inv .2) (a .loop .inv .3) (c .put-section .ensures .0) (c .put-section .ensures .1)
 
-same : (c : Put) → length (c .put-section .last .1 .1 .1 .1 .0) ≡ length (buffer (inner (looked c)))
+same : (c : Put) → length (c .put-section .last .1 .1 .1 .0) ≡ length (buffer (inner (looked c)))
 same c =
     let a = inner (looked c) in
     ap length (put c .1) ∙ start-length (buffer a) (pass a) (start a .args .start) (suc (looked c .at .result .to))
@@ -148,7 +148,7 @@ returns-2 c =
     let a = inner o in
     subst (Written r)
     (sym
-    (up-to-full (buffer a) (pass a) (start a .args .start) (suc (o .at .result .to)) (suc (top (start a .args .width .bits)))
+    (up-to-full (buffer a) (pass a) (start a .args .start) (suc (o .at .result .to)) (suc (top (start a .args .force .width .bits)))
     (omega (arith, a .loop .inv .0, alike o .order)) (omega (arith, alike o .bound, a .before .before .top .ensures)) (sym (put r .0) ∙ c .if2 .taken ∙ same r)))
     (put r)
 
@@ -175,7 +175,7 @@ loop-again c =
       omega (arith, alike o .bound, e .if1 .left),
       put r .0 ∙ ap (λ (q : ℕ). length (words a q)) next,
       put r .1 ∙ ap (λ (q : ℕ). atStart (words a q) (buffer a)) next,
-      subst (λ (q : ℕ). a .loop .counter + 1 + turnsFrom (highest a) (bands a) q ≤ 2 * start a .args .n) next (omega (arith, less, a .loop .inv .4)),
+      subst (λ (q : ℕ). a .loop .counter + 1 + turnsFrom (highest a) (bands a) q ≤ 2 * start a .args .force .count) next (omega (arith, less, a .loop .inv .4)),
     )
 
 same-length-3 : tie.Need-same-length-3 Inv-loop μ-loop
