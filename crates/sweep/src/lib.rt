@@ -7,31 +7,87 @@ ghost use Rattle.word.specs.Search.{first};
 ghost use Rattle.bits.specs.Fixed.{Tidy};
 ghost use Rattle.rows.specs.Bands.{Lie, allSeen, passes};
 ghost use Rattle.rows.specs.Rows.{bandsIn};
-use bits::Fixed;
+ghost use Rattle.sweep.specs.Walked.{Walks};
+use rows::InForce;
 use rule::Rule;
 use word::Found;
-use word::Width;
 
-// The first word from a start on that the bands of the first n rows hold and that has the bits, here or on the wheel turned round. It
-// goes from one failing run to the next, never word by word, and leaves both loops as soon as a word fits. Where a band failed the bands from
-// the one before it on are looked at first: of rules in a row, up or down the wheel, one of these fails next. The newest band is the first of all.
+// How often all bands are gone through before a leap, which sorts them.
+const PATIENCE: usize = 9;
+
+// How a walk ends: at a word that passes, nowhere, or at a word from which a leap is better.
+pub enum Walked {
+    At(u64),
+    Nothing,
+    Tired(u64),
+}
+
+// The first word from a start on that the bands in force hold and that has the bits, here or on the wheel turned round. Where a walk from run to
+// run goes through all bands too often, they are in no order along the wheel, and it leaps once. The walk stands apart from the leap, so that its
+// loops stay as small as they are without one.
 pub fn sweep(
     rows: &[[u64; rows::NUMBERS]; Rule::LIMIT],
-    n: usize,
+    force: InForce,
     turned: bool,
-    fixed: Fixed,
-    width: Width,
     start: u64,
 ) -> Found
-    requires { ⌜ IsWidth (width .bits) ⌝ }
-    requires { ⌜ (start ≤ top (width .bits)) × Lie (top (width .bits)) n (bandsIn (now rows)) ⌝ }
-    requires { ⌜ Tidy fixed ⌝ }
-    ensures { λ r. ⌜ r ≡ first (passes (allSeen turned (top (width .bits)) (take n (bandsIn (now (rows .entry))))) fixed) (suc (top (width .bits)) - start) start ⌝ }
+    requires { ⌜ IsWidth (force .width .bits) ⌝ }
+    requires { ⌜ (start ≤ top (force .width .bits)) × Lie (top (force .width .bits)) (force .count) (bandsIn (now rows)) ⌝ }
+    requires { ⌜ Tidy (force .fixed) ⌝ }
+    ensures { λ r. ⌜ r ≡ first (passes (allSeen turned (top (force .width .bits)) (take (force .count) (bandsIn (now (rows .entry))))) (force .fixed)) (suc (top (force .width .bits)) - start) start ⌝ }
 {
+    match walk(rows, force, turned, start, PATIENCE) {
+        Walked::At(x) => Found::At(x),
+        Walked::Nothing => Found::Nothing,
+        Walked::Tired(p) => rested(rows, force, turned, p),
+    }
+}
+
+// The same after a leap.
+fn rested(
+    rows: &[[u64; rows::NUMBERS]; Rule::LIMIT],
+    force: InForce,
+    turned: bool,
+    start: u64,
+) -> Found
+    requires { ⌜ IsWidth (force .width .bits) ⌝ }
+    requires { ⌜ (start ≤ top (force .width .bits)) × Lie (top (force .width .bits)) (force .count) (bandsIn (now rows)) ⌝ }
+    requires { ⌜ Tidy (force .fixed) ⌝ }
+    ensures { λ r. ⌜ r ≡ first (passes (allSeen turned (top (force .width .bits)) (take (force .count) (bandsIn (now (rows .entry))))) (force .fixed)) (suc (top (force .width .bits)) - start) start ⌝ }
+{
+    let Found::At(p) = leap::leap(rows, force, turned, start) else {
+        return Found::Nothing;
+    };
+    match walk(rows, force, turned, p, 0) {
+        Walked::At(x) => Found::At(x),
+        Walked::Nothing => Found::Nothing,
+        Walked::Tired(_) => Found::Nothing,
+    }
+}
+
+// A walk from a start on: it goes from one failing run to the next, never word by word, and leaves both loops as soon as a word fits. Where a band
+// failed the bands from the one before it on are looked at first: of rules in a row, up or down the wheel, one of these fails next. The newest band
+// is the first of all. With patience it ends where it has gone through all bands so often; with 0 it goes on.
+fn walk(
+    rows: &[[u64; rows::NUMBERS]; Rule::LIMIT],
+    force: InForce,
+    turned: bool,
+    start: u64,
+    patience: usize,
+) -> Walked
+    requires { ⌜ IsWidth (force .width .bits) ⌝ }
+    requires { ⌜ (start ≤ top (force .width .bits)) × Lie (top (force .width .bits)) (force .count) (bandsIn (now rows)) ⌝ }
+    requires { ⌜ Tidy (force .fixed) ⌝ }
+    ensures { λ r. ⌜ Walks (allSeen turned (top (force .width .bits)) (take (force .count) (bandsIn (now (rows .entry))))) (force .fixed) (top (force .width .bits)) start patience r ⌝ }
+{
+    let n = force.count;
+    let fixed = force.fixed;
+    let width = force.width;
     let top = width.top();
-    let mut found = Found::Nothing;
+    let mut found = Walked::Nothing;
     let mut p = start;
     let mut i = n;
+    let mut left = patience;
     'words: loop {
         let Found::At(x) = fixed.next(width, p) else {
             break;
@@ -54,13 +110,27 @@ pub fn sweep(
                 }
                 i += 1;
             } else if all {
-                found = Found::At(p);
+                found = Walked::At(p);
+                break 'words;
+            } else if left == 1 {
+                found = Walked::Tired(p);
                 break 'words;
             } else {
+                left = fewer(left);
                 all = true;
                 i = 0;
             }
         }
     }
     found
+}
+
+// One less, where there is one.
+fn fewer(patience: usize) -> usize
+    ensures { λ r. ⌜ (patience ≡ 0 → r ≡ 0) ⌝ }
+{
+    if 0 < patience {
+        return patience - 1;
+    }
+    0
 }

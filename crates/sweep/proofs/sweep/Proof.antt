@@ -1,297 +1,51 @@
--- `sweep` meets its contract. The outer loop's invariant: no word from the start to p passes. The inner one's: p has the bits and, once all
--- bands are gone through, those looked at hold p; what the looks before that find is no part of it. The measures are the words and the looks
--- left. Assumes nothing.
-use mathlib.Core.Path.{_≡_, refl, sym, ap, _∙_, subst}
-use mathlib.Core.Bool.{Bool, true, false, false≢true}
+-- `sweep` meets its contract: a walk finds the word, or comes to one before which none passes. Assumes nothing.
 use mathlib.Core.List.{List}
-use mathlib.Core.Logic.{⊎-elim}
-use Prim.Native.Nat.{ℕ, suc, _+_, _-_, _≤_, _<_}
-use native.Mathlib.Numerals.{add-one}
-use native.Mathlib.Omega.{arith}
+use Prim.Native.Nat.{ℕ}
 use borrow.Author.Needs.{needs}
-use borrow.Author.Tests.{not-false, not-true}
-use lib.ListN.{getD, length, take}
-use lib.Seq.{getD-take, length-take-le, take-all}
-use Rattle.word.specs.declared.Found.{Found}
-use Rattle.word.specs.declared.Found.the-variants.{At, Nothing}
+use lib.ListN.{take}
 use Rattle.word.specs.Word.{top}
-use Rattle.word.specs.Search.{climb, first}
-use Rattle.word.proofs.Searched.{First, first-is}
 use Rattle.band.specs.declared.Band.{Band}
-use Rattle.band.specs.Band.{Laid, allHold, holds}
-use Rattle.bits.specs.Fixed.{hasBits}
-use Rattle.rows.specs.Bands.{allSeen, blankBand, passes, seen}
+use Rattle.rows.specs.Bands.{allSeen}
 use Rattle.rows.specs.Rows.{bandsIn}
-use Rattle.rows.proofs.Reading.{laid-take, seen-at, seen-laid, seen-length}
-use Rattle.sweep.proofs.Steps.{NoneBelow, found-at, found-none, hold-suc, past-all, past-next, past-run, run-range}
+use Rattle.sweep.proofs.Ways.{same-found}
 use Rattle.sweep.proofs.sweep.Statement.{statement}
 use Rattle.sweep.proofs.sweep.Tie as tie
 
--- the looks that are left: at the bands from i on and, until all are gone through, at all of them after that
-left : Bool → ℕ → ℕ → ℕ
-left true n i = n - i
-left false n i = suc n + (n - i)
+abbrev tops : tie.Start → ℕ
+tops s = top (s .args .force .width .bits)
 
-abbrev Inv-loop : tie.InvT-loop
-Inv-loop rows n turned fixed width start top found₀ p₀ i₀ x all₀ found p i all =
-    (i ≤ n) × (p ≡ x) × (found ≡ found₀) × (all ≡ true → allHold (take i (allSeen turned top (take n (bandsIn rows)))) p ≡ true)
+abbrev bands : tie.Start → List Band
+bands s = allSeen (s .args .turned) (tops s) (take (s .args .force .count) (bandsIn (s .args .rows .now)))
 
-abbrev μ-loop : tie.MeasureT-loop
-μ-loop rows n turned fixed width start top found₀ p₀ i₀ x all₀ found p i all = left all n i
+walk-requires : tie.Need-walk-requires
+walk-requires c κs = search needs
 
-abbrev Inv-words : tie.InvT-words
-Inv-words rows n turned fixed width start top found₀ p₀ i₀ found p i =
-    (i ≤ n) × (start ≤ p) × (p ≤ top) × (found ≡ Nothing) × NoneBelow (allSeen turned top (take n (bandsIn rows))) fixed start p
-
-abbrev μ-words : tie.MeasureT-words
-μ-words rows n turned fixed width start top found₀ p₀ i₀ found p i = top - p
-
-top-requires : tie.Need-top-requires Inv-loop μ-loop Inv-words μ-words
-top-requires c κs = search needs
-
-words-holds : tie.Need-words-holds Inv-loop μ-loop Inv-words μ-words
-words-holds c = (omega arith, omega arith, omega arith, refl, λ x l h. absurd (omega arith))
-
--- what is known in the outer loop
-abbrev Outer : Type 0
-Outer = tie.At-words Inv-loop μ-loop Inv-words μ-words
-
-abbrev start : Outer → tie.Start Inv-loop μ-loop Inv-words μ-words
-start o = o .before .before
-
--- the bands that lie in the arrays, and those that are swept
-abbrev lying : Outer → List Band
-lying o = bandsIn (start o .args .rows .now)
-
-abbrev bands : Outer → List Band
-bands o = allSeen (start o .args .turned) (o .before .top .result) (take (start o .args .n) (lying o))
-
-long : (o : Outer) → start o .args .n ≤ length (lying o)
-long o = let l = start o .pre .1 .0 .1 in omega (arith, l .places, l .count)
-
-count : (o : Outer) → length (bands o) ≡ start o .args .n
-count o = seen-length _ _ (take (start o .args .n) (lying o)) ∙ length-take-le (start o .args .n) (lying o) (long o)
-
-top-is : (o : Outer) → o .before .top .result ≡ top (start o .args .width .bits)
-top-is o = o .before .top .ensures
-
-next-requires : tie.Need-next-requires Inv-loop μ-loop Inv-words μ-words
-next-requires c κs = (start c .pre .0, (omega (arith, top-is c), start c .pre .1 .1))
-
-enum-known-x : tie.Need-enum-known-x Inv-loop μ-loop Inv-words μ-words
+enum-known-x : tie.Need-enum-known-x
 enum-known-x c = search needs
 
-enum-told : tie.Need-enum-told Inv-loop μ-loop Inv-words μ-words
+enum-told : tie.Need-enum-told
 enum-told c = search needs
 
-sub-i : tie.Need-sub-i Inv-loop μ-loop Inv-words μ-words
-sub-i c = search needs
+enum-known-p : tie.Need-enum-known-p
+enum-known-p c = search needs
 
-loop-holds : tie.Need-loop-holds Inv-loop μ-loop Inv-words μ-words
-loop-holds c = (⊎-elim (λ w. omega arith) (λ w. omega arith) (c .if1 .came), refl, refl, λ e. absurd (false≢true e))
+rested-requires : tie.Need-rested-requires
+rested-requires c κs =
+    let s = c .before .before .before .before in
+    let l = c .before .before .before .walk .ensures .tired _ (c .before .p .given .1) in
+    (s .pre .0, ((l .1, s .pre .1 .0 .1), s .pre .1 .1))
 
--- what is known in the inner loop
-abbrev Inner : Type 0
-Inner = tie.At-loop Inv-loop μ-loop Inv-words μ-words
+returns : tie.Need-returns
+returns c = c .before .before .before .walk .ensures .at _ (c .before .x .given .1)
 
-abbrev chosen : Inner → tie.After-x Inv-loop μ-loop Inv-words μ-words
-chosen a = a .before .before .before
+returns-2 : tie.Need-returns-2
+returns-2 c = c .before .before .walk .ensures .nothing (c .enum-told .given .1)
 
-abbrev outer : Inner → Outer
-outer a = chosen a .before .before .before
-
--- p is the next word that has the bits
-next-at : (a : Inner)
-    → First (hasBits (start (outer a) .args .fixed)) (suc (top (start (outer a) .args .width .bits)) - outer a .words .p) (outer a .words .p) (chosen a .x .given .0 .0)
-next-at a = first-is _ _ _ _ (sym (chosen a .before .before .next .ensures) ∙ chosen a .x .given .1)
-
--- it is a word, and no word from the start to it passes
-word : (a : Inner) → (outer a .words .p ≤ a .loop .p) × (a .loop .p ≤ outer a .before .top .result)
-word a =
-    let f = next-at a in
-    (omega (arith, f .low, a .loop .inv .1), omega (arith, f .high, a .loop .inv .1, top-is (outer a)))
-
-below : (a : Inner) → NoneBelow (bands (outer a)) (start (outer a) .args .fixed) (start (outer a) .args .start) (a .loop .p)
-below a =
-    subst (NoneBelow (bands (outer a)) (start (outer a) .args .fixed) (start (outer a) .args .start)) (sym (a .loop .inv .1))
-    (past-next (bands (outer a)) _ _ _ _ _ (outer a .words .inv .4) (next-at a))
-
--- the band at i is laid
-one-laid : (a : Inner) → a .loop .i < start (outer a) .args .n → Laid (outer a .before .top .result) (getD (lying (outer a)) (a .loop .i) blankBand)
-one-laid a h =
-    let o = outer a in
-    subst (λ (t : ℕ). Laid t (getD (lying o) (a .loop .i) blankBand)) (sym (top-is o))
-    (laid-take _ (lying o) (start o .args .n) (a .loop .i) blankBand h (long o) (start o .pre .1 .0 .1 .laid))
-
-band-at-requires : tie.Need-band-at-requires Inv-loop μ-loop Inv-words μ-words
-band-at-requires c κs =
-    let a = c .before in
-    let l = start (outer a) .pre .1 .0 .1 in
-    (omega (arith, l .count), one-laid a (c .if2 .taken))
-
--- the band that was read is the one that is swept
-read : (c : tie.After-band-at Inv-loop μ-loop Inv-words μ-words)
-    → c .band-at .result ≡ getD (bands (outer (c .before .before))) (c .before .before .loop .i) blankBand
-read c =
-    let a = c .before .before in
-    let o = outer a in
-    let n = start o .args .n in
-    let size = length-take-le n (lying o) (long o) in
-    c .band-at .ensures
-    ∙ ap (seen (start o .args .turned) (o .before .top .result)) (sym (getD-take n (lying o) (a .loop .i) blankBand (c .before .if2 .taken)))
-    ∙ sym (seen-at (start o .args .turned) (o .before .top .result) (take n (lying o)) (a .loop .i) blankBand (omega (arith, size, c .before .if2 .taken)))
-
-holds-requires : tie.Need-holds-requires Inv-loop μ-loop Inv-words μ-words
-holds-requires c κs = search needs
-
-failed : (c : tie.Then3 Inv-loop μ-loop Inv-words μ-words) → holds (c .before .before .band-at .result) (c .before .before .before .before .loop .p) ≡ false
-failed c = sym (c .before .holds .ensures) ∙ not-true _ (c .if3 .taken)
-
-run-requires : tie.Need-run-requires Inv-loop μ-loop Inv-words μ-words
-run-requires c κs =
-    let look = c .before .before .before in
-    let a = look .before in (
-      subst (Laid _) (sym (c .before .before .band-at .ensures)) (seen-laid _ _ _ (one-laid a (look .if2 .taken))),
-      word a .1,
-      failed c,
-    )
-
-ended : (c : tie.After-run Inv-loop μ-loop Inv-words μ-words)
-    → (c .before .before .before .before .before .loop .p ≤ c .run .result .to) × (c .run .result .to ≤ outer (c .before .before .before .before .before) .before .top .result)
-ended c = run-range _ _ _ _ (word (c .before .before .before .before .before) .1) (c .run .ensures .1)
-
-past : (c : tie.After-run Inv-loop μ-loop Inv-words μ-words)
-    → NoneBelow (bands (outer (c .before .before .before .before .before))) (start (outer (c .before .before .before .before .before)) .args .fixed)
-    (start (outer (c .before .before .before .before .before)) .args .start) (c .run .result .to + 1)
-past c =
-    let look = c .before .before .before .before in
-    let a = look .before in
-    let o = outer a in
-    let same = read (c .before .before .before) in
-    past-run (bands o) (start o .args .fixed) (start o .args .start) (o .before .top .result) (a .loop .p) _ (a .loop .i) blankBand
-    (omega (arith, count o, look .if2 .taken)) (word a .1) (below a) (subst (λ (b : Band). holds b (a .loop .p) ≡ false) same (failed (c .before)))
-    (c .run .ensures .1 ∙ ap (λ (b : Band). climb (holds b) (o .before .top .result - a .loop .p) (a .loop .p)) same)
-
-add-p : tie.Need-add-p Inv-loop μ-loop Inv-words μ-words
-add-p c = omega (arith, ended (c .before))
-
-words-less : tie.Need-words-less Inv-loop μ-loop Inv-words μ-words
-words-less c =
-    let a = c .before .before .before .before .before .before in
-    omega (arith, ended (c .before), word a)
-
-words-again : tie.Need-words-again Inv-loop μ-loop Inv-words μ-words
-words-again c =
-    let a = c .before .before .before .before .before .before in (
-      a .loop .inv .0,
-      omega (arith, ended (c .before), outer a .words .inv .1, word a),
-      omega (arith, ended (c .before)),
-      a .loop .inv .2 ∙ outer a .words .inv .3,
-      past (c .before),
-    )
-
-add-i : tie.Need-add-i Inv-loop μ-loop Inv-words μ-words
-add-i c = search needs
-
--- one look less is left
-fewer : (all : Bool) (n i : ℕ) → i < n → left all n (i + 1) < left all n i
-unfolding left
-fewer true n i h = omega arith
-fewer false n i h = omega arith
-
-loop-less : tie.Need-loop-less Inv-loop μ-loop Inv-words μ-words
-loop-less c = let look = c .before .before .before .before in fewer (look .before .loop .all) _ _ (look .if2 .taken)
-
-loop-again : tie.Need-loop-again Inv-loop μ-loop Inv-words μ-words
-loop-again c =
-    let look = c .before .before .before .before in
-    let a = look .before in
-    let o = outer a in (
-      omega (arith, look .if2 .taken),
-      a .loop .inv .1,
-      a .loop .inv .2,
-      λ e. subst (λ (j : ℕ). allHold (take j (bands o)) (a .loop .p) ≡ true) (sym (add-one (a .loop .i)))
-          (hold-suc (bands o) (a .loop .i) blankBand (a .loop .p) (omega (arith, count o, look .if2 .taken)) (a .loop .inv .3 e)
-          (ap (λ (b : Band). holds b (a .loop .p)) (sym (read (c .before .before .before))) ∙ sym (c .before .before .holds .ensures) ∙ not-false _ (c .before .if3 .left))),
-    )
-
--- all of them, after the bands from i on
-again : (all : Bool) (n i j : ℕ) → all ≡ false → left true n j < left all n i
-unfolding left
-again true n i j e = absurd (false≢true (sym e))
-again false n i j e = omega arith
-
-loop-less-2 : tie.Need-loop-less-2 Inv-loop μ-loop Inv-words μ-words
-loop-less-2 c = again (c .before .before .loop .all) _ _ _ (c .if5 .left)
-
-loop-again-2 : tie.Need-loop-again-2 Inv-loop μ-loop Inv-words μ-words
-unfolding allHold
-loop-again-2 c =
-    let a = c .before .before in
-    (omega arith, a .loop .inv .1, a .loop .inv .2, λ e. refl)
-
--- what is said with the code's top word is said with the width's
-abbrev Finds : Outer → Found → ℕ → Type 0
-Finds o r t = r ≡ first (passes (allSeen (start o .args .turned) t (take (start o .args .n) (lying o))) (start o .args .fixed)) (suc t - start o .args .start) (start o .args .start)
-
-started : (o : Outer) → start o .args .start ≤ o .before .top .result
-started o = omega (arith, start o .pre .1 .0 .0, top-is o)
-
-returns : tie.Need-returns Inv-loop μ-loop Inv-words μ-words
-returns c =
-    let o = c .before .before .before in
-    o .words .inv .3
-    ∙ subst (Finds o Nothing) (top-is o)
-    (found-none (bands o) _ _ _ (started o)
-    (past-all (bands o) _ _ _ _ (o .words .inv .2) (o .words .inv .4)
-    (subst (λ (t : ℕ). first (hasBits (start o .args .fixed)) (suc t - o .words .p) (o .words .p) ≡ Nothing) (sym (top-is o))
-    (sym (c .before .before .next .ensures) ∙ c .enum-told .given .1))))
-
-returns-2 : tie.Need-returns-2 Inv-loop μ-loop Inv-words μ-words
-returns-2 c =
-    let a = c .before .before .before .before .before .before in
-    let o = outer a in
-    let e : c .before .run .result .to + 1 ≡ suc (o .before .top .result) = omega arith in
-    a .loop .inv .2
-    ∙ o .words .inv .3
-    ∙ subst (Finds o Nothing) (top-is o) (found-none (bands o) _ _ _ (started o) (subst (NoneBelow (bands o) _ _) e (past (c .before))))
-
-returns-3 : tie.Need-returns-3 Inv-loop μ-loop Inv-words μ-words
+returns-3 : tie.Need-returns-3
 returns-3 c =
-    let a = c .before .before in
-    let o = outer a in
-    let full : a .loop .i ≡ start o .args .n = omega (arith, a .loop .inv .0, c .before .if2 .left) in
-    subst (Finds o (At (a .loop .p))) (top-is o)
-    (found-at (bands o) _ _ _ _ (omega (arith, o .words .inv .1, word a)) (word a .1) (below a)
-    (subst (λ (bs : List Band). allHold bs (a .loop .p) ≡ true) (take-all (a .loop .i) (bands o) (omega (arith, count o))) (a .loop .inv .3 (c .if5 .taken)))
-    (subst (λ (x : ℕ). hasBits (start o .args .fixed) x ≡ true) (sym (a .loop .inv .1)) (next-at a .passes)))
+    let s = c .before .before .before .before .before in
+    let l = c .before .before .before .before .walk .ensures .tired _ (c .before .before .p .given .1) in
+    same-found (bands s) _ (tops s) (s .args .start) _ _ (l .0) (l .1) (l .2) (c .rested .ensures)
 
 pub sweep-spec : {M : Type 1} → statement M
-sweep-spec =
-    tie.close
-    (tie.spec
-    Inv-loop
-    μ-loop
-    Inv-words
-    μ-words
-    top-requires
-    words-holds
-    next-requires
-    enum-known-x
-    enum-told
-    sub-i
-    loop-holds
-    band-at-requires
-    holds-requires
-    run-requires
-    add-p
-    words-less
-    words-again
-    add-i
-    loop-less
-    loop-again
-    loop-less-2
-    loop-again-2
-    returns
-    returns-2
-    returns-3)
+sweep-spec = tie.close (tie.spec walk-requires enum-known-x enum-told enum-known-p rested-requires returns returns-2 returns-3)
