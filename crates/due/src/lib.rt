@@ -11,29 +11,36 @@ ghost use Rattle.due.specs.Due.{Passed, Ready, better};
 use chain::Far;
 use rule::Rule;
 
+// How far a walk by the order has come: to a word, and to the place in the order that is next.
+pub struct Stage {
+    pub p: u64,
+    pub next: usize,
+}
+
 // The furthest reach, and the place in the order up to which bands were looked at.
 pub struct Due {
     pub far: Far,
     pub next: usize,
 }
 
-// The furthest reach from p of the first n bands, where those before a place in the order hold p and no run around p starts at 0.
+// The furthest reach from the stage's word of the first n bands, where those before its place in the order hold that word and no run around
+// it starts at 0.
 pub fn furthest(
     rows: &[[u64; rows::NUMBERS]; Rule::LIMIT],
     order: &[usize; Rule::LIMIT],
     n: usize,
     top: u64,
-    p: u64,
-    from: usize,
+    stage: Stage,
 ) -> Due
     requires { ⌜ Lie top n (bandsIn (now rows)) ⌝ }
-    requires { ⌜ p ≤ top ⌝ }
+    requires { ⌜ stage .p ≤ top ⌝ }
     requires { ⌜ InOrder top n (bandsIn (now rows)) (now order) ⌝ }
-    requires { ⌜ Ready top n (bandsIn (now rows)) (now order) from p ⌝ }
-    ensures { λ r. ⌜ (r .far ≡ furthestBand (take n (bandsIn (now (rows .entry)))) top p) × Passed top n (bandsIn (now (rows .entry))) (now (order .entry)) (r .next) p ⌝ }
+    requires { ⌜ Ready top n (bandsIn (now rows)) (now order) (stage .next) (stage .p) ⌝ }
+    ensures { λ r. ⌜ (r .far ≡ furthestBand (take n (bandsIn (now (rows .entry)))) top (stage .p)) × Passed top n (bandsIn (now (rows .entry))) (now (order .entry)) (r .next) (stage .p) ⌝ }
 {
     let mut far = Far::Nowhere;
-    let mut k = from;
+    let p = stage.p;
+    let mut k = stage.next;
     while k < n {
         let i = order[k];
         let band = rows::band_at(rows, i, false, top);

@@ -13,6 +13,13 @@ use steps::Step;
 use steps::highest_bit;
 use word::Width;
 
+// An operation of two words, over the intervals that they are of.
+struct Over {
+    pair: Pair,
+    x: Interval,
+    y: Interval,
+}
+
 // The smallest result of two words of the intervals.
 fn smallest(width: Width, pair: Pair, x: Interval, y: Interval) -> u64
     requires { ⌜ IsWidth (width .bits) ⌝ }
@@ -49,43 +56,57 @@ pub fn span(width: Width, op: Op, x: Interval, y: Interval) -> Interval
         Op::Not => x.turned(top),
         Op::And => ends(
             width,
-            Pair::And,
-            x,
-            y,
-            Pair::Or,
-            x.turned(top),
-            y.turned(top),
+            Over {
+                pair: Pair::And,
+                x,
+                y,
+            },
+            Over {
+                pair: Pair::Or,
+                x: x.turned(top),
+                y: y.turned(top),
+            },
         ),
         Op::Or => ends(
             width,
-            Pair::Or,
-            x,
-            y,
-            Pair::And,
-            x.turned(top),
-            y.turned(top),
+            Over {
+                pair: Pair::Or,
+                x,
+                y,
+            },
+            Over {
+                pair: Pair::And,
+                x: x.turned(top),
+                y: y.turned(top),
+            },
         ),
-        Op::Xor => ends(width, Pair::Xor, x, y, Pair::Xor, x.turned(top), y),
+        Op::Xor => ends(
+            width,
+            Over {
+                pair: Pair::Xor,
+                x,
+                y,
+            },
+            Over {
+                pair: Pair::Xor,
+                x: x.turned(top),
+                y,
+            },
+        ),
     }
 }
 
-// From the smallest result of the one over x and y to the smallest of the other over u and v, turned back.
-fn ends(
-    width: Width,
-    pair: Pair,
-    x: Interval,
-    y: Interval,
-    other: Pair,
-    u: Interval,
-    v: Interval,
-) -> Interval
+// From the smallest result of the one to the smallest of the other, turned back.
+fn ends(width: Width, least: Over, other: Over) -> Interval
     requires { ⌜ IsWidth (width .bits) ⌝ }
-    requires { ⌜ Words (width .bits) x × Words (width .bits) y ⌝ }
-    requires { ⌜ Words (width .bits) u × Words (width .bits) v ⌝ }
-    ensures { λ r. ⌜ r ≡ ends (width .bits) (both pair) x y (both other) u v ⌝ }
+    requires { ⌜ Words (width .bits) (least .x) × Words (width .bits) (least .y) ⌝ }
+    requires { ⌜ Words (width .bits) (other .x) × Words (width .bits) (other .y) ⌝ }
+    ensures { λ r. ⌜ r ≡ ends (width .bits) (both (least .pair)) (least .x) (least .y) (both (other .pair)) (other .x) (other .y) ⌝ }
 {
+    let pair = least.pair;
+    let turned = other.pair;
     Interval {
-        low: smallest(width, pair, x, y),
-        high: width.top() - smallest(width, other, u, v),
+        low: smallest(width, pair, least.x, least.y),
+        high: width.top() - smallest(width, turned, other.x, other.y),
     }
 }

@@ -7,6 +7,9 @@ ghost use Rattle.phrase.specs.Phrase.{Put, decimal, signedly};
 use numeral::put_digits;
 use word::Width;
 
+// The numbers of a text that has two, in order.
+pub struct Two(pub u64, pub u64);
+
 // A text.
 pub fn put_text(out: &mut [u8], at: usize, text: &[u8]) -> usize
     requires { ⌜ at + length (now text) ≤ length (now out) ⌝ }
@@ -28,12 +31,12 @@ pub fn put_one(out: &mut [u8], at: usize, lead: &[u8], n: u64) -> usize
 }
 
 // A text, a number, a text and a number.
-pub fn put_two(out: &mut [u8], at: usize, lead: &[u8], n: u64, middle: &[u8], m: u64) -> usize
-    requires { ⌜ at + length (now lead ++ (decimal n ++ (now middle ++ decimal m))) ≤ length (now out) ⌝ }
-    ensures { λ r. ⌜ Put (now (out .entry)) at (now (lead .entry) ++ (decimal n ++ (now (middle .entry) ++ decimal m))) (now (out .exit)) r ⌝ }
+pub fn put_two(out: &mut [u8], at: usize, lead: &[u8], middle: &[u8], numbers: Two) -> usize
+    requires { ⌜ at + length (now lead ++ (decimal (numbers .0) ++ (now middle ++ decimal (numbers .1)))) ≤ length (now out) ⌝ }
+    ensures { λ r. ⌜ Put (now (out .entry)) at (now (lead .entry) ++ (decimal (numbers .0) ++ (now (middle .entry) ++ decimal (numbers .1)))) (now (out .exit)) r ⌝ }
 {
-    let from = put_one(&mut *out, at, lead, n);
-    put_one(&mut *out, from, middle, m)
+    let from = put_one(&mut *out, at, lead, numbers.0);
+    put_one(&mut *out, from, middle, numbers.1)
 }
 
 // A word by its signed reading.

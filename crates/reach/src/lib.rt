@@ -11,35 +11,35 @@ ghost use Rattle.order.specs.Order.{InOrder};
 ghost use Rattle.due.specs.Due.{Passed, Ready};
 use chain::Far;
 use due::Due;
+use due::Stage;
 use rule::Rule;
 use word::Width;
 
-// Whether the bands are in order, and if so, the place in the order that the walk has come to.
+// Whether the bands are in order, and how far the walk has come; its place in the order counts only where they are.
 pub struct Way {
     pub sorted: bool,
-    pub next: usize,
+    pub stage: Stage,
 }
 
-// The furthest reach from p of the first n bands: by the order where there is one, and else by a search over all of them.
+// The furthest reach from the stage's word of the first n bands: by the order where there is one, and else by a search over all of them.
 pub fn find(
     rows: &[[u64; rows::NUMBERS]; Rule::LIMIT],
     order: &[usize; Rule::LIMIT],
     n: usize,
     width: Width,
-    p: u64,
     way: Way,
 ) -> Due
     requires { ⌜ IsWidth (width .bits) ⌝ }
     requires { ⌜ Lie (top (width .bits)) n (bandsIn (now rows)) ⌝ }
-    requires { ⌜ p ≤ top (width .bits) ⌝ }
-    requires { ⌜ (way .sorted ≡ true → InOrder (top (width .bits)) n (bandsIn (now rows)) (now order) × Ready (top (width .bits)) n (bandsIn (now rows)) (now order) (way .next) p) ⌝ }
-    ensures { λ r. ⌜ (r .far ≡ furthestBand (take n (bandsIn (now (rows .entry)))) (top (width .bits)) p) × (way .sorted ≡ true → Passed (top (width .bits)) n (bandsIn (now (rows .entry))) (now (order .entry)) (r .next) p) ⌝ }
+    requires { ⌜ way .stage .p ≤ top (width .bits) ⌝ }
+    requires { ⌜ (way .sorted ≡ true → InOrder (top (width .bits)) n (bandsIn (now rows)) (now order) × Ready (top (width .bits)) n (bandsIn (now rows)) (now order) (way .stage .next) (way .stage .p)) ⌝ }
+    ensures { λ r. ⌜ (r .far ≡ furthestBand (take n (bandsIn (now (rows .entry)))) (top (width .bits)) (way .stage .p)) × (way .sorted ≡ true → Passed (top (width .bits)) n (bandsIn (now (rows .entry))) (now (order .entry)) (r .next) (way .stage .p)) ⌝ }
 {
     if way.sorted {
-        return due::furthest(rows, order, n, width.top(), p, way.next);
+        return due::furthest(rows, order, n, width.top(), way.stage);
     }
     Due {
-        far: furthest(rows, n, width, p),
+        far: furthest(rows, n, width, way.stage.p),
         next: 0,
     }
 }

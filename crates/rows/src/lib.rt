@@ -8,11 +8,20 @@ ghost use Rattle.band.specs.Band.{Laid};
 ghost use Rattle.rows.specs.Bands.{blankBand, seen};
 ghost use Rattle.rows.specs.Rows.{bandsIn, rowOf, rulesIn};
 use band::Band;
+use bits::Fixed;
 use rule::Rule;
+use word::Width;
 
 // The rule's form, sense and two constants; where its band starts and ends, and the side that fails; and a note: whether there is one, the
 // verdict and its two words, and the fixed bits by three numbers.
 pub const NUMBERS: usize = 14;
+
+// What a search goes by beside the rows: how many of them are in force, the bits that their rules fix, and the width of the words.
+pub struct InForce {
+    pub count: usize,
+    pub fixed: Fixed,
+    pub width: Width,
+}
 
 // The rule at a place.
 pub fn rule_at(rows: &[[u64; NUMBERS]; Rule::LIMIT], i: usize) -> Rule

@@ -8,10 +8,11 @@ ghost use Rattle.rows.specs.Bands.{Lie, passes};
 ghost use Rattle.rows.specs.Rows.{bandsIn};
 ghost use Rattle.covering.specs.Check.{everyWord};
 ghost use Rattle.shade.specs.Cell.{cellOf};
+use band::Run;
 use bits::Fixed;
+use rows::InForce;
 use rule::Rule;
 use word::Found;
-use word::Width;
 
 // A cell of a picture. Where there is no sheet, no such rule or no such column, there is none.
 pub enum Cell {
@@ -21,53 +22,41 @@ pub enum Cell {
     Nowhere,
 }
 
-// The words from one to another, by the first n bands and the bits.
-pub fn stretch(
-    rows: &[[u64; rows::NUMBERS]; Rule::LIMIT],
-    n: usize,
-    fixed: Fixed,
-    width: Width,
-    from: u64,
-    to: u64,
-) -> Cell
-    requires { ⌜ IsWidth (width .bits) ⌝ }
-    requires { ⌜ Lie (top (width .bits)) n (bandsIn (now rows)) ⌝ }
-    requires { ⌜ Tidy fixed × (from ≤ to) × (to ≤ top (width .bits)) ⌝ }
-    ensures { λ r. ⌜ r ≡ cellOf (passes (take n (bandsIn (now (rows .entry)))) fixed) from to ⌝ }
+// Words in a row, by the bands in force and the bits.
+pub fn stretch(rows: &[[u64; rows::NUMBERS]; Rule::LIMIT], force: InForce, words: Run) -> Cell
+    requires { ⌜ IsWidth (force .width .bits) ⌝ }
+    requires { ⌜ Lie (top (force .width .bits)) (force .count) (bandsIn (now rows)) ⌝ }
+    requires { ⌜ Tidy (force .fixed) × (words .from ≤ words .to) × (words .to ≤ top (force .width .bits)) ⌝ }
+    ensures { λ r. ⌜ r ≡ cellOf (passes (take (force .count) (bandsIn (now (rows .entry)))) (force .fixed)) (words .from) (words .to) ⌝ }
 {
-    let Found::At(x) = sweep::sweep(rows, n, false, fixed, width, from) else {
+    let Found::At(x) = sweep::sweep(rows, force, false, words.from) else {
         return Cell::Fails;
     };
-    if to < x {
+    if words.to < x {
         return Cell::Fails;
     }
-    if all_pass(rows, n, fixed, width.top(), from, to) {
+    if all_pass(rows, force, words) {
         return Cell::Meets;
     }
     Cell::Partly
 }
 
-// Whether every word from one to another passes: the section that begins there is held as far, and all its words have the bits.
-fn all_pass(
-    rows: &[[u64; rows::NUMBERS]; Rule::LIMIT],
-    n: usize,
-    fixed: Fixed,
-    top: u64,
-    from: u64,
-    to: u64,
-) -> bool
-    requires { ⌜ Lie top n (bandsIn (now rows)) ⌝ }
-    requires { ⌜ Tidy fixed × (from ≤ to) × (to ≤ top) ⌝ }
-    ensures { λ r. ⌜ r ≡ everyWord (passes (take n (bandsIn (now (rows .entry)))) fixed) from to ⌝ }
+// Whether every word of a row passes: the section that begins with it is held as far, and all its words have the bits.
+fn all_pass(rows: &[[u64; rows::NUMBERS]; Rule::LIMIT], force: InForce, words: Run) -> bool
+    requires { ⌜ IsWidth (force .width .bits) ⌝ }
+    requires { ⌜ Lie (top (force .width .bits)) (force .count) (bandsIn (now rows)) ⌝ }
+    requires { ⌜ Tidy (force .fixed) × (words .from ≤ words .to) × (words .to ≤ top (force .width .bits)) ⌝ }
+    ensures { λ r. ⌜ r ≡ everyWord (passes (take (force .count) (bandsIn (now (rows .entry)))) (force .fixed)) (words .from) (words .to) ⌝ }
 {
-    let section = section::at(rows, n, top, from);
+    let section = section::at(rows, force.count, force.width.top(), words.from);
     if !section.held {
         return false;
     }
-    if section.to < to {
+    if section.to < words.to {
         return false;
     }
-    all_have(fixed, from, to)
+    let fixed = force.fixed;
+    all_have(fixed, words.from, words.to)
 }
 
 // Whether every word from one to another has the bits: as many have them as there are, the last by itself.

@@ -6,6 +6,7 @@ mod narrowing;
 
 use band::Band;
 use page::MARKS;
+use rows::InForce;
 use rows::NUMBERS;
 use rule::Rule;
 use slate::Counts;
@@ -44,7 +45,12 @@ pub fn add(
     let band = Band::of(rule, bits);
     rows::put(&mut *rows, count, rule, band);
     let fixed = old_bits.with(rule);
-    let kept = narrowing::narrowed(&*rows, next, band, fixed, bits, old);
+    let force = InForce {
+        count: next,
+        fixed,
+        width: bits,
+    };
+    let kept = narrowing::narrowed(&*rows, force, band, old);
     slate::put_note(&mut *rows, next, kept, fixed);
     let counts = Counts {
         count: next,

@@ -7,28 +7,27 @@ ghost use Rattle.verdict.specs.OnBands.{keptBy};
 ghost use Rattle.slate_add.specs.Narrows.{Narrows, staysSo};
 use band::Band;
 use bits::Fixed;
+use rows::InForce;
 use rows::NUMBERS;
 use rule::Rule;
 use verdict::Kept;
-use word::Width;
 
-// What is kept of the first n rules and their bits, the last of which has this band: what was kept before where that rule moves nothing,
+// What is kept of the rules in force and their bits, the last of which has this band: what was kept before where that rule moves nothing,
 // and else what is found from the old ends.
 pub fn narrowed(
     rows: &[[u64; NUMBERS]; Rule::LIMIT],
-    n: usize,
+    force: InForce,
     band: Band,
-    fixed: Fixed,
-    width: Width,
     before: Kept,
 ) -> Kept
-    requires { ⌜ Narrows (width .bits) n (bandsIn (now rows)) band fixed before ⌝ }
-    ensures { λ r. ⌜ r ≡ keptBy (width .bits) (take n (bandsIn (now (rows .entry)))) fixed ⌝ }
+    requires { ⌜ Narrows (force .width .bits) (force .count) (bandsIn (now rows)) band (force .fixed) before ⌝ }
+    ensures { λ r. ⌜ r ≡ keptBy (force .width .bits) (take (force .count) (bandsIn (now (rows .entry)))) (force .fixed) ⌝ }
 {
+    let fixed = force.fixed;
     if stays(before, band, fixed) {
         return before;
     }
-    verdict::laid::narrowed(rows, n, fixed, width, before)
+    verdict::laid::narrowed(rows, force, before)
 }
 
 // Whether the band holds both ends of what was kept before and they have the bits.

@@ -8,10 +8,10 @@ ghost use Rattle.rows.specs.Rows.{bandsIn};
 ghost use Rattle.verdict.specs.Kept.{keeps};
 ghost use Rattle.verdict.specs.OnBands.{Bounds, Ends, keptBy};
 use crate::Kept;
-use bits::Fixed;
+use band::Run;
+use rows::InForce;
 use rule::Rule;
 use word::Found;
-use word::Width;
 
 // What is kept where no word passes.
 fn none() -> Kept
@@ -24,28 +24,27 @@ fn none() -> Kept
     }
 }
 
-// What is kept of the first n bands and the bits, where no word below low and none above high passes. The largest word that
+// What is kept of the bands in force and the bits, where no word before these passes and none after them. The largest word that
 // passes is the smallest on the wheel turned round, turned back.
-pub fn solve(
-    rows: &[[u64; rows::NUMBERS]; Rule::LIMIT],
-    n: usize,
-    fixed: Fixed,
-    width: Width,
-    low: u64,
-    high: u64,
-) -> Kept
-    requires { ⌜ IsWidth (width .bits) ⌝ }
-    requires { ⌜ Lie (top (width .bits)) n (bandsIn (now rows)) ⌝ }
-    requires { ⌜ Tidy fixed × Within (width .bits) fixed ⌝ }
-    requires { ⌜ Ends (width .bits) (take n (bandsIn (now rows))) fixed low high ⌝ }
-    ensures { λ r. ⌜ r ≡ keptBy (width .bits) (take n (bandsIn (now (rows .entry)))) fixed ⌝ }
+pub fn solve(rows: &[[u64; rows::NUMBERS]; Rule::LIMIT], force: InForce, words: Run) -> Kept
+    requires { ⌜ IsWidth (force .width .bits) ⌝ }
+    requires { ⌜ Lie (top (force .width .bits)) (force .count) (bandsIn (now rows)) ⌝ }
+    requires { ⌜ Tidy (force .fixed) × Within (force .width .bits) (force .fixed) ⌝ }
+    requires { ⌜ Ends (force .width .bits) (take (force .count) (bandsIn (now rows))) (force .fixed) (words .from) (words .to) ⌝ }
+    ensures { λ r. ⌜ r ≡ keptBy (force .width .bits) (take (force .count) (bandsIn (now (rows .entry)))) (force .fixed) ⌝ }
 {
-    let Found::At(smallest) = sweep::sweep(rows, n, false, fixed, width, low) else {
+    let Found::At(smallest) = sweep::sweep(rows, force, false, words.from) else {
         return none();
     };
+    let fixed = force.fixed;
+    let width = force.width;
     let top = width.top();
-    let mirrored = fixed.turned();
-    let Found::At(last) = sweep::sweep(rows, n, true, mirrored, width, top - high) else {
+    let mirrored = InForce {
+        count: force.count,
+        fixed: fixed.turned(),
+        width,
+    };
+    let Found::At(last) = sweep::sweep(rows, mirrored, true, top - words.to) else {
         return none();
     };
     let largest = top - last;
@@ -58,21 +57,19 @@ pub fn solve(
 }
 
 // What is kept once there are more rules, from what was kept before: none stays none, and the search starts at the old ends.
-pub fn narrowed(
-    rows: &[[u64; rows::NUMBERS]; Rule::LIMIT],
-    n: usize,
-    fixed: Fixed,
-    width: Width,
-    before: Kept,
-) -> Kept
-    requires { ⌜ IsWidth (width .bits) ⌝ }
-    requires { ⌜ Lie (top (width .bits)) n (bandsIn (now rows)) ⌝ }
-    requires { ⌜ Tidy fixed × Within (width .bits) fixed ⌝ }
-    requires { ⌜ Bounds (width .bits) (take n (bandsIn (now rows))) fixed before ⌝ }
-    ensures { λ r. ⌜ r ≡ keptBy (width .bits) (take n (bandsIn (now (rows .entry)))) fixed ⌝ }
+pub fn narrowed(rows: &[[u64; rows::NUMBERS]; Rule::LIMIT], force: InForce, before: Kept) -> Kept
+    requires { ⌜ IsWidth (force .width .bits) ⌝ }
+    requires { ⌜ Lie (top (force .width .bits)) (force .count) (bandsIn (now rows)) ⌝ }
+    requires { ⌜ Tidy (force .fixed) × Within (force .width .bits) (force .fixed) ⌝ }
+    requires { ⌜ Bounds (force .width .bits) (take (force .count) (bandsIn (now rows))) (force .fixed) before ⌝ }
+    ensures { λ r. ⌜ r ≡ keptBy (force .width .bits) (take (force .count) (bandsIn (now (rows .entry)))) (force .fixed) ⌝ }
 {
     if before.verdict == 0 {
         return none();
     }
-    solve(rows, n, fixed, width, before.smallest, before.largest)
+    let ends = Run {
+        from: before.smallest,
+        to: before.largest,
+    };
+    solve(rows, force, ends)
 }

@@ -24,10 +24,10 @@ use Rattle.due.proofs.furthest.Statement.{statement}
 use Rattle.due.proofs.furthest.Tie as tie
 
 abbrev Inv-loop : tie.InvT-loop
-Inv-loop rows order n top p from far₀ k₀ far k = (from ≤ k) × Passed top n (bandsIn rows) order k p × Held top p (bandsIn rows) (Seen order from k) far
+Inv-loop rows order n top far₀ p k₀ far k = (k₀ ≤ k) × Passed top n (bandsIn rows) order k p × Held top p (bandsIn rows) (Seen order k₀ k) far
 
 abbrev μ-loop : tie.MeasureT-loop
-μ-loop rows order n top p from far₀ k₀ far k = n - k
+μ-loop rows order n top far₀ p k₀ far k = n - k
 
 abbrev Loop : Type 0
 Loop = tie.At-loop Inv-loop μ-loop
@@ -82,10 +82,10 @@ eve-at v = v .eve .ensures ∙ ap (eve _) (read (v .before))
 
 -- what is found where no band after the place can fail p
 found : (l : Loop)
-    → ((j : ℕ) → l .loop .k ≤ j → j < l .before .args .n → l .before .args .p ≤ eve (l .before .args .top) (placedBand (lying l) (l .before .args .order .now) j))
-    → l .loop .far ≡ furthestBand (take (l .before .args .n) (lying l)) (l .before .args .top) (l .before .args .p)
+    → ((j : ℕ) → l .loop .k ≤ j → j < l .before .args .n → l .before .args .stage .p ≤ eve (l .before .args .top) (placedBand (lying l) (l .before .args .order .now) j))
+    → l .loop .far ≡ furthestBand (take (l .before .args .n) (lying l)) (l .before .args .top) (l .before .args .stage .p)
 found l later =
-    complete _ (l .before .args .n) _ (lying l) (l .before .args .order .now) (l .before .args .from) (l .loop .k) (l .loop .far) (lie l .places) (lie l .count) (in-order l)
+    complete _ (l .before .args .n) _ (lying l) (l .before .args .order .now) (l .before .args .stage .next) (l .loop .k) (l .loop .far) (lie l .places) (lie l .count) (in-order l)
     (l .before .pre .1 .1 .1) (l .loop .inv .1 .count) later (l .loop .inv .2)
 
 returns : tie.Need-returns Inv-loop μ-loop
@@ -118,15 +118,15 @@ loop-less c = search needs
 -- the best of the bands up to the next place
 best-on : (c : tie.Joined2 Inv-loop μ-loop)
     → let l = c .before .before .before .before .before .before .before in
-    Held (l .before .args .top) (l .before .args .p) (lying l)
-    (More (l .before .args .top) (l .before .args .p) (lying l) (Seen (l .before .args .order .now) (l .before .args .from) (l .loop .k)) (number l))
+    Held (l .before .args .top) (l .before .args .stage .p) (lying l)
+    (More (l .before .args .top) (l .before .args .stage .p) (lying l) (Seen (l .before .args .order .now) (l .before .args .stage .next) (l .loop .k)) (number l))
     (c .if2 .far)
 best-on c =
     let b = c .before .before .before .before in
     let l = b .before .before .before in
     let t = l .before .args .top in
-    let p = l .before .args .p in
-    let best = Held t p (lying l) (More t p (lying l) (Seen (l .before .args .order .now) (l .before .args .from) (l .loop .k)) (number l)) in
+    let p = l .before .args .stage .p in
+    let best = Held t p (lying l) (More t p (lying l) (Seen (l .before .args .order .now) (l .before .args .stage .next) (l .loop .k)) (number l)) in
     let held = ap (λ (d : Band). holds d p) (sym (read b)) ∙ sym (c .before .holds .ensures) in
     ⊎-elim
     (λ a. subst best
@@ -143,7 +143,7 @@ loop-again c =
     let h = v .before .before .before .loop-test .taken in (
       omega arith,
       record { count = omega arith; before = below-more _ (l .loop .k) (l .loop .inv .1 .before) (omega (arith, e .if1 .left, eve-at v)) },
-      seen-more (l .before .args .top) (l .before .args .n) (l .before .args .p) (lying l) (l .before .args .order .now) (l .before .args .from) (l .loop .k) (c .if2 .far)
+      seen-more (l .before .args .top) (l .before .args .n) (l .before .args .stage .p) (lying l) (l .before .args .order .now) (l .before .args .stage .next) (l .loop .k) (c .if2 .far)
           (omega arith) (best-on c),
     )
 

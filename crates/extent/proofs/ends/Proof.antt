@@ -19,14 +19,14 @@ top-requires c κs = search needs
 smallest-requires-2 : tie.Need-smallest-requires-2
 smallest-requires-2 c κs = search needs
 
-sub-t11 : tie.Need-sub-t11
-sub-t11 c =
+sub-t9 : tie.Need-sub-t9
+sub-t9 c =
     let s = c .before .before .before .args in
-    omega (arith, smallest-word (both (s .other)) (s .u) (s .v) (s .width .bits))
+    omega (arith, smallest-word (both (s .other .pair)) (s .other .x) (s .other .y) (s .width .bits))
 
 returns : tie.Need-returns
 unfolding ends
 returns c = ap₂ interval (c .before .before .smallest .ensures) (ap₂ _-_ (c .before .top .ensures) (c .smallest2 .ensures))
 
 pub ends-spec : {M : Type 1} → statement M
-ends-spec = tie.close (tie.spec smallest-requires top-requires smallest-requires-2 sub-t11 returns)
+ends-spec = tie.close (tie.spec smallest-requires top-requires smallest-requires-2 sub-t9 returns)

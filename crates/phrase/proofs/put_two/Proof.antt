@@ -17,13 +17,13 @@ halves a b c d = rw (← append-assoc a b (c ++ d)) (length-append (a ++ b) (c +
 put-one-requires : tie.Need-put-one-requires
 put-one-requires c κs =
     let a = c .before .before .before .before .args in
-    omega (arith, halves (a .lead .now) (decimal (a .n)) (a .middle .now) (decimal (a .m)))
+    omega (arith, halves (a .lead .now) (decimal (a .numbers .0)) (a .middle .now) (decimal (a .numbers .1)))
 
 put-one-requires-2 : tie.Need-put-one-requires-2
 put-one-requires-2 c κs =
     let a = c .before .before .before .before .before .before .before .before .args in
     let p = c .before .before .before .put-one .ensures in
-    omega (arith, halves (a .lead .now) (decimal (a .n)) (a .middle .now) (decimal (a .m)), put-length p, p .1)
+    omega (arith, halves (a .lead .now) (decimal (a .numbers .0)) (a .middle .now) (decimal (a .numbers .1)), put-length p, p .1)
 
 same-length : tie.Need-same-length
 same-length c = search needs
@@ -32,7 +32,7 @@ returns : tie.Need-returns
 returns c =
     let a = c .before .before .before .before .before .before .before .before .before .before .before .args in
     let p = c .before .before .before .before .before .before .put-one .ensures in
-    put-as (append-assoc (a .lead .now) (decimal (a .n)) (a .middle .now ++ decimal (a .m))) (put-then p (c .before .before .put-one2 .ensures))
+    put-as (append-assoc (a .lead .now) (decimal (a .numbers .0)) (a .middle .now ++ decimal (a .numbers .1))) (put-then p (c .before .before .put-one2 .ensures))
 
 pub put-two-spec : {M : Type 1} → statement M
 put-two-spec = tie.close (tie.spec put-one-requires put-one-requires-2 same-length returns)

@@ -28,7 +28,7 @@ furthest-requires c κs =
         omega (arith, s .pre .1 .1 .0, c .top .ensures),
         (
           subst (λ (t : ℕ). InOrder t (a .n) bands (a .order .now)) e (sorted .0),
-          subst (λ (t : ℕ). Ready t (a .n) bands (a .order .now) (a .way .next) (a .p)) e (sorted .1),
+          subst (λ (t : ℕ). Ready t (a .n) bands (a .order .now) (a .way .stage .next) (a .way .stage .p)) e (sorted .1),
         ),
       ),
     )
@@ -38,7 +38,7 @@ returns c =
     let a = c .before .before .before .args in
     let bands = bandsIn (a .rows .now) in
     let due = c .furthest .result in
-    subst (λ (t : ℕ). (due .far ≡ furthestBand (take (a .n) bands) t (a .p)) × (a .way .sorted ≡ true → Passed t (a .n) bands (a .order .now) (due .next) (a .p))) (c .before .top .ensures)
+    subst (λ (t : ℕ). (due .far ≡ furthestBand (take (a .n) bands) t (a .way .stage .p)) × (a .way .sorted ≡ true → Passed t (a .n) bands (a .order .now) (due .next) (a .way .stage .p))) (c .before .top .ensures)
     (c .furthest .ensures .0, λ e. c .furthest .ensures .1)
 
 furthest-requires-2 : tie.Need-furthest-requires-2

@@ -1,5 +1,5 @@
 -- `stretch` meets its contract: the first word that passes, and whether all do, tell the cell. Assumes nothing.
-use mathlib.Core.Path.{_≡_, sym, _∙_, subst}
+use mathlib.Core.Path.{_≡_, sym, _∙_}
 use mathlib.Core.Bool.{Bool}
 use Prim.Native.Nat.{ℕ, suc, _-_}
 use native.Mathlib.Omega.{arith}
@@ -7,7 +7,7 @@ use borrow.Author.Needs.{needs}
 use lib.ListN.{take}
 use Rattle.word.specs.Word.{top}
 use Rattle.word.specs.Search.{first}
-use Rattle.rows.specs.Bands.{Lie, allSeen, passes}
+use Rattle.rows.specs.Bands.{allSeen, passes}
 use Rattle.rows.specs.Rows.{bandsIn}
 use Rattle.shade.proofs.Words.{each-word, later-word, no-word, some-word}
 use Rattle.shade.proofs.stretch.Statement.{statement}
@@ -15,9 +15,9 @@ use Rattle.shade.proofs.stretch.Tie as tie
 
 -- what a word has to pass
 abbrev test : tie.Start → ℕ → Bool
-test s = passes (take (s .args .n) (bandsIn (s .args .rows .now))) (s .args .fixed)
+test s = passes (take (s .args .force .count) (bandsIn (s .args .rows .now))) (s .args .force .fixed)
 
-swept : (w : tie.After-sweep) → let s = w .before in w .sweep .result ≡ first (test s) (suc (top (s .args .width .bits)) - s .args .from) (s .args .from)
+swept : (w : tie.After-sweep) → let s = w .before in w .sweep .result ≡ first (test s) (suc (top (s .args .force .width .bits)) - s .args .words .from) (s .args .words .from)
 unfolding allSeen
 swept w = w .sweep .ensures
 
@@ -34,41 +34,36 @@ returns : tie.Need-returns
 returns c =
     let w = c .before .before in
     let s = w .before in
-    no-word (test s) (s .args .from) (s .args .to) (top (s .args .width .bits)) (s .pre .1 .1 .2) (sym (swept w) ∙ c .enum-told .given .1)
+    no-word (test s) (s .args .words .from) (s .args .words .to) (top (s .args .force .width .bits)) (s .pre .1 .1 .2) (sym (swept w) ∙ c .enum-told .given .1)
 
 returns-2 : tie.Need-returns-2
 returns-2 c =
-    let x = c .before .before in
+    let x = c .before .before .before in
     let w = x .before .before in
     let s = w .before in
-    later-word (test s) (s .args .from) (s .args .to) (top (s .args .width .bits)) (s .pre .1 .1 .2) _ (sym (swept w) ∙ x .x .given .1) (omega (arith, c .if1 .taken))
-
-top-requires : tie.Need-top-requires
-top-requires c κs = search needs
+    later-word (test s) (s .args .words .from) (s .args .words .to) (top (s .args .force .width .bits)) (s .pre .1 .1 .2) _ (sym (swept w) ∙ x .x .given .1) (omega (arith, c .if1 .taken))
 
 all-pass-requires : tie.Need-all-pass-requires
-all-pass-requires c κs =
-    let s = c .before .before .before .before .before .before in
-    (subst (λ (t : ℕ). Lie t (s .args .n) (bandsIn (s .args .rows .now))) (sym (c .top .ensures)) (s .pre .1 .0), (s .pre .1 .1 .0, s .pre .1 .1 .1, omega (arith, s .pre .1 .1 .2, c .top .ensures)))
+all-pass-requires c κs = let s = c .before .before .before .before .before .before in s .pre
 
 returns-3 : tie.Need-returns-3
 returns-3 c =
     let a = c .before in
-    let e = a .before .before in
-    let x = e .before .before in
+    let e = a .before in
+    let x = e .before .before .before in
     let w = x .before .before in
     let s = w .before in
-    each-word (test s) (s .args .from) (s .args .to) (top (s .args .width .bits)) (s .pre .1 .1 .2) _ (sym (swept w) ∙ x .x .given .1) (omega (arith, e .if1 .left))
+    each-word (test s) (s .args .words .from) (s .args .words .to) (top (s .args .force .width .bits)) (s .pre .1 .1 .2) _ (sym (swept w) ∙ x .x .given .1) (omega (arith, e .if1 .left))
     (sym (a .all-pass .ensures) ∙ c .if2 .taken)
 
 returns-4 : tie.Need-returns-4
 returns-4 c =
     let a = c .before in
-    let e = a .before .before in
-    let x = e .before .before in
+    let e = a .before in
+    let x = e .before .before .before in
     let w = x .before .before in
     let s = w .before in
-    some-word (test s) (s .args .from) (s .args .to) (top (s .args .width .bits)) (s .pre .1 .1 .2) _ (sym (swept w) ∙ x .x .given .1) (omega (arith, e .if1 .left))
+    some-word (test s) (s .args .words .from) (s .args .words .to) (top (s .args .force .width .bits)) (s .pre .1 .1 .2) _ (sym (swept w) ∙ x .x .given .1) (omega (arith, e .if1 .left))
     (sym (a .all-pass .ensures) ∙ c .if2 .left)
 
 pub stretch-spec : {M : Type 1} → statement M
@@ -80,7 +75,6 @@ stretch-spec =
     enum-told
     returns
     returns-2
-    top-requires
     all-pass-requires
     returns-3
     returns-4)

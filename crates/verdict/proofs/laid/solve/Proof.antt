@@ -27,36 +27,36 @@ use Rattle.verdict.proofs.laid.solve.Statement.{statement}
 use Rattle.verdict.proofs.laid.solve.Tie as tie
 
 abbrev bands : tie.Start → List Band
-bands s = take (s .args .n) (bandsIn (s .args .rows .now))
+bands s = take (s .args .force .count) (bandsIn (s .args .rows .now))
 
 abbrev start : tie.After-sweep2 → tie.Start
-start c = c .before .before .before .before .before .before .before
+start c = c .before .before .before .before .before .before .before .before .before
 
 -- the first sweep finds the smallest word that passes
-first-found : (c : tie.After-sweep) → c .sweep .result ≡ first (passes (bands (c .before)) (c .before .args .fixed)) (suc (top (c .before .args .width .bits))) 0
+first-found : (c : tie.After-sweep) → c .sweep .result ≡ first (passes (bands (c .before)) (c .before .args .force .fixed)) (suc (top (c .before .args .force .width .bits))) 0
 unfolding allSeen
 first-found c =
     let s = c .before in
     c .sweep .ensures
-    ∙ smallest-is (s .args .width .bits) (bands s) (s .args .fixed) (s .args .low) (s .args .high) (s .pre .1 .1 .1)
+    ∙ smallest-is (s .args .force .width .bits) (bands s) (s .args .force .fixed) (s .args .words .from) (s .args .words .to) (s .pre .1 .1 .1)
 
 -- the second sweep finds the largest
 last-found : (c : tie.After-sweep2)
-    → back (top (start c .args .width .bits)) (c .sweep2 .result) ≡ last (passes (bands (start c)) (start c .args .fixed)) (suc (top (start c .args .width .bits)))
+    → back (top (start c .args .force .width .bits)) (c .sweep2 .result) ≡ last (passes (bands (start c)) (start c .args .force .fixed)) (suc (top (start c .args .force .width .bits)))
 unfolding allSeen
 last-found c =
     let s = start c in
-    let t = top (s .args .width .bits) in
+    let t = top (s .args .force .width .bits) in
     ap (back t)
     (c .sweep2 .ensures
-    ∙ ap₂ (λ (g : Fixed) (u : ℕ). first (passes (map (turnedBand t) (bands s)) g) (suc t - (u - s .args .high)) (u - s .args .high)) (c .before .turned .ensures) (c .before .before .top .ensures))
-    ∙ largest-is (s .args .width .bits) (bands s) (s .args .fixed) (s .args .low) (s .args .high) (s .pre .1 .1 .1) (s .pre .1 .0 .laid) (s .pre .1 .1 .0 .0) (s .pre .1 .1 .0 .1)
+    ∙ ap₂ (λ (g : Fixed) (u : ℕ). first (passes (map (turnedBand t) (bands s)) g) (suc t - (u - s .args .words .to)) (u - s .args .words .to)) (c .before .before .turned .ensures) (c .before .before .before .top .ensures))
+    ∙ largest-is (s .args .force .width .bits) (bands s) (s .args .force .fixed) (s .args .words .from) (s .args .words .to) (s .pre .1 .1 .1) (s .pre .1 .0 .laid) (s .pre .1 .1 .0 .0) (s .pre .1 .1 .0 .1)
 
 solved : (c : tie.After-sweep2)
-    → verdictOf (c .before .before .before .before .before .before .sweep .result) (back (top (start c .args .width .bits)) (c .sweep2 .result))
-    ≡ keptBy (start c .args .width .bits) (bands (start c)) (start c .args .fixed)
+    → verdictOf (c .before .before .before .before .before .before .before .before .sweep .result) (back (top (start c .args .force .width .bits)) (c .sweep2 .result))
+    ≡ keptBy (start c .args .force .width .bits) (bands (start c)) (start c .args .force .fixed)
 unfolding keptBy
-solved c = ap₂ verdictOf (first-found (c .before .before .before .before .before .before)) (last-found c)
+solved c = ap₂ verdictOf (first-found (c .before .before .before .before .before .before .before .before)) (last-found c)
 
 -- two words found, where t is what the code has for the top word T
 both-found : (a l t T : ℕ) (v : Bool) → t ≡ T → eqb a (t - l) ≡ v → keeps (cond v 1 2) a (t - l) ≡ verdictOf (At a) (At (T - l))
@@ -93,11 +93,11 @@ sub-sweep c = search needs
 
 sweep-requires-2 : tie.Need-sweep-requires-2
 sweep-requires-2 c κs =
-    let s = c .before .before .before .before .before .before in (
+    let s = c .before .before .before .before .before .before .before .before in (
       s .pre .0,
       (
-        (omega (arith, c .before .top .ensures), s .pre .1 .0),
-        subst Tidy (sym (c .turned .ensures)) (turned-tidy _ _ (s .pre .1 .1 .0 .0) (s .pre .1 .1 .0 .1)),
+        (omega (arith, c .before .before .top .ensures), s .pre .1 .0),
+        subst Tidy (sym (c .before .turned .ensures)) (turned-tidy _ _ (s .pre .1 .1 .0 .0) (s .pre .1 .1 .0 .1)),
       ),
     )
 
@@ -116,7 +116,7 @@ returns-2 c =
     let e = c .before in
     let b = e .before .before in
     c .none2 .ensures
-    ∙ sym (ap₂ verdictOf (b .before .before .before .before .smallest .given .1) (ap (back _) (e .enum-told2 .given .1)))
+    ∙ sym (ap₂ verdictOf (b .before .before .before .before .before .before .smallest .given .1) (ap (back _) (e .enum-told2 .given .1)))
     ∙ solved b
 
 sub-largest : tie.Need-sub-largest
@@ -125,17 +125,17 @@ sub-largest c = omega (arith, first-is _ _ _ _ (sym (c .before .before .before .
 returns-3 : tie.Need-returns-3
 returns-3 c =
     let b = c .before .before .before .before in
-    let t = b .before .before in
+    let t = b .before .before .before in
     both-found _ _ _ _ _ (t .top .ensures) (eq-eqb _ _ (c .if1 .taken))
-    ∙ sym (ap₂ verdictOf (t .before .before .smallest .given .1) (ap (back _) (c .before .before .last .given .1)))
+    ∙ sym (ap₂ verdictOf (t .before .before .before .smallest .given .1) (ap (back _) (c .before .before .last .given .1)))
     ∙ solved b
 
 returns-4 : tie.Need-returns-4
 returns-4 c =
     let b = c .before .before .before .before in
-    let t = b .before .before in
+    let t = b .before .before .before in
     both-found _ _ _ _ _ (t .top .ensures) (ne-eqb _ _ (c .if1 .left))
-    ∙ sym (ap₂ verdictOf (t .before .before .smallest .given .1) (ap (back _) (c .before .before .last .given .1)))
+    ∙ sym (ap₂ verdictOf (t .before .before .before .smallest .given .1) (ap (back _) (c .before .before .last .given .1)))
     ∙ solved b
 
 pub solve-spec : {M : Type 1} → statement M
