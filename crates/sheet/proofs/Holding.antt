@@ -25,8 +25,8 @@ use Rattle.slate.specs.Shape.{standsSo}
 use Rattle.slate.proofs.Holding.{rules-places}
 use Rattle.slate.proofs.Numbers.{number-before, number-full, number-none, number-other, number-own}
 use Rattle.slate.proofs.Told.{unread}
-use Rattle.slate_calls.specs.Done.{Refused}
-use Rattle.slate_calls.specs.Done.Refused.{before-first, own-ground}
+use Rattle.stepping.specs.Steps.{Refused}
+use Rattle.stepping.specs.Steps.Refused.{before-first, own-ground}
 use Rattle.sheet.specs.declared.Sheet.{Sheet}
 use Rattle.sheet.specs.Held.{packed}
 use Rattle.sheet.specs.Shape.{isSheet}

@@ -10,7 +10,7 @@ use Rattle.verdict.specs.Kept.{kept}
 use Rattle.rows.specs.Rows.{rulesIn}
 use Rattle.slate.specs.declared.Head.{Head}
 use Rattle.slate.specs.Held.{Beside, Held}
-use Rattle.slate_calls.specs.Done.{movedHead}
+use Rattle.stepping.specs.Steps.{movedHead}
 use Rattle.sheet.specs.Held.{packed}
 use Rattle.sheet.specs.Stands.{Standing}
 use Rattle.sheet.proofs.Fresh.{moved}

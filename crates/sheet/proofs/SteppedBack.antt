@@ -15,8 +15,8 @@ use Rattle.rows.specs.Rows.{rulesIn}
 use Rattle.slate.specs.declared.Head.{Head}
 use Rattle.slate.specs.Held.{Beside, Held}
 use Rattle.slate.specs.Numbers.{before}
-use Rattle.slate_calls.specs.Done.{Backs, backHead, leaves}
-use Rattle.slate_calls.specs.Done.Backs.{goes-back, stays}
+use Rattle.stepping.specs.Steps.{Backs, backHead, leaves}
+use Rattle.stepping.specs.Steps.Backs.{goes-back, stays}
 use Rattle.sheet.specs.Held.{packed}
 use Rattle.sheet.specs.Laid.{After}
 use Rattle.sheet.specs.Stands.{Standing}

@@ -14,8 +14,8 @@ use Rattle.rows.specs.Rows.{rulesIn}
 use Rattle.slate.specs.declared.Head.{Head}
 use Rattle.slate.specs.Held.{Beside, Held}
 use Rattle.slate.specs.Numbers.{before}
-use Rattle.slate_calls.specs.Done.{Forwards, brings, forwardHead}
-use Rattle.slate_calls.specs.Done.Forwards.{goes-on, remains}
+use Rattle.stepping.specs.Steps.{Forwards, brings, forwardHead}
+use Rattle.stepping.specs.Steps.Forwards.{goes-on, remains}
 use Rattle.sheet.specs.Held.{packed}
 use Rattle.sheet.specs.Laid.{After}
 use Rattle.sheet.specs.Stands.{Standing}

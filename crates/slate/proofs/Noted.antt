@@ -3,7 +3,7 @@
 use mathlib.Core.Path.{_≡_, refl, sym, ap, ap₂, _∙_, subst}
 use mathlib.Core.Bool.{true, false}
 use mathlib.Core.List.{List, [], _∷_}
-use Prim.Native.Nat.{ℕ, zero, suc, _-_, _≤_, _<_}
+use Prim.Native.Nat.{ℕ, zero, suc, _≤_, _<_}
 use native.Mathlib.Decide.{ℕ-discrete}
 use native.Mathlib.Omega.{arith}
 use lib.ListN.{getD, length, length-set, set, take}
@@ -18,21 +18,10 @@ use Rattle.verdict.specs.declared.Kept.{Kept}
 use Rattle.verdict.specs.Kept.{kept}
 use Rattle.verdict.proofs.NoRules.{kept-none}
 use Rattle.accept.proofs.Choices.{never}
-use Rattle.slate.specs.declared.Note.{Note}
-use Rattle.slate.specs.Notes.{Noted, Notes, fixedIn, fixedOut, noteAt, noteIn, noting, withNote}
+use Rattle.noting.specs.declared.Note.{Note}
+use Rattle.noting.specs.Note.{fixedIn, fixedOut, noteAt, noteIn, noting, withNote}
+use Rattle.slate.specs.Notes.{Noted, Notes}
 use Rattle.slate.proofs.Cleared.{take-map}
-
--- the note on some rules is in the last one's row, and is written there
-pub note-in : (w : ℕ) (rows : List (List ℕ)) (n : ℕ) → (n ≡ 0 → ⊥) → noteIn (getD rows (n - 1) []) ≡ noteAt w rows n
-unfolding noteAt
-note-in w rows zero z = absurd (z refl)
-note-in w rows (suc i) z = ap (λ (j : ℕ). noteIn (getD rows j [])) (omega arith)
-
-pub noting-in : (k : Kept) (f : Fixed) (rows : List (List ℕ)) (n : ℕ) → (n ≡ 0 → ⊥)
-    → set rows (n - 1) (withNote k f (getD rows (n - 1) [])) ≡ noting k f rows n
-unfolding noting
-noting-in k f rows zero z = absurd (z refl)
-noting-in k f rows (suc i) z = ap (λ (j : ℕ). set rows j (withNote k f (getD rows j []))) (omega arith)
 
 -- ---- a note that is written
 

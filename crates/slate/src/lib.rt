@@ -1,9 +1,8 @@
-// A slate: a sheet laid out in rows and marks that are lent, and a small head by value. Here are its head and notes, and what the calls on
+// A slate: a sheet laid out in rows and marks that are lent, and a small head by value. Here are its head, and what the calls on
 // it share. Nothing here knows the record that it stands for.
 mod clearing;
 mod counting;
 mod making;
-mod notes;
 mod refusing;
 
 use bits::Fixed;
@@ -11,9 +10,10 @@ pub use clearing::clear_all;
 pub use clearing::clear_waiting;
 pub use counting::in_force;
 pub use marks::set_marks;
-pub use notes::no_rules;
-pub use notes::note_at;
-pub use notes::put_note;
+pub use noting::Note;
+pub use noting::no_rules;
+pub use noting::note_at;
+pub use noting::put_note;
 use page::Opening;
 pub use refusing::refuses;
 pub use refusing::refuses_rule;
@@ -40,11 +40,4 @@ pub struct Head {
 pub struct Said {
     pub number: u64,
     pub head: Head,
-}
-
-// Whether what is kept of the first rules is known and, if so, what is kept and the bits that they fix.
-pub struct Note {
-    pub known: bool,
-    pub kept: Kept,
-    pub fixed: Fixed,
 }

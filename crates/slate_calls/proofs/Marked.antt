@@ -11,7 +11,8 @@ use Rattle.rows.specs.Rows.{bandsIn, rulesIn}
 use Rattle.verdict.specs.Kept.{kept}
 use Rattle.slate.specs.declared.Head.{Head}
 use Rattle.slate.specs.Held.{Beside, Held, bareRows}
-use Rattle.slate.specs.Notes.{Notes, noting}
+use Rattle.noting.specs.Note.{noting}
+use Rattle.slate.specs.Notes.{Notes}
 use Rattle.slate.specs.Numbers.{before}
 use Rattle.slate.proofs.Holding.{kept-so, waits-so, width-so}
 use Rattle.slate.proofs.Noted.{bands-stay, one-noted, rules-stay}

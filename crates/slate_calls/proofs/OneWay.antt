@@ -18,13 +18,14 @@ use Rattle.slate.specs.declared.Counts.{Counts}
 use Rattle.slate.specs.declared.Head.{Head}
 use Rattle.slate.specs.Held.{Beside, headOf}
 use Rattle.slate.specs.Numbers.{before}
-use Rattle.slate_calls.specs.Done.{Adds, Backs, Forwards, Marks, Opens, Refused, backHead, forwardHead, newHead, withOne}
+use Rattle.stepping.specs.Steps.{Backs, Forwards, Refused, backHead, forwardHead}
+use Rattle.slate_calls.specs.Done.{Adds, Marks, Opens, newHead, withOne}
 use Rattle.slate_calls.specs.Done.Adds.{added, refused}
-use Rattle.slate_calls.specs.Done.Backs.{goes-back, stays}
-use Rattle.slate_calls.specs.Done.Forwards.{goes-on, remains}
+use Rattle.stepping.specs.Steps.Backs.{goes-back, stays}
+use Rattle.stepping.specs.Steps.Forwards.{goes-on, remains}
 use Rattle.slate_calls.specs.Done.Marks.{marked, unmarked}
 use Rattle.slate_calls.specs.Done.Opens.{narrow, opened, wide}
-use Rattle.slate_calls.specs.Done.Refused.{before-first, own-ground}
+use Rattle.stepping.specs.Steps.Refused.{before-first, own-ground}
 
 -- what two outcomes share: the number, the head, the rules and the marks, and the bands of the rules given
 pub record Alike (n m : ℕ) (h k : Head) (rows rows′ : List (List ℕ)) (marks marks′ : List ℕ) : Type 0 where

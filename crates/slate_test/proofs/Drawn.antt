@@ -18,7 +18,8 @@ use Rattle.verdict.specs.Kept.{kept}
 use Rattle.verdict.specs.OnBands.{keptBy}
 use Rattle.slate.specs.declared.Head.{Head}
 use Rattle.slate.specs.Held.{Beside, Drawn, Room, foundTo}
-use Rattle.slate.specs.Notes.{Notes, noting}
+use Rattle.noting.specs.Note.{noting}
+use Rattle.slate.specs.Notes.{Notes}
 use Rattle.slate.proofs.Holding.{Swept, first-drawn, kept-found, swept}
 use Rattle.slate.proofs.Noted.{bands-stay, drawn-unknown, one-noted, rows-stay, rules-stay}
 

@@ -11,7 +11,7 @@ use Rattle.slate.specs.Numbers.{before}
 use Rattle.slate.proofs.Holding.{waits-so}
 use Rattle.slate_calls.specs.Done.{Marks}
 use Rattle.slate_calls.specs.Done.Marks.{marked, unmarked}
-use Rattle.slate_calls.specs.Done.Refused.{before-first, own-ground}
+use Rattle.stepping.specs.Steps.Refused.{before-first, own-ground}
 use Rattle.slate_calls.proofs.Marked.{beside-marked, rules-marked}
 use Rattle.slate_calls.proofs.marking.mark.Statement.{statement}
 use Rattle.slate_calls.proofs.marking.mark.Tie as tie

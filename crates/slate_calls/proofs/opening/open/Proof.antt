@@ -9,9 +9,9 @@ use Rattle.word.specs.Word.{IsWidth}
 use Rattle.word.proofs.Editions.{widest-held}
 use Rattle.verdict.proofs.NoRules.{kept-none}
 use Rattle.slate.specs.declared.Head.{Head}
-use Rattle.slate.specs.declared.Note.{Note}
+use Rattle.noting.specs.declared.Note.{Note}
 use Rattle.slate.specs.Held.{counted, headOf}
-use Rattle.slate.specs.Notes.{noteAt}
+use Rattle.noting.specs.Note.{noteAt}
 use Rattle.slate_calls.specs.Done.{Opens}
 use Rattle.slate_calls.specs.Done.Opens.{narrow, opened, wide}
 use Rattle.slate_calls.proofs.Opened.{beside-opened}
