@@ -16,7 +16,7 @@ use Rattle.sheet.specs.declared.Sheet.{Sheet}
 use Rattle.sheet.specs.Statements.{Asked}
 use Rattle.frame.specs.declared.Frame.{Frame}
 use Rattle.frame.specs.declared.Frame.the-variants.{Ask, NoFrame}
-use Rattle.frame.specs.Answers.{NO-FRAME, ROOM, answerBytes}
+use Rattle.fields.specs.Answers.{NO-FRAME, ROOM, answerBytes}
 use Rattle.frame.specs.Calls.{callOf, makes}
 use Rattle.frame.specs.Statements.{answered, asked, no-call}
 use Rattle.frame.proofs.Saying.{few-links, number-fits, reply-fits}

@@ -10,9 +10,9 @@ use Rattle.slate.specs.declared.Head.{Head}
 use Rattle.slate.specs.Held.{Held}
 use Rattle.sheet.specs.Held.{packed}
 use Rattle.sheet.specs.declared.Sheet.{Sheet}
-use Rattle.frame.specs.Answers.{askLines, numberLine}
+use Rattle.fields.specs.Answers.{askLines, numberLine}
 use Rattle.frame.specs.Calls.{MadeCall}
-use Rattle.frame.specs.Fields.{Line}
+use Rattle.fields.specs.Fields.{Line}
 use Rattle.frame.specs.Statements.{Said}
 use Rattle.answer.specs.declared.Called.{Called}
 use Rattle.answer.specs.declared.Told.{Told}

@@ -1,10 +1,6 @@
 // The desk: frames on standard input, a line each, and answers on standard output. The sheet is laid out once, and stays so.
 
-mod calls;
-mod output;
-mod turns;
-
-use calls::Came;
+use coming::Came;
 use rows::NUMBERS;
 use rule::Rule;
 use sheet::Sheet;
@@ -22,6 +18,6 @@ fn main() {
     if let Came::Nothing = came {
         let state = turn.state;
         let n = feed::finish(state, &mut rows, &mut marks, &mut chain, &mut out);
-        output::send(&out[..n]);
+        coming::send(&out[..n]);
     }
 }

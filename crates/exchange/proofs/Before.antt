@@ -23,9 +23,9 @@ use Rattle.hex.specs.Hex.{allDigits, glyph, hex, number}
 use Rattle.hex.proofs.Inverse.{all-digits-parts, digits-back}
 use Rattle.frame.specs.declared.Frame.{Frame}
 use Rattle.frame.specs.declared.Frame.the-variants.{Add, Ask, Back, Forward, Mark, NoFrame, Open}
-use Rattle.frame.specs.Answers.{answerBytes, chainLines, linkLine, numberLine}
+use Rattle.fields.specs.Answers.{answerBytes, chainLines, linkLine, numberLine}
 use Rattle.frame.specs.Calls.{MadeCall, asks, callOf, lineCall, makes, none}
-use Rattle.frame.specs.Fields.{Line}
+use Rattle.fields.specs.Fields.{Line}
 use Rattle.frame.specs.Frames.{bare, byDigits, codeEdition, frameOf, numbered, ruleOf}
 use Rattle.frame.specs.Pages.{answerTo, pageAfter}
 use Rattle.frame.proofs.Rows.{too-short}

@@ -7,8 +7,8 @@ use native.Mathlib.Omega.{arith}
 use lib.ListN.{drop, length, take}
 use lib.Seq.{take-add}
 use Rattle.sheet.specs.declared.Sheet.{Sheet}
-use Rattle.frame.specs.Answers.{answerBytes}
-use Rattle.frame.specs.Fields.{Line}
+use Rattle.fields.specs.Answers.{answerBytes}
+use Rattle.fields.specs.Fields.{Line}
 use Rattle.frame.proofs.Unique.{put-unique, said-unique}
 use Rattle.exchange.specs.Begun.{none}
 use Rattle.exchange.specs.Desk.{Desk, Fed, desk, fed}

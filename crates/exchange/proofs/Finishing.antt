@@ -4,7 +4,7 @@ use mathlib.Core.List.{List, [], _∷_, _++_, append-nil}
 use Prim.Native.Nat.{ℕ, _≤_}
 use native.Mathlib.Omega.{arith}
 use lib.ListN.{drop, length}
-use Rattle.frame.specs.Answers.{NEWLINE, ROOM, answerBytes}
+use Rattle.fields.specs.Answers.{NEWLINE, ROOM, answerBytes}
 use Rattle.exchange.specs.Desk.{Desk, Fed}
 use Rattle.exchange.specs.Lines.{lineOf, withEnd}
 use Rattle.exchange.specs.Statements.{Ends, FedSo, Feeds, Finished, Takes, a-line, all-used, ends-line, goes-on, last-line, no-room, nothing}

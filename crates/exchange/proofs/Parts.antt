@@ -6,10 +6,11 @@ use native.Mathlib.Omega.{arith}
 use lib.ListN.{drop, drop-of-length-le, length, length-append, length-drop}
 use lib.Seq.{drop-drop}
 use Rattle.sheet.specs.declared.Sheet.{Sheet}
-use Rattle.frame.specs.Answers.{ROOM, answerBytes}
+use Rattle.fields.specs.Answers.{ROOM, answerBytes}
 use Rattle.frame.specs.Calls.{lineCall}
-use Rattle.frame.specs.Statements.{Answered, PutAt}
-use Rattle.frame.proofs.Lines.{put-none, put-on}
+use Rattle.frame.specs.Statements.{Answered}
+use Rattle.fields.specs.Put.{PutAt}
+use Rattle.fields.proofs.Lines.{put-none, put-on}
 use Rattle.exchange.specs.declared.Begun.{Begun}
 use Rattle.exchange.specs.Begun.{begunLine, joined, none}
 use Rattle.exchange.specs.Desk.{Desk, Fed, desk}

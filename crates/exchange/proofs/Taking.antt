@@ -9,8 +9,8 @@ use borrow.Author.Tests.{eq-eqb, ne-eqb}
 use lib.ListN.{drop, getD, length, length-take, take}
 use lib.Seq.{drop-cons, take-all}
 use Rattle.sheet.specs.declared.Sheet.{Sheet}
-use Rattle.frame.specs.Answers.{NEWLINE, answerBytes}
-use Rattle.frame.specs.Fields.{Line}
+use Rattle.fields.specs.Answers.{NEWLINE, answerBytes}
+use Rattle.fields.specs.Fields.{Line}
 use Rattle.exchange.specs.Begun.{joined, none, put}
 use Rattle.exchange.specs.Desk.{Desk, desk}
 use Rattle.exchange.specs.Lines.{lineOf, withEnd}

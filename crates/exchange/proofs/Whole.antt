@@ -11,12 +11,12 @@ use Rattle.sheet.specs.declared.Sheet.{Sheet}
 use Rattle.page.specs.Page.{Page}
 use Rattle.sheet.specs.Record.{blank, fresh}
 use Rattle.page.specs.Reached.{Reached, start}
-use Rattle.frame.specs.Answers.{NEWLINE, answerBytes}
+use Rattle.fields.specs.Answers.{NEWLINE, answerBytes}
 use Rattle.frame.specs.Calls.{lineCall}
-use Rattle.frame.specs.Fields.{Line}
+use Rattle.fields.specs.Fields.{Line}
 use Rattle.frame.specs.Frames.{LONGEST}
 use Rattle.frame.specs.Pages.{answerTo, pageAfter}
-use Rattle.frame.specs.Statements.{PutAt}
+use Rattle.fields.specs.Put.{PutAt}
 use Rattle.frame.proofs.OnPage.{page-answers, page-reached}
 use Rattle.exchange.specs.Begun.{HELD, begunLine, none, put}
 use Rattle.exchange.specs.Desk.{Desk, desk}

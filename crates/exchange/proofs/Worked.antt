@@ -13,9 +13,9 @@ use Rattle.chain.specs.Links.{before, blocks, further, furthest, furthestOf, ga
 use Rattle.page.specs.Calls.{after, changed, firstThatApplies, grounds, isBlank, marksOf, refusal, rulesOf, written as writes}
 use Rattle.page.specs.Page.{editionOf, entriesOf, laidAside, marksOn, rulesOn, struck, widthOf}
 use Rattle.hex.specs.Hex.{allDigits, glyph, hex, isDigit, number, numberFrom, value}
-use Rattle.frame.specs.Answers.{answerBytes, chainLines, lineBytes, numberLine}
+use Rattle.fields.specs.Answers.{answerBytes, chainLines, lineBytes, numberLine}
 use Rattle.frame.specs.Calls.{callOf, lineCall}
-use Rattle.frame.specs.Fields.{digitsIn}
+use Rattle.fields.specs.Fields.{digitsIn}
 use Rattle.frame.specs.Frames.{bare, byDigits, codeEdition, frameOf, numbered, ruleOf}
 use Rattle.frame.specs.Pages.{answerTo, pageAfter}
 use Rattle.exchange.specs.Exchange.{answersTo, exchange, inFront, lines}

@@ -22,9 +22,9 @@ use Rattle.page.specs.Page.{Page, at-width, no-page, pileOf, widthOf}
 use Rattle.hex.specs.Hex.{allDigits, number}
 use Rattle.frame.specs.declared.Frame.{Frame}
 use Rattle.frame.specs.declared.Frame.the-variants.{Add, Ask, Back, Forward, Mark, NoFrame, Open}
-use Rattle.frame.specs.Answers.{answerBytes}
+use Rattle.fields.specs.Answers.{answerBytes}
 use Rattle.frame.specs.Calls.{MadeCall, asks, callOf, makes, none}
-use Rattle.frame.specs.Fields.{Line, field}
+use Rattle.fields.specs.Fields.{Line, field}
 use Rattle.exchange.specs.Exchange.{lines}
 use Rattle.hex.specs.Text.{bytesOf}
 

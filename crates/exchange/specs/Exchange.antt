@@ -4,7 +4,7 @@ use mathlib.Core.List.{List, [], _∷_, _++_}
 use Prim.Native.Nat.{ℕ}
 use lib.Dec.{eqb}
 use Rattle.page.specs.Page.{Page, no-page}
-use Rattle.frame.specs.Answers.{NEWLINE, answerBytes}
+use Rattle.fields.specs.Answers.{NEWLINE, answerBytes}
 use Rattle.frame.specs.Calls.{lineCall}
 use Rattle.frame.specs.Pages.{answerTo, pageAfter}
 

@@ -4,7 +4,7 @@ use mathlib.Core.List.{List, [], _∷_}
 use Prim.Native.Nat.{ℕ, suc}
 use lib.Dec.{eqb}
 use lib.ListN.{length, take}
-use Rattle.frame.specs.Answers.{NEWLINE}
+use Rattle.fields.specs.Answers.{NEWLINE}
 
 -- the bytes before the first byte 10
 unfoldable pub lineOf : List ℕ → List ℕ

@@ -5,10 +5,11 @@ use mathlib.Core.List.{List, [], _∷_, _++_}
 use Prim.Native.Nat.{ℕ, _+_, _-_, _≤_, _<_}
 use lib.ListN.{drop, length, take}
 use Rattle.sheet.specs.declared.Sheet.{Sheet}
-use Rattle.frame.specs.Answers.{NEWLINE, ROOM, answerBytes}
+use Rattle.fields.specs.Answers.{NEWLINE, ROOM, answerBytes}
 use Rattle.frame.specs.Calls.{lineCall}
-use Rattle.frame.specs.Fields.{Line}
-use Rattle.frame.specs.Statements.{PutAt, Said}
+use Rattle.fields.specs.Fields.{Line}
+use Rattle.frame.specs.Statements.{Said}
+use Rattle.fields.specs.Put.{PutAt}
 use Rattle.exchange.specs.Begun.{begunLine, none, put}
 use Rattle.exchange.specs.Desk.{Desk, Fed, desk}
 use Rattle.exchange.specs.Lines.{withEnd}

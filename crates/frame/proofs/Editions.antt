@@ -7,7 +7,7 @@ use Rattle.word.specs.declared.Edition.the-variants.{New, Old}
 use Rattle.word.specs.Edition.{terms}
 use Rattle.hex.specs.Hex.{hex}
 use Rattle.hex.proofs.Padded.{ZERO, hex-padded}
-use Rattle.frame.specs.Fields.{WORD}
+use Rattle.fields.specs.Fields.{WORD}
 
 -- "16 digits of an old word are eight zeros and its eight digits"
 pub old-word : (x : ℕ) → x < 2 ^ terms Old .widest → hex (WORD New) x ≡ replicate 8 ZERO ++ hex (WORD Old) x

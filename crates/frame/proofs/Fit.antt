@@ -36,9 +36,9 @@ use Rattle.page.specs.Calls.{Call, Ground, add, ask, back, firstThatApplies, fo
 use Rattle.page.specs.Page.{Page, editionOf, entriesOf, no-page, page, rulesOn, widthOf}
 use Rattle.page.specs.Reached.{Reached}
 use Rattle.page.proofs.Lawful.{reached-lawful}
-use Rattle.frame.specs.Answers.{ACCEPTED, NO-FRAME, REFUSED, chainLines, keptLine, linkLine, numberLine}
+use Rattle.fields.specs.Answers.{ACCEPTED, NO-FRAME, REFUSED, chainLines, keptLine, linkLine, numberLine}
 use Rattle.frame.specs.Calls.{MadeCall, asks, makes, none}
-use Rattle.frame.specs.Fields.{AllInDigits, BYTE, InDigits, WORD, byte}
+use Rattle.fields.specs.Fields.{AllInDigits, BYTE, InDigits, WORD, byte}
 use Rattle.frame.specs.Pages.{answerTo}
 use Rattle.word.proofs.Editions.{widest-fits}
 

@@ -1,7 +1,5 @@
 pub mod Editions
-pub mod Fields
 pub mod Fit
-pub mod Lines
 pub mod OnPage
 pub mod ReadBack
 pub mod Rows

@@ -21,9 +21,9 @@ use Rattle.page.specs.Reached.{Reached}
 use Rattle.demands.proofs.Demand.{after-reached, outcome-on}
 use Rattle.page.proofs.Lawful.{reached-lawful}
 use Rattle.page.proofs.Refusals.{ask-fits, blank-ask}
-use Rattle.frame.specs.Answers.{askLines, chainLines, linkLine, linkLines, numberLine}
+use Rattle.fields.specs.Answers.{askLines, chainLines, linkLine, linkLines, numberLine}
 use Rattle.frame.specs.Calls.{MadeCall, asks, makes, none}
-use Rattle.frame.specs.Fields.{Line}
+use Rattle.fields.specs.Fields.{Line}
 use Rattle.frame.specs.Pages.{answerTo, pageAfter}
 use Rattle.frame.specs.Statements.{Said, answered, asked, no-call}
 

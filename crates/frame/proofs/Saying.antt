@@ -17,9 +17,9 @@ use Rattle.page.specs.Calls.{ask, refusal}
 use Rattle.page.specs.Page.{Page}
 use Rattle.sheet.specs.Statements.{Asked, IsSheet, chainOn, overlaid, reply}
 use Rattle.sheet.proofs.Tested.{sheet-dec}
-use Rattle.frame.specs.Answers.{ROOM, answerBytes, askLines, keptLine, lineBytes, linkLines, numberLine}
-use Rattle.frame.specs.Statements.{PutAt}
-use Rattle.frame.proofs.Lines.{length-kept, length-links, length-number, one-line}
+use Rattle.fields.specs.Answers.{ROOM, answerBytes, askLines, keptLine, lineBytes, linkLines, numberLine}
+use Rattle.fields.specs.Put.{PutAt}
+use Rattle.fields.proofs.Lines.{length-kept, length-links, length-number, one-line}
 
 pub number-fits : (n : ℕ) → length (answerBytes (numberLine n ∷ [])) ≤ ROOM
 unfolding answerBytes

@@ -11,10 +11,11 @@ use Rattle.sheet.specs.declared.Sheet.{Sheet}
 use Rattle.sheet.specs.Statements.{Asked, IsSheet}
 use Rattle.sheet.proofs.Tested.{sheet-dec}
 use Rattle.demands.proofs.Unique.{outcome-unique}
-use Rattle.frame.specs.Answers.{answerBytes, askLines, numberLine}
+use Rattle.fields.specs.Answers.{answerBytes, askLines, numberLine}
 use Rattle.frame.specs.Calls.{MadeCall}
-use Rattle.frame.specs.Fields.{Line}
-use Rattle.frame.specs.Statements.{Answered, PutAt, Said, answered, asked, no-call}
+use Rattle.fields.specs.Fields.{Line}
+use Rattle.frame.specs.Statements.{Answered, Said, answered, asked, no-call}
+use Rattle.fields.specs.Put.{PutAt}
 use Rattle.frame.proofs.OnPage.{asked-lines}
 
 same-answer : {r r′ : Answer} → r ≡ r′ → (r .sheet ≡ r′ .sheet) × (numberLine (r .number) ∷ [] ≡ numberLine (r′ .number) ∷ [])

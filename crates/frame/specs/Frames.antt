@@ -15,7 +15,7 @@ use Rattle.page.specs.Page.{at-width}
 use Rattle.hex.specs.Hex.{allDigits, number}
 use Rattle.frame.specs.declared.Frame.{Frame}
 use Rattle.frame.specs.declared.Frame.the-variants.{Add, Ask, Back, Forward, Mark, NoFrame, Open}
-use Rattle.frame.specs.Fields.{BYTE, DIGITS, InDigits, Line, WORD, byte, digitsIn, word}
+use Rattle.fields.specs.Fields.{BYTE, DIGITS, InDigits, Line, WORD, byte, digitsIn, word}
 
 -- "`01` width(2): open. `02` form(2) sense(2) c1(8) c2(8): add. `03` mark. `04` back. `05` ask."; "frame `06`: it brings back the
 -- stretch most recently taken back"; and "Frame `11` opens a sheet of width 1 to 64; its adds are frame `12`, with constants of 16 digits"

@@ -5,9 +5,9 @@ use lib.Dec.{eqb}
 use Rattle.chain.specs.Findings.{findings}
 use Rattle.page.specs.Calls.{after, ask, refusal, rulesOf}
 use Rattle.page.specs.Page.{Page, editionOf, widthOf}
-use Rattle.frame.specs.Answers.{NO-FRAME, chainLines, keptLine, numberLine}
+use Rattle.fields.specs.Answers.{NO-FRAME, chainLines, keptLine, numberLine}
 use Rattle.frame.specs.Calls.{MadeCall, asks, makes, none}
-use Rattle.frame.specs.Fields.{Line}
+use Rattle.fields.specs.Fields.{Line}
 
 -- a call is answered by its number, asking by what is found, in the digits of the page's edition, and a line that makes no call by 10
 unfoldable pub answerTo : Page → MadeCall → List Line

@@ -1,23 +1,17 @@
 -- What answering a line promises.
 use mathlib.Core.Path.{_≡_}
 use mathlib.Core.List.{List, [], _∷_}
-use Prim.Native.Nat.{ℕ, _+_, _≤_}
+use Prim.Native.Nat.{ℕ, _≤_}
 use lib.ListN.{length}
 use Rattle.sheet.specs.declared.Answer.{Answer}
 use Rattle.sheet.specs.declared.Reply.{Reply}
 use Rattle.sheet.specs.declared.Sheet.{Sheet}
 use Rattle.page.specs.Calls.{Call}
 use Rattle.sheet.specs.Statements.{Asked, Outcome}
-use Rattle.hex.specs.Hex.{Written}
-use Rattle.frame.specs.Answers.{NO-FRAME, ROOM, answerBytes, askLines, numberLine}
+use Rattle.fields.specs.Answers.{NO-FRAME, ROOM, answerBytes, askLines, numberLine}
 use Rattle.frame.specs.Calls.{MadeCall, asks, makes, none}
-use Rattle.frame.specs.Fields.{Line}
-
--- bytes are written from a place on, fit the buffer, and end at another place
-pub record PutAt (b : List ℕ) (at : ℕ) (bytes b′ : List ℕ) (end : ℕ) : Type 0 where
-  pub written : Written b at bytes b′
-  pub fits : at + length bytes ≤ length b
-  pub ends : end ≡ at + length bytes
+use Rattle.fields.specs.Fields.{Line}
+use Rattle.fields.specs.Put.{PutAt}
 
 -- What a line gets on a record, whatever that is: the record after it, and the lines of its answer. Its call is made as that
 -- promises, asking with as many numbers lent as it says; where it makes none, the answer is refusal 10.

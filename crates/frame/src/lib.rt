@@ -1,12 +1,12 @@
 // Lines of hexadecimal: which frame a line is, and how an answer is written.
-mod answers;
 mod reading;
 
-pub use answers::kept_line;
-pub use answers::put_line;
-pub use answers::put_links;
-pub use answers::put_number;
 use chain::Link;
+pub use fields::Field;
+pub use fields::kept_line;
+pub use fields::put_line;
+pub use fields::put_links;
+pub use fields::put_number;
 use page::Opening;
 pub use reading::decode;
 use rule::Rule;
@@ -23,18 +23,12 @@ pub enum Frame {
     NoFrame,
 }
 
-// A number in a line, in so many digits.
-pub struct Field {
-    pub digits: usize,
-    pub number: u64,
-}
-
 impl Frame {
     // What ends a line.
-    pub const NEWLINE: u8 = 10;
+    pub const NEWLINE: u8 = Field::NEWLINE;
 
     // The digits of a code, and of every number that is no word.
-    pub const BYTE: usize = 2;
+    pub const BYTE: usize = Field::BYTE;
 
     // The most digits that a frame has: those of an add, where words have the most.
     pub const LONGEST: usize = 3 * Frame::BYTE + 2 * Edition::DIGITS;

@@ -2,7 +2,7 @@
 ghost use mathlib.Core.Path.{_≡_};
 ghost use lib.ListN.{length};
 ghost use Prim.Native.Nat.{_+_, _≤_};
-ghost use Rattle.frame.specs.Fields.{DIGITS};
+ghost use Rattle.fields.specs.Fields.{DIGITS};
 ghost use Rattle.frame.specs.Frames.{C1, bare, codeEdition, frameOf, numbered, ruleOf};
 use crate::Frame;
 use page::Opening;

@@ -19,7 +19,7 @@ use Rattle.chain.specs.Links.{link, linkBy}
 use Rattle.chain.specs.OnBands.{furthestBand, gapOn, linkOn}
 use Rattle.chain.proofs.OnBands.{Failing, furthest-fails}
 use Rattle.due.proofs.Starts.{Ends}
-use Rattle.linking.specs.Step.{Reached, linkTo}
+use Rattle.link_step.specs.Step.{Reached, linkTo}
 
 module _ (t p n : ℕ) (bs : List Band) (lie : Lie t n bs) where
   failing : (far : Far) → far ≡ furthestBand (take n bs) t p → Failing t p bs n far

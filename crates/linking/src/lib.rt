@@ -10,11 +10,9 @@ ghost use Rattle.rows.specs.OfRules.{OfLawful};
 ghost use Rattle.rows.specs.Rows.{bandsIn};
 ghost use Rattle.verdict.specs.Kept.{kept};
 ghost use Rattle.chain.specs.Links.{chainRoom, links, numbersOf};
-
-mod step;
-
 use bits::Fixed;
 use chain::Link;
+use due::Stage;
 use reach::Way;
 use rule::Rule;
 use word::Width;
@@ -47,9 +45,10 @@ pub fn write(
             sorted = order::lay(rows, n, top, &mut order);
             next = 0;
         }
-        let due = reach::find(rows, &order, n, width, p, Way { sorted, next });
+        let stage = Stage { p, next };
+        let due = reach::find(rows, &order, n, width, Way { sorted, stage });
         let far = due.far;
-        let link = step::link_at(rows, fixed, width, p, far);
+        let link = link_step::link_at(rows, fixed, width, p, far);
         chain::put(&mut *out, Link::NUMBERS * count, link);
         count += 1;
         if link.to == top {

@@ -11,7 +11,7 @@ use Rattle.page.specs.Calls.{Call, grounds, open-at, refusal, written}
 use Rattle.page.specs.Page.{Page, no-page}
 use Rattle.page.proofs.Refusals.{after-accepted}
 use Rattle.hex.specs.Hex.{allDigits, number, numberFrom}
-use Rattle.frame.specs.Answers.{NEWLINE, answerBytes, numberLine}
+use Rattle.fields.specs.Answers.{NEWLINE, answerBytes, numberLine}
 use Rattle.frame.specs.Calls.{callOf, lineCall}
 use Rattle.frame.specs.Frames.{bare, byDigits, codeEdition, frameOf, numbered}
 use Rattle.frame.specs.Pages.{answerTo, pageAfter}

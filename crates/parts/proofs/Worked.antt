@@ -8,9 +8,9 @@ use Rattle.word.specs.Edition.{terms}
 use Rattle.page.specs.Calls.{after, firstThatApplies, grounds, isBlank, marksOf, refusal, written}
 use Rattle.page.specs.Page.{entriesOf, marksOn}
 use Rattle.hex.specs.Hex.{allDigits, glyph, hex, isDigit, number, numberFrom, value}
-use Rattle.frame.specs.Answers.{answerBytes, lineBytes, numberLine}
+use Rattle.fields.specs.Answers.{answerBytes, lineBytes, numberLine}
 use Rattle.frame.specs.Calls.{callOf, lineCall}
-use Rattle.frame.specs.Fields.{digitsIn}
+use Rattle.fields.specs.Fields.{digitsIn}
 use Rattle.frame.specs.Frames.{bare, byDigits, codeEdition, frameOf, numbered}
 use Rattle.frame.specs.Pages.{answerTo, pageAfter}
 use Rattle.exchange.specs.Exchange.{answersTo, exchange, inFront, lines}

@@ -8,9 +8,9 @@ use Rattle.page.specs.Calls.{open-at, refusal}
 use Rattle.page.specs.declared.Opening.{Opening}
 use Rattle.page.specs.Page.{no-page}
 use Rattle.hex.specs.Hex.{hex}
-use Rattle.frame.specs.Answers.{NEWLINE}
+use Rattle.fields.specs.Answers.{NEWLINE}
 use Rattle.frame.specs.Calls.{lineCall, makes}
-use Rattle.frame.specs.Fields.{BYTE}
+use Rattle.fields.specs.Fields.{BYTE}
 use Rattle.exchange.specs.Lines.{lineOf}
 
 -- a line makes an opening, and it is not refused: 2, the one number that an opening may get, is the same on every sheet

@@ -1,7 +1,7 @@
 -- `put` meets its contract: what is told is a number or a reply. Assumes nothing.
 use mathlib.Core.Path.{subst}
 use borrow.Author.Needs.{needs}
-use Rattle.frame.proofs.Lines.{one-line}
+use Rattle.fields.proofs.Lines.{one-line}
 use Rattle.answer.specs.Told.{Few, toldLines}
 use Rattle.answer.proofs.telling.put.Statement.{statement}
 use Rattle.answer.proofs.telling.put.Tie as tie

@@ -3,8 +3,8 @@ use Prim.Native.Nat.{_≤_}
 use native.Mathlib.Omega.{arith}
 use borrow.Author.Needs.{needs}
 use lib.ListN.{length}
-use Rattle.frame.specs.Answers.{LINE, lineBytes}
-use Rattle.frame.proofs.Lines.{length-kept, put-on}
+use Rattle.fields.specs.Answers.{LINE, lineBytes}
+use Rattle.fields.proofs.Lines.{length-kept, put-on}
 use Rattle.frame.proofs.Saying.{refusal-put, reply-put}
 use Rattle.answer.proofs.telling.put_reply.Statement.{statement}
 use Rattle.answer.proofs.telling.put_reply.Tie as tie

@@ -1,0 +1,40 @@
+-- What the desk makes of what it reads, a turn at a time.
+use mathlib.Core.Path.{_≡_}
+use mathlib.Core.Bool.{Bool, false, true}
+use mathlib.Core.List.{List}
+use Prim.Native.Nat.{ℕ, suc}
+use lib.IntN.{ℤ}
+use lib.ListN.{length, take}
+use Rattle.io.specs.Counts.{clamped}
+use Rattle.sheet.specs.Record.{blank}
+use Rattle.exchange.specs.Begun.{none}
+use Rattle.exchange.specs.Desk.{Desk, desk}
+use Rattle.feed.specs.Statements.{deskOf}
+use Rattle.coming.specs.declared.Came.{Came}
+use Rattle.coming.specs.declared.Came.the-variants.{Interrupted}
+use Rattle.coming.specs.Calls.{cameTo, goesOn}
+use Rattle.serving.specs.Passed.{Passed}
+use Rattle.turns.specs.declared.Talk.{Talk}
+use Rattle.turns.specs.declared.Turn.{Turn}
+
+-- a turn on a read's answer, with rows and marks as they are then: where the answers are taken, what was read went in whole
+pub record Hears (d : Desk) (got error : ℤ) (input : List ℕ) (r : Turn) (rows : List (List ℕ)) (marks : List ℕ) : Type 0 where
+  pub came : r .came ≡ cameTo got error
+  pub passed : r .taken ≡ true → Passed d (take (clamped got (length input)) input) (deskOf (r .state) rows marks)
+
+-- a turn, whatever its read answered and left in the buffer
+pub record Turned (d : Desk) (input : List ℕ) (r : Turn) (rows : List (List ℕ)) (marks : List ℕ) : Type 0 where
+  pub got : ℤ
+  pub error : ℤ
+  pub hears : Hears d got error input r rows marks
+
+-- so many turns from the desk before the first byte, each on the desk that the one before it left
+pub data Turns : ℕ → Came → (taken : Bool) → Desk → Type 0 where
+  none-yet : Turns 0 Interrupted true (desk blank none)
+  another : {n : ℕ} {c : Came} {t : Bool} {d : Desk} {input : List ℕ} {r : Turn} {rows : List (List ℕ)} {marks : List ℕ} → Turns n c t d → goesOn c t n ≡ true
+      → Turned d input r rows marks → Turns (suc n) (r .came) (r .taken) (deskOf (r .state) rows marks)
+
+-- turns stop only at the end of the input, at a read or a write that fails, or after as many as no run uses up
+pub record Stops (r : Talk) (rows : List (List ℕ)) (marks : List ℕ) : Type 0 where
+  pub turns : Turns (r .turns) (r .turn .came) (r .turn .taken) (deskOf (r .turn .state) rows marks)
+  pub stops : goesOn (r .turn .came) (r .turn .taken) (r .turns) ≡ false
