@@ -24,9 +24,9 @@ use Rattle.covering.specs.Route.{covered}
 use Rattle.covering.proofs.Covering.{covers-shown, shown-covers, shows-is, shows-order, shows-reason}
 use Rattle.covering.proofs.EveryWord.{misses}
 use Rattle.covering.proofs.Midway.{covered-none, covered-some}
-use Rattle.breach.specs.Clauses.{Clause, firstBroken, isYes, lieClauses, listClauses, reasonClauses}
-use Rattle.breach.specs.First.{allHold}
-use Rattle.breach.proofs.Broken.{telling, yes-all}
+use Rattle.finding.specs.Clauses.{Clause, firstBroken, isYes, lieClauses, listClauses, reasonClauses}
+use Rattle.finding.specs.First.{allHold}
+use Rattle.finding.proofs.Broken.{telling, yes-all}
 
 -- every clause finds something
 pub lies-telling : (t i e : ℕ) (l : Link) → telling (lieClauses t i e l) ≡ true

@@ -1,5 +1,2 @@
-pub mod Broken
 pub mod Exactly
-pub mod Meeting
-pub mod Reasons
 pub mod Walk

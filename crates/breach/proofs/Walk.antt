@@ -13,10 +13,10 @@ use Rattle.chain.specs.declared.Link.{Link}
 use Rattle.chain.specs.Links.{linkFrom}
 use Rattle.covering.specs.Check.{linksIn}
 use Rattle.covering.proofs.Midway.{next-link}
-use Rattle.breach.specs.declared.Finding.{Finding}
-use Rattle.breach.specs.declared.Finding.the-variants.{Short, Yes}
-use Rattle.breach.specs.Clauses.{Clause, firstBroken, isYes, lieClauses, listClauses, reasonClauses}
-use Rattle.breach.proofs.Broken.{goes-on, stops}
+use Rattle.finding.specs.declared.Finding.{Finding}
+use Rattle.finding.specs.declared.Finding.the-variants.{Short, Yes}
+use Rattle.finding.specs.Clauses.{Clause, firstBroken, isYes, lieClauses, listClauses, reasonClauses}
+use Rattle.finding.proofs.Broken.{goes-on, stops}
 use Rattle.breach.proofs.Exactly.{lies-telling, reasons-telling}
 
 module _ (w : ℕ) (rs : List Rule) (ns : List ℕ) where

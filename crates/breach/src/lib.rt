@@ -8,44 +8,12 @@ ghost use Rattle.rows.specs.Bands.{Lie};
 ghost use Rattle.rows.specs.OfRules.{OfLawful};
 ghost use Rattle.rows.specs.Rows.{bandsIn, rulesIn};
 ghost use Rattle.covering.specs.Check.{linksIn};
-ghost use Rattle.breach.specs.Clauses.{firstBroken, isYes, listClauses};
-
-mod link;
-
+ghost use Rattle.finding.specs.Clauses.{firstBroken, listClauses};
 use bits::Fixed;
 use chain::Link;
+pub use finding::Finding;
 use rule::Rule;
 use word::Width;
-
-// What is found of a list of links: yes, or the first clause that does not hold, where it is one of a link with that link's number,
-// counted from 0, and where it is one of the words with the smallest word of the link that meets what each should fail.
-pub enum Finding {
-    Yes,
-    NoSheet,
-    Empty,
-    Ragged,
-    Backward { link: usize },
-    AboveTop { link: usize },
-    NotFromZero { link: usize },
-    Gap { link: usize },
-    NoRule { link: usize },
-    BitRule { link: usize },
-    MeetsRule { link: usize, word: u64 },
-    MeetsBits { link: usize, word: u64 },
-    Short,
-}
-
-impl Finding {
-    // Whether nothing was found.
-    pub fn is_yes(self) -> bool
-        ensures { λ r. ⌜ r ≡ isYes self ⌝ }
-    {
-        let Finding::Yes = self else {
-            return false;
-        };
-        true
-    }
-}
 
 // The first clause that links do not keep, link by link: where the link lies, then its reason, and at last whether the top word is reached.
 pub fn first(
@@ -67,11 +35,11 @@ pub fn first(
     let mut at = 0;
     while at < links.len() {
         let read = chain::link_from(links, at);
-        let lies = link::lies(read, number, end, top);
+        let lies = finding::lies(read, number, end, top);
         if !lies.is_yes() {
             return lies;
         }
-        let shows = link::shows(read, number, rows, n, fixed, width);
+        let shows = reason::shows(read, number, rows, n, fixed, width);
         if !shows.is_yes() {
             return shows;
         }

@@ -22,9 +22,9 @@ use Rattle.rows.specs.Rows.{ruleIn, rulesIn}
 use Rattle.covering.specs.Check.{linksIn, shown, shownBy}
 use Rattle.checker.specs.Check.{accepts}
 use Rattle.checker.proofs.Held.{blank-no, empty-no, lie-so, no-sheet-no, shown-so, width-so}
-use Rattle.breach.specs.declared.Finding.{Finding}
-use Rattle.breach.specs.declared.Finding.the-variants.{Empty, NoSheet, Ragged}
-use Rattle.breach.specs.Clauses.{firstBroken, isYes, listClauses}
+use Rattle.finding.specs.declared.Finding.{Finding}
+use Rattle.finding.specs.declared.Finding.the-variants.{Empty, NoSheet, Ragged}
+use Rattle.finding.specs.Clauses.{firstBroken, isYes, listClauses}
 use Rattle.breach.proofs.Exactly.{yes-shown}
 use Rattle.clause.specs.Finding.{clausesOf, finding}
 

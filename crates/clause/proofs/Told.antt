@@ -20,10 +20,10 @@ use Rattle.sheet.specs.declared.Sheet.{Sheet}
 use Rattle.sheet.specs.Record.{fresh}
 use Rattle.sheet.specs.Shape.{isSheet}
 use Rattle.covering.specs.Check.{allOf, everyWord, linksIn}
-use Rattle.breach.specs.declared.Finding.{Finding}
-use Rattle.breach.specs.Clauses.{firstBroken, isYes, lieClauses, listClauses, reasonClauses, smallest, theWord}
-use Rattle.breach.specs.First.{IsFirst}
-use Rattle.breach.proofs.Broken.{is-first, only-first}
+use Rattle.finding.specs.declared.Finding.{Finding}
+use Rattle.finding.specs.Clauses.{firstBroken, isYes, lieClauses, listClauses, reasonClauses, smallest, theWord}
+use Rattle.finding.specs.First.{IsFirst}
+use Rattle.finding.proofs.Broken.{is-first, only-first}
 use Rattle.clause.specs.Examples.{Example, examples}
 use Rattle.clause.specs.Finding.{clausesOf, finding}
 

@@ -7,8 +7,8 @@ use Rattle.rule.specs.Meaning.{rule}
 use Rattle.page.specs.Page.{Entry, a-rule, at-width, newPage, page, withEntries}
 use Rattle.sheet.specs.declared.Sheet.{Sheet}
 use Rattle.sheet.specs.Record.{blank, fresh}
-use Rattle.breach.specs.declared.Finding.{Finding}
-use Rattle.breach.specs.declared.Finding.the-variants.{AboveTop, Backward, BitRule, Empty, Gap, MeetsBits, MeetsRule, NoRule, NoSheet, NotFromZero, Ragged, Short, Yes}
+use Rattle.finding.specs.declared.Finding.{Finding}
+use Rattle.finding.specs.declared.Finding.the-variants.{AboveTop, Backward, BitRule, Empty, Gap, MeetsBits, MeetsRule, NoRule, NoSheet, NotFromZero, Ragged, Short, Yes}
 
 pub record Example : Type 0 where
   pub sheet : Sheet

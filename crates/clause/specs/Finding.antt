@@ -8,9 +8,9 @@ use lib.ListN.{length, take}
 use Rattle.sheet.specs.declared.Sheet.{Sheet}
 use Rattle.sheet.specs.Shape.{isSheet}
 use Rattle.covering.specs.Check.{linksIn}
-use Rattle.breach.specs.declared.Finding.{Finding}
-use Rattle.breach.specs.declared.Finding.the-variants.{Empty, NoSheet, Ragged}
-use Rattle.breach.specs.Clauses.{Clause, clause, firstBroken, listClauses}
+use Rattle.finding.specs.declared.Finding.{Finding}
+use Rattle.finding.specs.declared.Finding.the-variants.{Empty, NoSheet, Ragged}
+use Rattle.finding.specs.Clauses.{Clause, clause, firstBroken, listClauses}
 
 unfoldable pub clausesOf : Sheet → List ℕ → List Clause
 clausesOf s ns =

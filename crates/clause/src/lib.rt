@@ -1,7 +1,7 @@
 // Why the check of a chain says no: the first clause of the paper that does not hold of a sheet and a list of links.
 ghost use mathlib.Core.Path.{_≡_};
 ghost use Rattle.checker.specs.Check.{accepts};
-ghost use Rattle.breach.specs.Clauses.{isYes};
+ghost use Rattle.finding.specs.Clauses.{isYes};
 ghost use Rattle.clause.specs.Finding.{finding};
 pub use breach::Finding;
 use chain::Link;

@@ -18,7 +18,7 @@ use Rattle.scan.specs.Scan.{accepted, isNumber, negated, numbered, placed, scan
 use Rattle.scan.specs.Scan as scanning
 use Rattle.line.specs.declared.Line.{Line}
 use Rattle.line.specs.Line.{byRow, finished, nothingRead, ruleStatement, ruleWith}
-use Rattle.line.specs.Rules.{ruleAt, ruleOf, signedWord}
+use Rattle.row_rules.specs.Rules.{ruleAt, ruleOf, signedWord}
 use Rattle.echo.specs.Echo.{says}
 use Rattle.echo.proofs.Pieces.{Piece, below, followed, number, the}
 

@@ -21,11 +21,12 @@ use Rattle.numeral.specs.Numeral.{afterZero, belowZero, digit, next, numeralFro
 use Rattle.grammar.specs.Grammar.{find, kindOf}
 use Rattle.grammar.specs.Kinds.{ABOVE, AND, AT-LEAST, AT-MOST, BELOW, EQUALS, FOR, NOT, PLUS, SETTLED, SIGNED, SINCE, X, packedFrom}
 use Rattle.token.specs.Token.{classOf, isBlank, isSign, isWord, opened, packed, textKind}
-use Rattle.line.specs.Rules.{signedWord}
+use Rattle.row_rules.specs.Rules.{signedWord}
 use Rattle.phrase.specs.Phrase.{signedly}
 use Rattle.phrase.proofs.Signed.{signed-high, signed-low}
 use Rattle.forms.specs.Forms.{formText}
-use Rattle.wording.specs.Wording.{atLeast, atMost, before, ruleText}
+use Rattle.signs.specs.Signs.{atLeast, atMost, before}
+use Rattle.wording.specs.Wording.{ruleText}
 use Rattle.echo.proofs.Accepted.{Acceptable}
 use Rattle.echo.proofs.Pieces.{AllRight, Piece, Right, known, number, spaced, the}
 use Rattle.echo.proofs.Rows.{Both, Opening, Say, integer, rows, signed-rows, signs}

@@ -14,7 +14,9 @@ use Rattle.token.specs.Token.{begun, classOf, isBlank, isSign, isWord, kind, mo
 use Rattle.scan.specs.Scan.{closed, started, step, steps, withToken}
 use Rattle.phrase.specs.Phrase.{signedly}
 use Rattle.forms.specs.Forms.{formText}
-use Rattle.wording.specs.Wording.{atLeast, atMost, before, numberText, ruleText}
+use Rattle.figure.specs.Figure.{numberText}
+use Rattle.signs.specs.Signs.{atLeast, atMost, before}
+use Rattle.wording.specs.Wording.{ruleText}
 use Rattle.echo.specs.Echo.{IsName}
 
 abbrev Text : (w form sense c1 c2 : ℕ) → String → Type 0

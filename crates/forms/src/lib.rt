@@ -4,6 +4,7 @@ ghost use lib.ListN.{length};
 ghost use Rattle.word.specs.Word.{IsWidth};
 ghost use Rattle.phrase.specs.Phrase.{Put};
 ghost use Rattle.forms.specs.Forms.{formText};
+use phrase::Two;
 use phrase::put_one;
 use phrase::put_signed;
 use phrase::put_text;
@@ -19,9 +20,9 @@ pub fn put_form(out: &mut [u8], at: usize, rule: Rule, width: Width) -> usize
 {
     let form = rule.form;
     match form {
-        1 => put_two(&mut *out, at, b"x + ", rule.c1, b" <= x + ", rule.c2),
-        2 => put_two(&mut *out, at, b"", rule.c1, b" <= x + ", rule.c2),
-        3 => put_two(&mut *out, at, b"x + ", rule.c1, b" <= ", rule.c2),
+        1 => put_two(&mut *out, at, b"x + ", b" <= x + ", Two(rule.c1, rule.c2)),
+        2 => put_two(&mut *out, at, b"", b" <= x + ", Two(rule.c1, rule.c2)),
+        3 => put_two(&mut *out, at, b"x + ", b" <= ", Two(rule.c1, rule.c2)),
         4 => {
             let from = put_text(&mut *out, at, b"signed x <= ");
             put_signed(&mut *out, from, rule.c1, width)
@@ -31,8 +32,14 @@ pub fn put_form(out: &mut [u8], at: usize, rule: Rule, width: Width) -> usize
             put_text(&mut *out, from, b" <= signed x")
         }
         6 => put_one(&mut *out, at, b"x = ", rule.c1),
-        7 => put_two(&mut *out, at, b"x & ", rule.c1, b" = ", rule.c2),
-        8 => put_two(&mut *out, at, b"settled since ", rule.c1, b" for ", rule.c2),
+        7 => put_two(&mut *out, at, b"x & ", b" = ", Two(rule.c1, rule.c2)),
+        8 => put_two(
+            &mut *out,
+            at,
+            b"settled since ",
+            b" for ",
+            Two(rule.c1, rule.c2),
+        ),
         _ => at,
     }
 }

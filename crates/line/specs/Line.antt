@@ -31,7 +31,7 @@ use Rattle.line.specs.declared.Statement.the-variants.{
   Wrong,
 }
 use Rattle.line.specs.declared.Statement.the-variants as said
-use Rattle.line.specs.Rules.{ruleOf, signedWord}
+use Rattle.row_rules.specs.Rules.{ruleOf, signedWord}
 
 -- the most bytes that a line may have
 abbrev pub LIMIT : ℕ

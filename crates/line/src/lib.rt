@@ -1,14 +1,12 @@
 // A line as people write it, read into a statement, or into its first mistake.
-mod rules;
-
 ghost use mathlib.Core.Path.{_≡_};
 ghost use Rattle.word.specs.Word.{IsWidth};
 ghost use Rattle.line.specs.Line.{byRow, finished, nothingRead, other, read, ruleStatement};
 use grammar::Place;
 use grammar::kind;
+use row_rules::rule_of;
+use row_rules::signed_word;
 use rule::Rule;
-use rules::rule_of;
-use rules::signed_word;
 use scan::Amount;
 use scan::Mistake;
 use scan::Name;

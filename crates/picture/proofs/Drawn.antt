@@ -32,7 +32,8 @@ use Rattle.covering.proofs.EveryWord.{every-same}
 use Rattle.shade.specs.declared.Cell.{Cell}
 use Rattle.shade.specs.declared.Cell.the-variants.{Fails, Meets, Nowhere, Partly}
 use Rattle.shade.specs.Cell.{cellOf}
-use Rattle.picture.specs.Picture.{allCell, columnCell, columns, drawable, ruleCell}
+use Rattle.column.specs.Column.{columns}
+use Rattle.picture.specs.Picture.{allCell, columnCell, drawable, ruleCell}
 
 -- tests that agree on a stretch draw it alike
 same-cell : (f g : ℕ → Bool) (p q : ℕ) → ((x : ℕ) → p ≤ x → x ≤ q → f x ≡ g x) → cellOf f p q ≡ cellOf g p q

@@ -1,27 +1,16 @@
 -- The cells of a picture: "the line of words in 64 columns, a row a rule and a row for all".
 use mathlib.Core.Bool.{Bool, not, _&&_, cond}
-use Prim.Native.Nat.{ℕ, min, _+_, _-_, _*_, _^_}
+use Prim.Native.Nat.{ℕ}
 use lib.Dec.{eqb, ltb}
 use lib.ListN.{take}
 use Rattle.rule.specs.Meaning.{fits, meets}
-use Rattle.band.specs.declared.Run.{Run}
 use Rattle.chain.specs.Links.{nth}
 use Rattle.sheet.specs.declared.Sheet.{Sheet}
 use Rattle.sheet.specs.Shape.{isSheet}
 use Rattle.shade.specs.declared.Cell.{Cell}
 use Rattle.shade.specs.declared.Cell.the-variants.{Nowhere}
 use Rattle.shade.specs.Cell.{cellOf}
-
--- 64 columns, or at fewer than 6 bits a column a word
-unfoldable pub columns : ℕ → ℕ
-columns w = 2 ^ min w 6
-
--- the words of a column, from 6 bits on 2^(w-6) of them
-unfoldable pub size : ℕ → ℕ
-size w = 2 ^ (w - 6)
-
-unfoldable pub wordsOf : (w c : ℕ) → Run
-wordsOf w c = record { from = c * size w; to = c * size w + (size w - 1) }
+use Rattle.column.specs.Column.{columns, wordsOf}
 
 -- how a column goes by a test
 unfoldable pub columnCell : (w c : ℕ) → (ℕ → Bool) → Cell

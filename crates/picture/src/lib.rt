@@ -5,11 +5,10 @@ ghost use Rattle.word.specs.Word.{IsWidth, top};
 ghost use Rattle.rule.specs.Meaning.{Lawful, meets};
 ghost use Rattle.shade.specs.Cell.{cellOf};
 ghost use Rattle.picture.specs.Picture.{allCell, ruleCell};
-
-mod column;
-
 use band::Band;
+use band::Run;
 use bits::Fixed;
+use rows::InForce;
 use rows::NUMBERS;
 use rule::Rule;
 pub use shade::Cell;
@@ -37,7 +36,12 @@ pub fn all_at(sheet: Sheet, column: u64) -> Cell
         return Cell::Nowhere;
     }
     let words = column::words(width, column);
-    shade::stretch(&rows, count, fixed, width, words.from, words.to)
+    let force = InForce {
+        count,
+        fixed,
+        width,
+    };
+    shade::stretch(&rows, force, words)
 }
 
 // A column by one rule in force, by its number.
@@ -77,5 +81,13 @@ fn alone(rule: Rule, width: Width, from: u64, to: u64) -> Cell
     let band = Band::of(rule, width);
     rows::put(&mut rows, 0, rule, band);
     let fixed = Fixed::Bits { mask: 0, value: 0 };
-    shade::stretch(&rows, 1, fixed.with(rule), width, from, to)
+    shade::stretch(
+        &rows,
+        InForce {
+            count: 1,
+            fixed: fixed.with(rule),
+            width,
+        },
+        Run { from, to },
+    )
 }

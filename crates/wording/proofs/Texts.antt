@@ -8,7 +8,8 @@ use borrow.Author.Tests.{eq-eqb, ne-eqb}
 use lib.Dec.{eqb}
 use Rattle.rule.specs.declared.Rule.{Rule}
 use Rattle.forms.specs.Forms.{formText}
-use Rattle.wording.specs.Wording.{atLeast, atMost, before, ruleText}
+use Rattle.signs.specs.Signs.{atLeast, atMost, before}
+use Rattle.wording.specs.Wording.{ruleText}
 
 module _ (w : ℕ) (r : Rule) where
   pub at-least : r .form ≡ 2 → r .c2 ≡ 0 → ruleText w r ≡ atLeast (r .sense) (r .c1)

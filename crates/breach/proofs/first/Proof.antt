@@ -16,7 +16,7 @@ use Rattle.accept.proofs.Choices.{failed, passed}
 use Rattle.rows.specs.Rows.{rulesIn}
 use Rattle.chain.specs.declared.Link.{Link}
 use Rattle.chain.specs.Links.{linkFrom}
-use Rattle.breach.specs.Clauses.{firstBroken, isYes, lieClauses, reasonClauses}
+use Rattle.finding.specs.Clauses.{firstBroken, isYes, lieClauses, reasonClauses}
 use Rattle.breach.proofs.Exactly.{in-place}
 use Rattle.breach.proofs.Walk.{Midway, at-first, at-next, at-top, below-top, wrong-place, wrong-reason}
 use Rattle.breach.proofs.first.Statement.{statement}

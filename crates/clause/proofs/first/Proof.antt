@@ -7,7 +7,7 @@ use Rattle.sheet.specs.declared.Sheet.{Sheet}
 use Rattle.sheet.specs.Held.{packed}
 use Rattle.sheet.proofs.ByValue.{empty-room}
 use Rattle.checker.proofs.Held.{lie-so, own-rules, tidy-so, width-so}
-use Rattle.breach.specs.declared.Finding.{Finding}
+use Rattle.finding.specs.declared.Finding.{Finding}
 use Rattle.clause.proofs.Found.{Right, blank, empty, no-sheet, ragged, walked}
 use Rattle.clause.proofs.first.Statement.{statement}
 use Rattle.clause.proofs.first.Tie as tie

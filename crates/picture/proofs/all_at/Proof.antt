@@ -15,8 +15,9 @@ use Rattle.sheet.proofs.ByValue.{empty-room}
 use Rattle.checker.proofs.Held.{lie-so, own-rules, tidy-so, width-so}
 use Rattle.shade.specs.declared.Cell.{Cell}
 use Rattle.shade.specs.Cell.{cellOf}
-use Rattle.picture.specs.Picture.{allCell, columnCell, wordsOf}
-use Rattle.picture.proofs.Columns.{column-words}
+use Rattle.column.specs.Column.{wordsOf}
+use Rattle.picture.specs.Picture.{allCell, columnCell}
+use Rattle.column.proofs.Columns.{column-words}
 use Rattle.picture.proofs.Drawn.{a-column, all-as, blank, by-fits, no-column, no-sheet}
 use Rattle.picture.proofs.all_at.Statement.{statement}
 use Rattle.picture.proofs.all_at.Tie as tie

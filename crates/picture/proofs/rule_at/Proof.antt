@@ -20,8 +20,9 @@ use Rattle.sheet.proofs.ByValue.{empty-room}
 use Rattle.checker.proofs.Held.{lie-so, own-rules, width-so}
 use Rattle.shade.specs.declared.Cell.{Cell}
 use Rattle.shade.specs.Cell.{cellOf}
-use Rattle.picture.specs.Picture.{columnCell, ruleCell, wordsOf}
-use Rattle.picture.proofs.Columns.{column-words}
+use Rattle.column.specs.Column.{wordsOf}
+use Rattle.picture.specs.Picture.{columnCell, ruleCell}
+use Rattle.column.proofs.Columns.{column-words}
 use Rattle.picture.proofs.Drawn.{a-column, blank, no-column, no-sheet, rule-as}
 use Rattle.picture.proofs.rule_at.Statement.{statement}
 use Rattle.picture.proofs.rule_at.Tie as tie

@@ -9,7 +9,8 @@ use borrow.Author.Tests.{ne-eqb}
 use lib.Dec.{eqb}
 use Rattle.phrase.proofs.Putting.{put-as, put-length, put-then}
 use Rattle.forms.proofs.Sizes.{few-text}
-use Rattle.wording.proofs.Sizes.{few-at-least, few-at-most, few-before, few-rule}
+use Rattle.signs.proofs.Sizes.{few-at-least, few-at-most, few-before}
+use Rattle.wording.proofs.Sizes.{few-rule}
 use Rattle.wording.proofs.Texts.{at-least, at-most, by-form}
 use Rattle.wording.proofs.put_rule.Statement.{statement}
 use Rattle.wording.proofs.put_rule.Tie as tie
