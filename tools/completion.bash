@@ -23,7 +23,7 @@ _branchmetal_many() {
 
 _branchmetal_vet() {
     case $COMP_CWORD in
-    1) _branchmetal_offer 'smt frames --help --version' ;;
+    1) _branchmetal_offer '--json smt frames check --help --version' ;;
     *) _branchmetal_offer '' ;;
     esac
 }

@@ -12,13 +12,16 @@ def number(x):
 
 
 class Page:
-    """The page: rules and marks in the order written, and the stretches that wait."""
+    """The page: rules with their names and marks in the order written, and the stretches that wait."""
 
     def __init__(self, width):
         self.width, self.entries, self.pile = width, [], []
 
     def rules(self):
-        return [e for e in self.entries if e != "mark"]
+        return [e[0] for e in self.entries if e != "mark"]
+
+    def names(self):
+        return [e[1] for e in self.entries if e != "mark"]
 
     # A free word needs no search.
     def fitting(self):
@@ -33,7 +36,7 @@ class Page:
 
 
 def said_of(page, i):
-    return f"rule {i}: {written.text(page.width, page.rules()[i])}"
+    return f"rule {page.names()[i] or i}: {written.text(page.width, page.rules()[i])}"
 
 
 def asked(page):
@@ -53,8 +56,12 @@ def shown(page):
     yield f"word {w}"
     i = 0
     for entry in page.entries:
-        yield "mark" if entry == "mark" else f"{written.text(w, entry)}  # rule {i}"
-        i += entry != "mark"
+        if entry == "mark":
+            yield entry
+            continue
+        rule, name = entry
+        yield f"{name + ': ' if name else ''}{written.text(w, rule)}  # rule {i}"
+        i += 1
     for i, rule in enumerate(page.rules()):
         yield f"# |{''.join(row(w, [rule]))}| rule {i}"
     yield f"# |{''.join(row(w, page.rules()))}| all"
@@ -85,12 +92,12 @@ def answers(page, said):
 def main():
     page = None
     for line in sys.stdin.buffer.read().split(b"\n")[:-1]:
-        said, _ = written.read(line, page.width if page else 64)
+        said, (at, to) = written.read(line, page.width if page else 64)
         what, rest = said[0], said[1:]
         if what == 14:
             return
         if what == 1:
-            page.entries.append(tuple(rest))
+            page.entries.append((tuple(rest), line[at:to].decode()))
         elif what == 5:
             page = Page(rest[0])
         elif what == 6:

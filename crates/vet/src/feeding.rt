@@ -1,14 +1,16 @@
 // The input read part by part, its lines taken one after another.
 ghost use Prim.Native.Nat.{_<_, _≤_};
 ghost use lib.ListN.{length};
-ghost use Rattle.io.specs.Counts.{Counts};
 ghost use Rattle.word.specs.Word.{IsWidth};
-use crate::answers;
 use crate::manner;
 use crate::manner::Manner;
-use crate::mistakes;
 use dialogue::Dialogue;
 use libc::STDIN_FILENO;
+use naming::MOST;
+use printing::Told;
+use printing::WORDS;
+use printing::within;
+use rule::Rule;
 use sheet::Sheet;
 use word::Width;
 
@@ -26,9 +28,6 @@ pub struct Run {
 
 impl Run {
     pub const MOST: usize = line::LIMIT + 1;
-
-    // How many words are listed at most.
-    pub const WORDS: usize = 512;
 
     // A read that failed, and a mistake.
     pub const FAILED: u8 = 1;
@@ -72,7 +71,7 @@ pub fn left(turns: u64, more: bool) -> u64
 }
 
 // One read, and the lines that it completes. At the end of the input the last line may lack its byte 10.
-pub fn turn(run: Run) -> Run {
+pub fn turn(run: Run, names: &mut [[u8; MOST]; Rule::LIMIT]) -> Run {
     let mut input = io::large_buffer();
     let got = libc::read(STDIN_FILENO, &mut input);
     let error = os::errno();
@@ -81,9 +80,9 @@ pub fn turn(run: Run) -> Run {
         return unread(run, error);
     }
     if n == 0 {
-        return last_line(run);
+        return last_line(run, &mut *names);
     }
-    over_part(run, &input[..n])
+    over_part(run, &mut *names, &input[..n])
 }
 
 // A read was interrupted, and is tried again, or failed.
@@ -98,10 +97,13 @@ fn unread(run: Run, error: i32) -> Run {
     run
 }
 
-// At the end of the input the rules in force are written, where they are wanted and no mistake came.
-pub fn finish(run: Run) -> Run {
+// At the end of the input a chain is checked, or the rules in force are written, where they are wanted and no mistake came.
+pub fn finish(run: Run, names: &[[u8; MOST]; Rule::LIMIT]) -> Run {
     let manner = run.manner;
     let dialogue = run.dialogue;
+    if let Manner::Check = manner {
+        return check(run, names);
+    }
     if run.status != 0 {
         return run;
     }
@@ -109,25 +111,44 @@ pub fn finish(run: Run) -> Run {
     written(run, os::errno())
 }
 
+// What is found of a chain is the status. What failed is neither yes nor no.
+fn check(run: Run, names: &[[u8; MOST]; Rule::LIMIT]) -> Run {
+    let mut run = run;
+    let dialogue = run.dialogue;
+    if run.status != 0 {
+        run.status = Run::MISTAKE;
+        return run;
+    }
+    run.status = checking::check(dialogue.sheet, names);
+    if run.status == Run::MISTAKE {
+        return run;
+    }
+    if failed_write(os::errno()) {
+        os::fail(b"vet: standard output");
+        run.status = Run::MISTAKE;
+    }
+    run
+}
+
 // The last line, where one was begun.
-fn last_line(run: Run) -> Run {
+fn last_line(run: Run, names: &mut [[u8; MOST]; Rule::LIMIT]) -> Run {
     let mut after = run;
     if 0 < run.len {
-        after = end_line(run);
+        after = end_line(run, &mut *names);
     }
     after.more = false;
     after
 }
 
 // The lines of a part.
-fn over_part(run: Run, part: &[u8]) -> Run {
+fn over_part(run: Run, names: &mut [[u8; MOST]; Rule::LIMIT], part: &[u8]) -> Run {
     let mut run = run;
     let mut from: usize = 0;
     while from < part.len() {
         let to = line_end(part, from);
         run = hold(run, &part[from..to]);
         if to < part.len() {
-            run = end_line(run);
+            run = end_line(run, &mut *names);
         }
         from = to + 1;
     }
@@ -168,7 +189,7 @@ fn hold(run: Run, part: &[u8]) -> Run {
 }
 
 // The line that is held is whole. After a mistake none is taken.
-fn end_line(run: Run) -> Run {
+fn end_line(run: Run, names: &mut [[u8; MOST]; Rule::LIMIT]) -> Run {
     let mut run = run;
     let bytes = run.bytes;
     let len = run.len;
@@ -178,7 +199,7 @@ fn end_line(run: Run) -> Run {
         return run;
     }
     let n = within(len, &bytes);
-    let after = take_line(run, &bytes[..n]);
+    let after = take_line(run, &mut *names, &bytes[..n]);
     written(after, os::errno())
 }
 
@@ -214,28 +235,49 @@ fn failed_write(error: i32) -> bool {
     error != libc::EINTR
 }
 
-// Takes a line, without its byte 10, and answers it.
-fn take_line(run: Run, text: &[u8]) -> Run {
+// Takes a line, without its byte 10, and answers it. The name of an accepted rule is kept at the number that the rule gets.
+fn take_line(run: Run, names: &mut [[u8; MOST]; Rule::LIMIT], text: &[u8]) -> Run {
     let mut run = run;
     let manner = run.manner;
     let dialogue = run.dialogue;
-    let sheet = dialogue.sheet;
-    let read = line::read(text, width_of(sheet));
+    let before = dialogue.sheet;
+    let read = line::read(text, width_of(before));
     let statement = read.statement;
     let mut numbers = [0u64; Sheet::LENT];
-    let mut words = [0u64; Run::WORDS];
+    let mut words = [0u64; WORDS];
     let taken = dialogue.take(statement, &mut numbers, &mut words);
     let after = taken.dialogue;
     let response = taken.response;
+    let sheet = after.sheet;
     run.dialogue = after;
-    if manner::answers(manner) {
-        answers::tell(after.sheet, statement, response, &numbers, &words);
+    if !after.stopped {
+        let name = read.name;
+        let to = within(name.to, text);
+        let from = up_to(name.from, to);
+        naming::keep(&mut *names, statement, before.count, &text[from..to]);
     }
-    if mistakes::say(run.line, text, statement, response, after.sheet) {
+    let told = Told {
+        line: run.line,
+        statement,
+        response,
+        sheet,
+    };
+    manner::answer(manner, told, &*names, &numbers, &words);
+    if mistakes::say(told, text) {
         run.status = Run::MISTAKE;
         run.more = false;
     }
     run
+}
+
+// A place, or one that it must not pass.
+fn up_to(place: usize, end: usize) -> usize
+    ensures { λ r. ⌜ r ≤ end ⌝ }
+{
+    if end < place {
+        return end;
+    }
+    place
 }
 
 // The width of a word: the widest where no sheet is open.
@@ -249,14 +291,4 @@ fn width_of(sheet: Sheet) -> Width
         return Width { bits: 64 };
     }
     Width { bits: sheet.width }
-}
-
-// So many bytes of a buffer, or none where it has fewer.
-pub fn within(n: usize, buffer: &[u8]) -> usize
-    ensures { λ r. ⌜ Counts r (now (buffer .entry)) ⌝ }
-{
-    if buffer.len() < n {
-        return 0;
-    }
-    n
 }

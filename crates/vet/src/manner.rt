@@ -1,10 +1,17 @@
-// What the program writes, by its argument: answers; or, at the end of the input, the rules in force for another tool, and no answers.
+// What the program writes, by its argument: answers in words, or as objects of JSON; or, at the end of the input, the rules in force for another
+// tool, and no answers; or what is found of a chain.
+use naming::MOST;
+use printing::Told;
+use printing::WORDS;
+use rule::Rule;
 use sheet::Sheet;
 
 pub enum Manner {
-    Answers,
+    Words,
+    Objects,
     Smt,
     Frames,
+    Check,
 }
 
 // As many letters as the longest argument has: a longer one is none of them.
@@ -13,13 +20,19 @@ const LETTERS: usize = 6;
 pub fn wanted() -> Manner {
     let mut text = [0u8; LETTERS];
     let n = os::arg(1, &mut text);
+    if same(&text[..n], b"json") {
+        return Manner::Objects;
+    }
     if same(&text[..n], b"smt") {
         return Manner::Smt;
     }
     if same(&text[..n], b"frames") {
         return Manner::Frames;
     }
-    Manner::Answers
+    if same(&text[..n], b"check") {
+        return Manner::Check;
+    }
+    Manner::Words
 }
 
 // Whether two texts are the same.
@@ -37,12 +50,19 @@ fn same(text: &[u8], name: &[u8]) -> bool {
     text.len() == name.len()
 }
 
-// Whether lines are answered.
-pub fn answers(manner: Manner) -> bool {
-    let Manner::Answers = manner else {
-        return false;
-    };
-    true
+// Answers a line, where lines are answered.
+pub fn answer(
+    manner: Manner,
+    told: Told,
+    names: &[[u8; MOST]; Rule::LIMIT],
+    numbers: &[u64; Sheet::LENT],
+    words: &[u64; WORDS],
+) {
+    match manner {
+        Manner::Words => telling::tell(told, names, numbers, words),
+        Manner::Objects => objects::tell(told, names, numbers, words),
+        _ => {}
+    }
 }
 
 // Writes the rules in force, where they are wanted and a sheet is open.
@@ -51,8 +71,8 @@ pub fn write_out(manner: Manner, sheet: Sheet) {
         return;
     }
     match manner {
-        Manner::Answers => {}
         Manner::Smt => outward::smt(sheet),
         Manner::Frames => outward::frames(sheet),
+        _ => {}
     }
 }

@@ -5,10 +5,10 @@ use Rattle.vet.proofs.main.Statement.{statement}
 use Rattle.vet.proofs.main.Tie as tie
 
 abbrev Inv-loop : tie.InvT-loop
-Inv-loop run₀ turns₀ run turns = 0 ≤ turns
+Inv-loop run₀ names₀ turns₀ run names turns = 0 ≤ turns
 
 abbrev μ-loop : tie.MeasureT-loop
-μ-loop run₀ turns₀ run turns = turns
+μ-loop run₀ names₀ turns₀ run names turns = turns
 
 wanted-requires : tie.Need-wanted-requires Inv-loop μ-loop
 wanted-requires c κs = search needs

@@ -6,10 +6,10 @@ use Rattle.vet.proofs.feeding.over_part.Statement.{statement}
 use Rattle.vet.proofs.feeding.over_part.Tie as tie
 
 abbrev Inv-loop : tie.InvT-loop
-Inv-loop part run₀ from₀ run from = 0 ≤ from
+Inv-loop names₀ part run₀ from₀ names run from = 0 ≤ from
 
 abbrev μ-loop : tie.MeasureT-loop
-μ-loop part run₀ from₀ run from = length part - from
+μ-loop names₀ part run₀ from₀ names run from = length part - from
 
 loop-holds : tie.Need-loop-holds Inv-loop μ-loop
 loop-holds c = search needs

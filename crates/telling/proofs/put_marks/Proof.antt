@@ -1,26 +1,23 @@
--- `tell_words` is safe and ends: the measure is the words left. Assumes nothing.
+-- `put_marks` is safe and ends: the measure is the marks left. Assumes nothing.
 use Prim.Native.Nat.{_-_, _≤_}
 use borrow.Author.Needs.{needs}
-use Rattle.vet.proofs.answers.tell_words.Statement.{statement}
-use Rattle.vet.proofs.answers.tell_words.Tie as tie
+use Rattle.telling.proofs.put_marks.Statement.{statement}
+use Rattle.telling.proofs.put_marks.Tie as tie
 
 abbrev Inv-loop : tie.InvT-loop
-Inv-loop written words i₀ t4 i = i ≤ 512
+Inv-loop sheet number marks i₀ t5 i = i ≤ 32
 
 abbrev μ-loop : tie.MeasureT-loop
-μ-loop written words i₀ t4 i = 512 - i
+μ-loop sheet number marks i₀ t5 i = 32 - i
 
 loop-holds : tie.Need-loop-holds Inv-loop μ-loop
 loop-holds c = search needs
 
-mul-put-number : tie.Need-mul-put-number Inv-loop μ-loop
-mul-put-number c = search needs
+mul-if2 : tie.Need-mul-if2 Inv-loop μ-loop
+mul-if2 c = search needs
 
-element-copy-out-put-number : tie.Need-element-copy-out-put-number Inv-loop μ-loop
-element-copy-out-put-number c = search needs
-
-put-number-requires : tie.Need-put-number-requires Inv-loop μ-loop
-put-number-requires c κs = search needs
+array-read-if2 : tie.Need-array-read-if2 Inv-loop μ-loop
+array-read-if2 c = search needs
 
 slice-aggregate-put : tie.Need-slice-aggregate-put Inv-loop μ-loop
 slice-aggregate-put c = search needs
@@ -40,16 +37,15 @@ loop-again c = search needs
 returns : tie.Need-returns Inv-loop μ-loop
 returns c = search needs
 
-pub tell-words-spec : {M : Type 1} → statement M
-tell-words-spec =
+pub put-marks-spec : {M : Type 1} → statement M
+put-marks-spec =
     tie.close
     (tie.spec
     Inv-loop
     μ-loop
     loop-holds
-    mul-put-number
-    element-copy-out-put-number
-    put-number-requires
+    mul-if2
+    array-read-if2
     slice-aggregate-put
     put-requires
     add-i

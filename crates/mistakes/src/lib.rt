@@ -1,30 +1,38 @@
 // Mistakes, on standard error: where, what was expected or why a call was refused, the line, and a mark under the place.
-use crate::feeding::within;
 use dialogue::Response;
 use libc::STDERR_FILENO;
 use line::Statement;
+use printing::Told;
+use printing::within;
 use scan::Mistake;
-use sheet::Sheet;
 
 // Says a mistake or a refusal, and whether there was one.
-pub fn say(line: u64, text: &[u8], statement: Statement, response: Response, sheet: Sheet) -> bool {
+pub fn say(told: Told, text: &[u8]) -> bool {
+    let sheet = told.sheet;
+    let statement = told.statement;
+    let response = told.response;
     match response {
         Response::Mistaken(mistake) => {
-            say_mistake(line, text, mistake);
+            say_mistake(told.line, text, mistake);
             true
         }
         Response::Refused(number) => {
-            put(b"-:");
-            io::print_decimal(STDERR_FILENO, line);
-            put(b": error: ");
-            say_refused(row_of(number, statement, sheet.width), sheet.width);
-            put(b" (");
-            io::print_decimal(STDERR_FILENO, number);
-            put(b")\n");
+            say_number(told.line, number, statement, sheet.width);
             true
         }
         _ => false,
     }
+}
+
+// `-:3: error: a constant is above the top word of 4 bits (5)`.
+fn say_number(line: u64, number: u64, statement: Statement, width: u64) {
+    put(b"-:");
+    io::print_decimal(STDERR_FILENO, line);
+    put(b": error: ");
+    say_refused(row_of(number, statement, width), width);
+    put(b" (");
+    io::print_decimal(STDERR_FILENO, number);
+    put(b")\n");
 }
 
 // `-:3:12: error: expected <=`, the line, and a mark under the place.

@@ -1,29 +1,29 @@
 -- `put_marks` is safe and ends: the measure is the marks left. Assumes nothing.
 use Prim.Native.Nat.{_-_, _≤_}
 use borrow.Author.Needs.{needs}
-use Rattle.vet.proofs.answers.put_marks.Statement.{statement}
-use Rattle.vet.proofs.answers.put_marks.Tie as tie
+use Rattle.objects.proofs.put_marks.Statement.{statement}
+use Rattle.objects.proofs.put_marks.Tie as tie
 
 abbrev Inv-loop : tie.InvT-loop
-Inv-loop sheet number marks i₀ t5 i = i ≤ 32
+Inv-loop sheet marks i₀ i = i ≤ 32
 
 abbrev μ-loop : tie.MeasureT-loop
-μ-loop sheet number marks i₀ t5 i = 32 - i
+μ-loop sheet marks i₀ i = 32 - i
 
 loop-holds : tie.Need-loop-holds Inv-loop μ-loop
 loop-holds c = search needs
 
-mul-if2 : tie.Need-mul-if2 Inv-loop μ-loop
-mul-if2 c = search needs
+put-comma-requires : tie.Need-put-comma-requires Inv-loop μ-loop
+put-comma-requires c κs = search needs
 
-array-read-if2 : tie.Need-array-read-if2 Inv-loop μ-loop
-array-read-if2 c = search needs
+mul-put-number : tie.Need-mul-put-number Inv-loop μ-loop
+mul-put-number c = search needs
 
-slice-aggregate-put : tie.Need-slice-aggregate-put Inv-loop μ-loop
-slice-aggregate-put c = search needs
+array-read-put-number : tie.Need-array-read-put-number Inv-loop μ-loop
+array-read-put-number c = search needs
 
-put-requires : tie.Need-put-requires Inv-loop μ-loop
-put-requires c κs = search needs
+put-number-requires : tie.Need-put-number-requires Inv-loop μ-loop
+put-number-requires c κs = search needs
 
 add-i : tie.Need-add-i Inv-loop μ-loop
 add-i c = search needs
@@ -44,10 +44,10 @@ put-marks-spec =
     Inv-loop
     μ-loop
     loop-holds
-    mul-if2
-    array-read-if2
-    slice-aggregate-put
-    put-requires
+    put-comma-requires
+    mul-put-number
+    array-read-put-number
+    put-number-requires
     add-i
     loop-less
     loop-again

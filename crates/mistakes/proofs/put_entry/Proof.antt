@@ -2,8 +2,8 @@
 use Prim.Native.Nat.{_-_, _≤_}
 use borrow.Author.Needs.{needs}
 use lib.ListN.{length}
-use Rattle.vet.proofs.mistakes.put_entry.Statement.{statement}
-use Rattle.vet.proofs.mistakes.put_entry.Tie as tie
+use Rattle.mistakes.proofs.put_entry.Statement.{statement}
+use Rattle.mistakes.proofs.put_entry.Tie as tie
 
 abbrev Inv-loop : tie.InvT-loop
 Inv-loop table number line₀ i₀ line i = i ≤ length table

@@ -1,14 +1,14 @@
 -- `tell_sheet` is safe and ends: the measure is the rules left. Assumes nothing.
 use Prim.Native.Nat.{_-_, _≤_}
 use borrow.Author.Needs.{needs}
-use Rattle.vet.proofs.answers.tell_sheet.Statement.{statement}
-use Rattle.vet.proofs.answers.tell_sheet.Tie as tie
+use Rattle.telling.proofs.tell_sheet.Statement.{statement}
+use Rattle.telling.proofs.tell_sheet.Tie as tie
 
 abbrev Inv-loop : tie.InvT-loop
-Inv-loop sheet i₀ t5 t6 i = i ≤ 200
+Inv-loop sheet names i₀ i = i ≤ 200
 
 abbrev μ-loop : tie.MeasureT-loop
-μ-loop sheet i₀ t5 t6 i = 200 - i
+μ-loop sheet names i₀ i = 200 - i
 
 slice-aggregate-put : tie.Need-slice-aggregate-put Inv-loop μ-loop
 slice-aggregate-put c = search needs
@@ -16,8 +16,8 @@ slice-aggregate-put c = search needs
 put-requires : tie.Need-put-requires Inv-loop μ-loop
 put-requires c κs = search needs
 
-print-decimal-requires : tie.Need-print-decimal-requires Inv-loop μ-loop
-print-decimal-requires c κs = search needs
+put-number-requires : tie.Need-put-number-requires Inv-loop μ-loop
+put-number-requires c κs = search needs
 
 slice-aggregate-put-2 : tie.Need-slice-aggregate-put-2 Inv-loop μ-loop
 slice-aggregate-put-2 c = search needs
@@ -31,23 +31,8 @@ loop-holds c = search needs
 put-marks-requires : tie.Need-put-marks-requires Inv-loop μ-loop
 put-marks-requires c κs = search needs
 
-put-text-requires : tie.Need-put-text-requires Inv-loop μ-loop
-put-text-requires c κs = search needs
-
-slice-aggregate-put-3 : tie.Need-slice-aggregate-put-3 Inv-loop μ-loop
-slice-aggregate-put-3 c = search needs
-
-put-requires-3 : tie.Need-put-requires-3 Inv-loop μ-loop
-put-requires-3 c κs = search needs
-
-print-decimal-requires-2 : tie.Need-print-decimal-requires-2 Inv-loop μ-loop
-print-decimal-requires-2 c κs = search needs
-
-slice-aggregate-put-4 : tie.Need-slice-aggregate-put-4 Inv-loop μ-loop
-slice-aggregate-put-4 c = search needs
-
-put-requires-4 : tie.Need-put-requires-4 Inv-loop μ-loop
-put-requires-4 c κs = search needs
+show-rule-requires : tie.Need-show-rule-requires Inv-loop μ-loop
+show-rule-requires c κs = search needs
 
 add-i : tie.Need-add-i Inv-loop μ-loop
 add-i c = search needs
@@ -72,17 +57,12 @@ tell-sheet-spec =
     μ-loop
     slice-aggregate-put
     put-requires
-    print-decimal-requires
+    put-number-requires
     slice-aggregate-put-2
     put-requires-2
     loop-holds
     put-marks-requires
-    put-text-requires
-    slice-aggregate-put-3
-    put-requires-3
-    print-decimal-requires-2
-    slice-aggregate-put-4
-    put-requires-4
+    show-rule-requires
     add-i
     loop-less
     loop-again

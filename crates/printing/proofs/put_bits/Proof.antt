@@ -1,8 +1,8 @@
 -- `put_bits` is safe and ends: the measure is the bits left. Assumes nothing.
 use Prim.Native.Nat.{_≤_}
 use borrow.Author.Needs.{needs}
-use Rattle.vet.proofs.answers.put_bits.Statement.{statement}
-use Rattle.vet.proofs.answers.put_bits.Tie as tie
+use Rattle.printing.proofs.put_bits.Statement.{statement}
+use Rattle.printing.proofs.put_bits.Tie as tie
 
 abbrev Inv-loop : tie.InvT-loop
 Inv-loop x width left₀ left = left ≤ width

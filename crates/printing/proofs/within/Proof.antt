@@ -2,8 +2,8 @@
 use mathlib.Core.Path.{refl, sym}
 use native.Mathlib.Omega.{arith}
 use lib.Seq.{length-take-le}
-use Rattle.vet.proofs.feeding.within.Statement.{statement}
-use Rattle.vet.proofs.feeding.within.Tie as tie
+use Rattle.printing.proofs.within.Statement.{statement}
+use Rattle.printing.proofs.within.Tie as tie
 
 returns : tie.Need-returns
 returns c = (omega arith, refl)

@@ -1,17 +1,17 @@
--- `tell_why` is safe and ends: the measure is the numbers left. Assumes nothing.
+-- `tell_why` is safe and ends: the measure is the rules left. Assumes nothing.
 use Prim.Native.Nat.{_-_, _≤_}
 use borrow.Author.Needs.{needs}
-use Rattle.vet.proofs.answers.tell_why.Statement.{statement}
-use Rattle.vet.proofs.answers.tell_why.Tie as tie
+use Rattle.telling.proofs.tell_why.Statement.{statement}
+use Rattle.telling.proofs.tell_why.Tie as tie
 
 abbrev Inv-loop : tie.InvT-loop
-Inv-loop sheet x failed numbers i₀ t7 i = i ≤ 2403
+Inv-loop sheet x failed names numbers i₀ t8 i = i ≤ 200
 
 abbrev μ-loop : tie.MeasureT-loop
-μ-loop sheet x failed numbers i₀ t7 i = 2403 - i
+μ-loop sheet x failed names numbers i₀ t8 i = 200 - i
 
-print-decimal-requires : tie.Need-print-decimal-requires Inv-loop μ-loop
-print-decimal-requires c κs = search needs
+put-number-requires : tie.Need-put-number-requires Inv-loop μ-loop
+put-number-requires c κs = search needs
 
 slice-aggregate-put : tie.Need-slice-aggregate-put Inv-loop μ-loop
 slice-aggregate-put c = search needs
@@ -19,14 +19,11 @@ slice-aggregate-put c = search needs
 put-requires : tie.Need-put-requires Inv-loop μ-loop
 put-requires c κs = search needs
 
-returns : tie.Need-returns Inv-loop μ-loop
-returns c = search needs
-
 loop-holds : tie.Need-loop-holds Inv-loop μ-loop
 loop-holds c = search needs
 
-print-decimal-requires-2 : tie.Need-print-decimal-requires-2 Inv-loop μ-loop
-print-decimal-requires-2 c κs = search needs
+put-number-requires-2 : tie.Need-put-number-requires-2 Inv-loop μ-loop
+put-number-requires-2 c κs = search needs
 
 slice-aggregate-put-2 : tie.Need-slice-aggregate-put-2 Inv-loop μ-loop
 slice-aggregate-put-2 c = search needs
@@ -52,8 +49,8 @@ loop-less c = search needs
 loop-again : tie.Need-loop-again Inv-loop μ-loop
 loop-again c = search needs
 
-returns-2 : tie.Need-returns-2 Inv-loop μ-loop
-returns-2 c = search needs
+returns : tie.Need-returns Inv-loop μ-loop
+returns c = search needs
 
 pub tell-why-spec : {M : Type 1} → statement M
 tell-why-spec =
@@ -61,12 +58,11 @@ tell-why-spec =
     (tie.spec
     Inv-loop
     μ-loop
-    print-decimal-requires
+    put-number-requires
     slice-aggregate-put
     put-requires
-    returns
     loop-holds
-    print-decimal-requires-2
+    put-number-requires-2
     slice-aggregate-put-2
     put-requires-2
     mul-tell-rule
@@ -75,4 +71,4 @@ tell-why-spec =
     add-i
     loop-less
     loop-again
-    returns-2)
+    returns)

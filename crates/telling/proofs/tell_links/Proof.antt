@@ -1,29 +1,29 @@
 -- `tell_links` is safe and ends: the measure is the links left. Assumes nothing.
 use Prim.Native.Nat.{_-_, _≤_}
 use borrow.Author.Needs.{needs}
-use Rattle.vet.proofs.answers.tell_links.Statement.{statement}
-use Rattle.vet.proofs.answers.tell_links.Tie as tie
+use Rattle.telling.proofs.tell_links.Statement.{statement}
+use Rattle.telling.proofs.tell_links.Tie as tie
 
 abbrev Inv-loop : tie.InvT-loop
-Inv-loop sheet links numbers i₀ t5 i = i ≤ 801
+Inv-loop sheet links names numbers i₀ t6 i = i ≤ 801
 
 abbrev μ-loop : tie.MeasureT-loop
-μ-loop sheet links numbers i₀ t5 i = 801 - i
+μ-loop sheet links names numbers i₀ t6 i = 801 - i
 
 loop-holds : tie.Need-loop-holds Inv-loop μ-loop
 loop-holds c = search needs
 
-mul-print-decimal : tie.Need-mul-print-decimal Inv-loop μ-loop
-mul-print-decimal c = search needs
+mul-put-number : tie.Need-mul-put-number Inv-loop μ-loop
+mul-put-number c = search needs
 
-mul-print-decimal-2 : tie.Need-mul-print-decimal-2 Inv-loop μ-loop
-mul-print-decimal-2 c = search needs
+mul-put-number-2 : tie.Need-mul-put-number-2 Inv-loop μ-loop
+mul-put-number-2 c = search needs
 
-element-copy-out-print-decimal : tie.Need-element-copy-out-print-decimal Inv-loop μ-loop
-element-copy-out-print-decimal c = search needs
+element-copy-out-put-number : tie.Need-element-copy-out-put-number Inv-loop μ-loop
+element-copy-out-put-number c = search needs
 
-print-decimal-requires : tie.Need-print-decimal-requires Inv-loop μ-loop
-print-decimal-requires c κs = search needs
+put-number-requires : tie.Need-put-number-requires Inv-loop μ-loop
+put-number-requires c κs = search needs
 
 slice-aggregate-put : tie.Need-slice-aggregate-put Inv-loop μ-loop
 slice-aggregate-put c = search needs
@@ -31,20 +31,20 @@ slice-aggregate-put c = search needs
 put-requires : tie.Need-put-requires Inv-loop μ-loop
 put-requires c κs = search needs
 
-mul-print-decimal-3 : tie.Need-mul-print-decimal-3 Inv-loop μ-loop
-mul-print-decimal-3 c = search needs
+mul-put-number-3 : tie.Need-mul-put-number-3 Inv-loop μ-loop
+mul-put-number-3 c = search needs
 
-add-print-decimal : tie.Need-add-print-decimal Inv-loop μ-loop
-add-print-decimal c = search needs
+add-put-number : tie.Need-add-put-number Inv-loop μ-loop
+add-put-number c = search needs
 
-mul-print-decimal-4 : tie.Need-mul-print-decimal-4 Inv-loop μ-loop
-mul-print-decimal-4 c = search needs
+mul-put-number-4 : tie.Need-mul-put-number-4 Inv-loop μ-loop
+mul-put-number-4 c = search needs
 
-element-copy-out-print-decimal-2 : tie.Need-element-copy-out-print-decimal-2 Inv-loop μ-loop
-element-copy-out-print-decimal-2 c = search needs
+element-copy-out-put-number-2 : tie.Need-element-copy-out-put-number-2 Inv-loop μ-loop
+element-copy-out-put-number-2 c = search needs
 
-print-decimal-requires-2 : tie.Need-print-decimal-requires-2 Inv-loop μ-loop
-print-decimal-requires-2 c κs = search needs
+put-number-requires-2 : tie.Need-put-number-requires-2 Inv-loop μ-loop
+put-number-requires-2 c κs = search needs
 
 mul-tell-reason : tie.Need-mul-tell-reason Inv-loop μ-loop
 mul-tell-reason c = search needs
@@ -80,17 +80,17 @@ tell-links-spec =
     Inv-loop
     μ-loop
     loop-holds
-    mul-print-decimal
-    mul-print-decimal-2
-    element-copy-out-print-decimal
-    print-decimal-requires
+    mul-put-number
+    mul-put-number-2
+    element-copy-out-put-number
+    put-number-requires
     slice-aggregate-put
     put-requires
-    mul-print-decimal-3
-    add-print-decimal
-    mul-print-decimal-4
-    element-copy-out-print-decimal-2
-    print-decimal-requires-2
+    mul-put-number-3
+    add-put-number
+    mul-put-number-4
+    element-copy-out-put-number-2
+    put-number-requires-2
     mul-tell-reason
     add-tell-reason
     mul-tell-reason-2
