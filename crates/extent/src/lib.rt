@@ -13,12 +13,8 @@ use steps::Step;
 use steps::highest_bit;
 use word::Width;
 
-// An operation of two words, over the intervals that they are of.
-struct Over {
-    pair: Pair,
-    x: Interval,
-    y: Interval,
-}
+// An operation of two words, and the intervals that they are of.
+struct Over(Pair, Interval, Interval);
 
 // The smallest result of two words of the intervals.
 fn smallest(width: Width, pair: Pair, x: Interval, y: Interval) -> u64
@@ -56,42 +52,18 @@ pub fn span(width: Width, op: Op, x: Interval, y: Interval) -> Interval
         Op::Not => x.turned(top),
         Op::And => ends(
             width,
-            Over {
-                pair: Pair::And,
-                x,
-                y,
-            },
-            Over {
-                pair: Pair::Or,
-                x: x.turned(top),
-                y: y.turned(top),
-            },
+            Over(Pair::And, x, y),
+            Over(Pair::Or, x.turned(top), y.turned(top)),
         ),
         Op::Or => ends(
             width,
-            Over {
-                pair: Pair::Or,
-                x,
-                y,
-            },
-            Over {
-                pair: Pair::And,
-                x: x.turned(top),
-                y: y.turned(top),
-            },
+            Over(Pair::Or, x, y),
+            Over(Pair::And, x.turned(top), y.turned(top)),
         ),
         Op::Xor => ends(
             width,
-            Over {
-                pair: Pair::Xor,
-                x,
-                y,
-            },
-            Over {
-                pair: Pair::Xor,
-                x: x.turned(top),
-                y,
-            },
+            Over(Pair::Xor, x, y),
+            Over(Pair::Xor, x.turned(top), y),
         ),
     }
 }
@@ -99,14 +71,14 @@ pub fn span(width: Width, op: Op, x: Interval, y: Interval) -> Interval
 // From the smallest result of the one to the smallest of the other, turned back.
 fn ends(width: Width, least: Over, other: Over) -> Interval
     requires { ⌜ IsWidth (width .bits) ⌝ }
-    requires { ⌜ Words (width .bits) (least .x) × Words (width .bits) (least .y) ⌝ }
-    requires { ⌜ Words (width .bits) (other .x) × Words (width .bits) (other .y) ⌝ }
-    ensures { λ r. ⌜ r ≡ ends (width .bits) (both (least .pair)) (least .x) (least .y) (both (other .pair)) (other .x) (other .y) ⌝ }
+    requires { ⌜ Words (width .bits) (least .1) × Words (width .bits) (least .2) ⌝ }
+    requires { ⌜ Words (width .bits) (other .1) × Words (width .bits) (other .2) ⌝ }
+    ensures { λ r. ⌜ r ≡ ends (width .bits) (both (least .0)) (least .1) (least .2) (both (other .0)) (other .1) (other .2) ⌝ }
 {
-    let pair = least.pair;
-    let turned = other.pair;
+    let pair = least.0;
+    let turned = other.0;
     Interval {
-        low: smallest(width, pair, least.x, least.y),
-        high: width.top() - smallest(width, turned, other.x, other.y),
+        low: smallest(width, pair, least.1, least.2),
+        high: width.top() - smallest(width, turned, other.1, other.2),
     }
 }

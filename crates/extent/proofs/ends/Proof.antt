@@ -22,7 +22,7 @@ smallest-requires-2 c κs = search needs
 sub-t9 : tie.Need-sub-t9
 sub-t9 c =
     let s = c .before .before .before .args in
-    omega (arith, smallest-word (both (s .other .pair)) (s .other .x) (s .other .y) (s .width .bits))
+    omega (arith, smallest-word (both (s .other .0)) (s .other .1) (s .other .2) (s .width .bits))
 
 returns : tie.Need-returns
 unfolding ends
