@@ -1,1 +1,2 @@
 pub mod Citation
+pub mod Examples
