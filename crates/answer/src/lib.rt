@@ -13,6 +13,7 @@ ghost use Rattle.answer.specs.Told.{ComesTo, numberTold};
 
 mod telling;
 
+use bits::Fixed;
 use frame::Frame;
 use rows::NUMBERS;
 use rule::Rule;
@@ -59,13 +60,26 @@ pub fn answer(
     ensures { λ r. ⌜ (length (now (chain .exit)) ≡ chainRoom RULES) × ChainLeft (packed head (now (rows .entry)) (now (marks .entry))) (now (chain .entry)) (callOf frame) (now (chain .exit)) ⌝ }
 {
     let called = call(head, &mut *rows, &mut *marks, &mut *chain, frame);
-    let head = called.head;
+    let after = called.head;
     let told = called.told;
-    let opening = head.opening;
+    let opening = after.opening;
     let edition = opening.edition;
+    let end = telling::put(&mut *out, at, edition, told, &*chain);
+    let fixed = after.fixed;
     AfterFrame {
-        head,
-        end: telling::put(&mut *out, at, edition, told, &*chain),
+        head: after.found(after.stands, same(fixed)),
+        end,
+    }
+}
+
+// The same bits, put together anew: the bytes between a case's number and what it holds are else copied from call to call with the head,
+// piece by piece, which takes longer than a short line.
+fn same(fixed: Fixed) -> Fixed
+    ensures { λ r. ⌜ r ≡ fixed ⌝ }
+{
+    match fixed {
+        Fixed::Bits { mask, value } => Fixed::Bits { mask, value },
+        Fixed::Clash => Fixed::Clash,
     }
 }
 

@@ -1,3 +1,4 @@
+mod Alone
 pub mod Editions
 pub mod Fit
 pub mod OnPage

@@ -2,7 +2,7 @@
 ghost use mathlib.Core.Path.{_≡_};
 ghost use lib.ListN.{length};
 ghost use Prim.Native.Nat.{_+_, _≤_};
-ghost use Rattle.fields.specs.Fields.{DIGITS};
+ghost use Rattle.fields.specs.Fields.{BYTE, DIGITS};
 ghost use Rattle.frame.specs.Frames.{C1, bare, codeEdition, frameOf, numbered, ruleOf};
 use crate::Frame;
 use page::Opening;
@@ -26,14 +26,33 @@ pub fn decode(line: &[u8]) -> Frame
     if n < Frame::BYTE {
         return Frame::NoFrame;
     }
+    if n == Frame::BYTE {
+        return code_alone(line);
+    }
     if !hex::all_digits(line) {
         return Frame::NoFrame;
     }
     let code = hex::number(line, 0, Frame::BYTE);
-    if n == Frame::BYTE {
-        return bare(code);
-    }
     numbered(line, code, edition_of(code))
+}
+
+// The frame of a line that has room for a code alone: most lines, so these are told by their two bytes, without reading a number.
+fn code_alone(line: &[u8]) -> Frame
+    requires { ⌜ length (now line) ≡ BYTE ⌝ }
+    ensures { λ r. ⌜ r ≡ frameOf (now (line .entry)) ⌝ }
+{
+    let last = line[1];
+    if line[0] != b'0' {
+        return Frame::NoFrame;
+    }
+    if last < b'3' {
+        return Frame::NoFrame;
+    }
+    if b'6' < last {
+        return Frame::NoFrame;
+    }
+    let code = last - b'0';
+    bare(code as u64)
 }
 
 // The frames that are a code and nothing more.

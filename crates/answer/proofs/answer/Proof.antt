@@ -11,17 +11,24 @@ call-requires c κs = search needs
 put-requires : tie.Need-put-requires
 put-requires c κs = search needs
 
+same-requires : tie.Need-same-requires
+same-requires c κs = search needs
+
+found-requires : tie.Need-found-requires
+found-requires c κs = search needs
+
 same-length : tie.Need-same-length
 same-length c = search needs
 
 returns : tie.Need-returns
 returns c =
-    let k = c .before .before .before .before .before .before .before .call in (
+    let k = c .before .before .before .before .before .before .before .before .before .call in
+    rw (c .found .ensures, c .before .same .ensures) (
       record {
         answered = record {
           lines = toldLines _ _ _;
           said = k .ensures .said;
-          puts = c .before .before .put .ensures;
+          puts = c .before .before .before .before .put .ensures;
           fits = told-fits _ _ _ (k .ensures .few);
         };
         held = k .ensures .held;
@@ -30,4 +37,4 @@ returns c =
     )
 
 pub answer-spec : {M : Type 1} → statement M
-answer-spec = tie.close (tie.spec call-requires put-requires same-length returns)
+answer-spec = tie.close (tie.spec call-requires put-requires same-requires found-requires same-length returns)
