@@ -77,14 +77,14 @@ def single(counts):
 
 
 def pairs(counts):
-    for w in range(1, 3):
-        count = rule_count(w)
-        for i in range(count * count):
-            sheet(counts, w, [numbered(i % count, w), numbered(i // count, w)], after(i + SPREAD & WORD))
+    w = 1
+    count = rule_count(w)
+    for i in range(count * count):
+        sheet(counts, w, [numbered(i % count, w), numbered(i // count, w)], after(i + SPREAD & WORD))
 
 
 def drawn(counts):
-    for s in seeds(20000):
+    for s in seeds(5000):
         sheet(counts, *drawn_sheet(s), s)
 
 

@@ -6,7 +6,7 @@ from tally import Tally
 
 
 def drawn():
-    for s in seeds(4000):
+    for s in seeds(2000):
         w, rules = drawn_sheet(s)
         yield w, [taken(rule) for rule in rules]
 

@@ -18,7 +18,7 @@ def called(split, seed, page, count):
 
 def long():
     split = Split(2)
-    for i in range(100):
+    for i in range(30):
         called(split, after(i + 1), BLANK, 200)
     return split
 

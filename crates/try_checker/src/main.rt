@@ -1,8 +1,8 @@
-// Tries the check of chains: what asking writes for the sheets that try_chains tries, in both editions, each chain changed in six ways at
+// Tries the check of chains: what asking writes for sheets as try_chains tries them, in both editions, each chain changed in six ways at
 // every place, and lists of drawn numbers, all against a check that goes word by word.
 //
-// The counts, of which each is even, as every list is tried on a sheet of either edition. sheets: single, pair, drawn and paper as in
-// try_chains, those whose rules are accepted, by whether no word fits them.
+// The counts, of which each is even, as every list is tried on a sheet of either edition. sheets: single and paper as in
+// try_chains, pairs at width 1 alone and fewer that are drawn, those whose rules are accepted, by whether no word fits them.
 // written: the chain of each that no word fits, and all get yes. raised, lowered, cut: each number of these chains raised or lowered
 // by one, and the list cut off before it. left out, doubled, moved: each link left out, doubled, and moved to the end. other: each
 // chain on the sheet without its last rule. no sheet: each chain on its sheet with another verdict kept, and all get no. fitting: a
@@ -21,10 +21,11 @@ use trial_links::counts::Counts;
 use trial_sheets::drawn;
 use word::Width;
 // How many sheets are drawn.
-const SHEETS: u64 = 20000;
+const SHEETS: u64 = 5000;
 
 fn main() {
-    let counts = paper(drawn_sheets(pairs(single(Counts::zero()))));
+    let counts = pairs(single(Counts::zero()), Width { bits: 1 });
+    let counts = paper(drawn_sheets(counts));
     counts.print();
     known().joined().print(b"known");
 }
@@ -39,17 +40,8 @@ fn single(before: Counts) -> Counts {
     counts
 }
 
-// Every two rules, at the widths 1 and 2.
-fn pairs(before: Counts) -> Counts {
-    let mut counts = before;
-    for bits in 1..3 {
-        counts = over_seconds(counts, Width { bits });
-    }
-    counts
-}
-
 // Every two rules of a width.
-fn over_seconds(before: Counts, width: Width) -> Counts
+fn pairs(before: Counts, width: Width) -> Counts
     requires { ⌜ Narrow (width .bits) ⌝ }
 {
     let mut counts = before;

@@ -1,7 +1,7 @@
 // Tries the desk's calls in both editions on sheets of the widths 1 to 8, against the walk over all words; and that walk against the one
 // from turn to turn, which serves where the words are too many.
 //
-// The counts: drawn has as many sheets as its loop makes, 4000, of up to 200 rules, and ways 8000, of up to six. known has the right
+// The counts: drawn has as many sheets as its loop makes, 2000, of up to 200 rules, and ways 8000, of up to six. known has the right
 // answer to a sheet, and seven wrong ones.
 use trial_direct::direct;
 use trial_direct::draw;
@@ -21,7 +21,7 @@ use trial_wide::sheets;
 use word::Width;
 
 // How many sheets are drawn to be asked, and to go both ways on.
-const SHEETS: u64 = 4000;
+const SHEETS: u64 = 2000;
 
 const WALKS: u64 = 8000;
 

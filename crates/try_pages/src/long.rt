@@ -18,7 +18,7 @@ use trial_pages::clerk::Call;
 use trial_pages::clerk::Page;
 use word::Edition;
 
-const SEQUENCES: u64 = 100;
+const SEQUENCES: u64 = 30;
 
 const CALLS: u64 = 200;
 

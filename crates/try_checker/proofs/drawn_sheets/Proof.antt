@@ -6,7 +6,7 @@ use Rattle.try_checker.proofs.drawn_sheets.Tie as tie
 
 -- how many sheets are drawn
 abbrev SHEETS : ℕ
-SHEETS = 20000
+SHEETS = 5000
 
 pub drawn-sheets-spec : {M : Type 1} → statement M
 drawn-sheets-spec =

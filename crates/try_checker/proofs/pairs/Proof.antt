@@ -1,11 +1,11 @@
--- `over_seconds` is safe and ends: the measure is the rules left. Assumes nothing.
+-- `pairs` is safe and ends: the measure is the rules left. Assumes nothing.
 use Prim.Native.Nat.{_-_}
 use borrow.Author.Needs.{needs}
-use Rattle.try_checker.proofs.over_seconds.Statement.{statement}
-use Rattle.try_checker.proofs.over_seconds.Tie as tie
+use Rattle.try_checker.proofs.pairs.Statement.{statement}
+use Rattle.try_checker.proofs.pairs.Tie as tie
 
-pub over-seconds-spec : {M : Type 1} → statement M
-over-seconds-spec =
+pub pairs-spec : {M : Type 1} → statement M
+pairs-spec =
     tie.close
     (tie.spec
     (λ width counts₀ count i₀ counts i. Unit)

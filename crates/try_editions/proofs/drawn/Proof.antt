@@ -6,7 +6,7 @@ use Rattle.try_editions.proofs.drawn.Tie as tie
 
 -- how many sheets are drawn to be asked
 abbrev SHEETS : ℕ
-SHEETS = 4000
+SHEETS = 2000
 
 pub drawn-spec : {M : Type 1} → statement M
 drawn-spec =

@@ -9,6 +9,6 @@ all-spec =
     tie.close
     (tie.spec
     (λ calls₀ i₀ calls i. Unit)
-    (λ calls₀ i₀ calls i. 100 - i)
+    (λ calls₀ i₀ calls i. 30 - i)
     (search needs) (search needs) (search needs) (search needs) (search needs) (search needs) (search needs) (search needs)
     (search needs) (search needs))
