@@ -9,11 +9,13 @@ use Rattle.page.specs.Page.{Page, no-page}
 use Rattle.page.specs.Reached.{Reached, start}
 use Rattle.sheet.specs.Record.{blank, fresh}
 use Rattle.line.specs.declared.Statement.{Statement}
+use Rattle.upshot.specs.declared.Response.{Response}
+use Rattle.upshot.specs.declared.Response.the-variants.{Silent}
+use Rattle.upshot.specs.declared.Upshot.{Upshot}
+use Rattle.saying.specs.Says.{Lent}
 use Rattle.dialogue.specs.declared.Dialogue.{Dialogue}
-use Rattle.dialogue.specs.declared.Response.{Response}
-use Rattle.dialogue.specs.declared.Response.the-variants.{Silent}
 use Rattle.dialogue.specs.declared.Taken.{Taken}
-use Rattle.dialogue.specs.Takes.{Lent, Takes}
+use Rattle.dialogue.specs.Takes.{Takes, upshotOf}
 use Rattle.dialogue.specs.Heard.{Heard, all, answerOn, answersTo, ending, next, pageAfter, pageOn}
 use Rattle.dialogue.proofs.OnPage.{Answered, on-a-page, reached-on}
 use Rattle.dialogue.proofs.Said.{takes-says, takes-silent}
@@ -24,8 +26,8 @@ pub nothing-after : {m : ℕ} {d e : Dialogue} {sts : List Statement} {rs : List
 nothing-after all q = (refl, refl)
 nothing-after {d = d} (next {st = st} b b′ r ln lw p rest) q =
     let t = takes-silent d st b b′ r q p .0 in
-    let n = nothing-after rest (ap (λ (x : Taken). x .dialogue .stopped) t) in
-    (ap₂ (λ (a : Response) (rs : List Response). a ∷ rs) (ap Taken.response t) (n .0), n .1 ∙ ap (λ (x : Taken). x .dialogue .sheet) t)
+    let n = nothing-after rest (ap Upshot.stopped t) in
+    (ap₂ (λ (a : Response) (rs : List Response). a ∷ rs) (ap Upshot.response t) (n .0), n .1 ∙ ap Upshot.sheet t)
 
 pub heard-so : {m : ℕ} {d e : Dialogue} {sts : List Statement} {rs : List Response} {pg : Page} → Heard m d sts rs e → d .stopped ≡ false → Reached pg
     → d .sheet ≡ fresh pg → (rs ≡ answersTo m pg sts) × (e .sheet ≡ fresh (pageAfter m pg sts))
@@ -33,8 +35,8 @@ unfolding answersTo pageAfter
 heard-so all q h e = (refl, e)
 heard-so {m} {d} {e = z} {pg = pg} (next {st = st} {sts = sts} {rs = rs} b b′ r ln lw p rest) q h e = go (ending (answerOn m pg st)) refl (λ f w. heard-so rest f (reached-on h st) w)
   where
-    own : Answered m pg st r
-    own = on-a-page m pg h e b b′ r ln lw st (takes-says d st b b′ r q p)
+    own : Answered m pg st (upshotOf r)
+    own = on-a-page m pg h e b b′ (upshotOf r) ln lw st (takes-says d st b b′ r q p)
 
     go : (v : Bool) → ending (answerOn m pg st) ≡ v
         → (r .dialogue .stopped ≡ false → r .dialogue .sheet ≡ fresh (pageOn pg st)

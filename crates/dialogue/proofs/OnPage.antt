@@ -28,33 +28,34 @@ use Rattle.listing.specs.Listed.{listNumber, listOn, listings}
 use Rattle.blaming.specs.Blamed.{failedOn, whyNumber}
 use Rattle.line.specs.declared.Statement.{Statement}
 use Rattle.line.specs.declared.Statement.the-variants as said
-use Rattle.dialogue.specs.declared.Response.{Response}
-use Rattle.dialogue.specs.declared.Response.the-variants.{Asked, Blamed, Counted, Done, Listed, Refused, Shown}
-use Rattle.dialogue.specs.declared.Taken.{Taken}
-use Rattle.dialogue.specs.Takes.{Calls, Gated, Lent, Says, Wanted, atLeast, atMost, byNumber, goes, sets, stops, unread, upTo, within}
+use Rattle.upshot.specs.declared.Response.{Response}
+use Rattle.upshot.specs.declared.Response.the-variants.{Asked, Blamed, Counted, Done, Listed, Refused, Shown}
+use Rattle.upshot.specs.declared.Upshot.{Upshot}
+use Rattle.upshot.specs.Upshot.{byNumber, goes, stops, upshot}
+use Rattle.saying.specs.Says.{Calls, Gated, Lent, Says, Wanted, atLeast, atMost, sets, unread, upTo, within}
 use Rattle.dialogue.specs.Heard.{answerOn, ending, gateAnswer, gatePage, numbered, pageOn}
 
 -- a call's number, and what follows from it
-record Numbered (k : ℕ) (t : Sheet) (a : Response) (r : Taken) : Type 0 where
+record Numbered (k : ℕ) (t : Sheet) (a : Response) (r : Upshot) : Type 0 where
   pub response : r .response ≡ numbered k a
-  pub stopped : r .dialogue .stopped ≡ ending (numbered k a)
-  pub sheet : r .dialogue .sheet ≡ t
+  pub stopped : r .stopped ≡ ending (numbered k a)
+  pub sheet : r .sheet ≡ t
 
-by-number : (k : ℕ) (t : Sheet) (a : Response) → ending a ≡ false → {r : Taken} → r ≡ byNumber k t a → Numbered k t a r
+by-number : (k : ℕ) (t : Sheet) (a : Response) → ending a ≡ false → {r : Upshot} → r ≡ byNumber k t a → Numbered k t a r
 unfolding byNumber numbered ending
 by-number k t a n {r} e = let g = go (eqb k 0) e in record { response = g .0; stopped = g .1; sheet = g .2 }
   where
-    go : (q : Bool) → r ≡ cond q (goes t a) (stops t (Refused k)) → (r .response ≡ cond q a (Refused k)) × (r .dialogue .stopped ≡ ending (cond q a (Refused k))) × (r .dialogue .sheet ≡ t)
-    go true e = (ap Taken.response e, ap (λ (x : Taken). x .dialogue .stopped) e ∙ sym n, ap (λ (x : Taken). x .dialogue .sheet) e)
-    go false e = (ap Taken.response e, ap (λ (x : Taken). x .dialogue .stopped) e, ap (λ (x : Taken). x .dialogue .sheet) e)
+    go : (q : Bool) → r ≡ cond q (goes t a) (stops t (Refused k)) → (r .response ≡ cond q a (Refused k)) × (r .stopped ≡ ending (cond q a (Refused k))) × (r .sheet ≡ t)
+    go true e = (ap Upshot.response e, ap Upshot.stopped e ∙ sym n, ap Upshot.sheet e)
+    go false e = (ap Upshot.response e, ap Upshot.stopped e, ap Upshot.sheet e)
 
 -- what a page says of a statement
-pub record Answered (m : ℕ) (pg : Page) (st : Statement) (r : Taken) : Type 0 where
+pub record Answered (m : ℕ) (pg : Page) (st : Statement) (r : Upshot) : Type 0 where
   pub response : r .response ≡ answerOn m pg st
-  pub stopped : r .dialogue .stopped ≡ ending (answerOn m pg st)
-  pub sheet : r .dialogue .sheet ≡ fresh (pageOn pg st)
+  pub stopped : r .stopped ≡ ending (answerOn m pg st)
+  pub sheet : r .sheet ≡ fresh (pageOn pg st)
 
-module _ (m : ℕ) (pg : Page) (h : Reached pg) {s : Sheet} (e : s ≡ fresh pg) (b b′ : Lent) (r : Taken) where
+module _ (m : ℕ) (pg : Page) (h : Reached pg) {s : Sheet} (e : s ≡ fresh pg) (b b′ : Lent) (r : Upshot) where
   -- by a number, where the page says the same
   by-page : (st : Statement) {k : ℕ} {t : Sheet} {a : Response} → answerOn m pg st ≡ numbered k a → fresh (pageOn pg st) ≡ t → Numbered k t a r → Answered m pg st r
   by-page st x y n =
@@ -66,13 +67,13 @@ module _ (m : ℕ) (pg : Page) (h : Reached pg) {s : Sheet} (e : s ≡ fresh pg)
       by-number _ _ _ refl (p .result ∙ ap (λ (a : Answer). byNumber (a .number) (a .sheet) Done) (outcome-on pg e h c (p .outcome)))
 
   -- a statement that is answered by itself, and leaves the sheet
-  plain : (st : Statement) (v : Bool) {a : Response} → answerOn m pg st ≡ a → ending a ≡ v → pageOn pg st ≡ pg → r ≡ record { dialogue = record { sheet = s; stopped = v }; response = a }
+  plain : (st : Statement) (v : Bool) {a : Response} → answerOn m pg st ≡ a → ending a ≡ v → pageOn pg st ≡ pg → r ≡ upshot s v a
       → Answered m pg st r
   plain st v x z y q =
       record {
-        response = ap Taken.response q ∙ sym x;
-        stopped = ap (λ (t : Taken). t .dialogue .stopped) q ∙ sym z ∙ ap ending (sym x);
-        sheet = ap (λ (t : Taken). t .dialogue .sheet) q ∙ e ∙ ap fresh (sym y);
+        response = ap Upshot.response q ∙ sym x;
+        stopped = ap Upshot.stopped q ∙ sym z ∙ ap ending (sym x);
+        sheet = ap Upshot.sheet q ∙ e ∙ ap fresh (sym y);
       }
 
   gated : (st : Statement) (w : Wanted) → answerOn m pg st ≡ gateAnswer pg w → pageOn pg st ≡ gatePage pg w → Gated s w b b′ r → Answered m pg st r

@@ -1,108 +1,31 @@
--- No second outcome satisfies what taking a statement promises: no second one satisfies that of its call. Assumes nothing.
-use mathlib.Core.Path.{_≡_, refl, sym, ap, ap₂, _∙_}
+-- No second outcome satisfies what taking a statement promises: no second one satisfies what the statement says. Assumes nothing.
+use mathlib.Core.Path.{_≡_, sym, ap, _∙_}
 use mathlib.Core.Bool.{Bool, true, false}
-use mathlib.Core.List.{List}
-use Prim.Native.Nat.{ℕ}
-use native.Mathlib.Omega.{arith}
-use Rattle.page.specs.Calls.{Call, add, back, forward, mark, open-at, set-gate}
-use Rattle.page.specs.Page.{Page, no-page, page}
-use Rattle.page.specs.Reached.{start}
-use Rattle.word.specs.declared.Edition.the-variants.{New}
-use Rattle.page.specs.Page.{at-width}
-use Rattle.sheet.specs.declared.Answer.{Answer}
-use Rattle.sheet.specs.declared.Reply.{Reply}
-use Rattle.sheet.specs.declared.Sheet.{Sheet}
-use Rattle.sheet.specs.Stands.{Stands, blank-sheet, no-sheet, on-page}
-use Rattle.sheet.proofs.OnePage.{one-page}
-use Rattle.demands.proofs.Unique.{asked-unique, outcome-unique}
-use Rattle.counting.specs.declared.Share.{Share}
-use Rattle.counting.proofs.Unique.{counted-unique}
-use Rattle.listing.specs.declared.Listing.{Listing}
-use Rattle.listing.proofs.Unique.{listed-unique}
-use Rattle.blaming.proofs.Unique.{blamed-unique}
 use Rattle.line.specs.declared.Statement.{Statement}
-use Rattle.line.specs.declared.Statement.the-variants as said
+use Rattle.upshot.specs.declared.Response.the-variants.{Silent}
+use Rattle.upshot.specs.declared.Upshot.{Upshot}
+use Rattle.upshot.specs.Upshot.{stops}
+use Rattle.saying.specs.Says.{Lent, Says}
+use Rattle.saying.proofs.Unique.{says-unique}
 use Rattle.dialogue.specs.declared.Dialogue.{Dialogue}
-use Rattle.dialogue.specs.declared.Response.{Response}
-use Rattle.dialogue.specs.declared.Response.the-variants.{Asked, Blamed, Counted, Done, Listed, Shown, Silent}
 use Rattle.dialogue.specs.declared.Taken.{Taken}
-use Rattle.dialogue.specs.Takes.{Calls, Gated, Lent, Says, Takes, Wanted, atLeast, atMost, byNumber, lent, sets, stops, unread, upTo, within}
+use Rattle.dialogue.specs.Takes.{Takes, upshotOf}
 
-stands-unique : {s : Sheet} {k n : ℕ} → Stands s k → Stands s n → k ≡ n
-stands-unique (no-sheet i) (no-sheet j) = refl
-stands-unique (no-sheet i) (blank-sheet e) = absurd (i (record { on = no-page; reached = start; gives = e }))
-stands-unique (no-sheet i) (on-page p) = absurd (i (record { on = page (p .on); reached = p .reached; gives = p .gives }))
-stands-unique (blank-sheet e) (no-sheet j) = absurd (j (record { on = no-page; reached = start; gives = e }))
-stands-unique (blank-sheet e) (blank-sheet d) = refl
-stands-unique (blank-sheet e) (on-page p) =
-    let q : no-page ≡ page (p .on) = one-page start (p .reached) (sym e ∙ p .gives) in
-    let z : _≡_ {A = ℕ} 0 1 = cc in
-    absurd (omega arith)
-stands-unique (on-page p) (no-sheet j) = absurd (j (record { on = page (p .on); reached = p .reached; gives = p .gives }))
-stands-unique (on-page p) (blank-sheet e) =
-    let q : no-page ≡ page (p .on) = one-page start (p .reached) (sym e ∙ p .gives) in
-    let z : _≡_ {A = ℕ} 0 1 = cc in
-    absurd (omega arith)
-stands-unique (on-page p) (on-page q) = refl
+-- nothing else is taken than what the statement came to
+taken : Upshot → Taken
+taken u = record { dialogue = record { sheet = u .sheet; stopped = u .stopped }; response = u .response }
 
-module _ (s : Sheet) (b b₁ b₂ : Lent) (r₁ r₂ : Taken) where
-  called : (c : Call) → Calls s c b b₁ r₁ → Calls s c b b₂ r₂ → (r₁ ≡ r₂) × (b₁ ≡ b₂)
-  called c p q = (
-    p .result ∙ ap (λ (a : Answer). byNumber (a .number) (a .sheet) Done) (outcome-unique s c (p .outcome) (q .outcome)) ∙ sym (q .result),
-    p .untouched ∙ sym (q .untouched),
-  )
+one-taken : {r₁ r₂ : Taken} → upshotOf r₁ ≡ upshotOf r₂ → r₁ ≡ r₂
+unfolding taken
+one-taken e = ap taken e
 
-  same : {r : Taken} → (r₁ ≡ r) × (b₁ ≡ b) → (r₂ ≡ r) × (b₂ ≡ b) → (r₁ ≡ r₂) × (b₁ ≡ b₂)
-  same p q = (p .0 ∙ sym (q .0), p .1 ∙ sym (q .1))
-
-  gated : (w : Wanted) → Gated s w b b₁ r₁ → Gated s w b b₂ r₂ → (r₁ ≡ r₂) × (b₁ ≡ b₂)
-  unfolding Gated
-  gated (sets g) p q = called (set-gate g) p q
-  gated (unread w) p q = same p q
-
-  pub says-unique : (st : Statement) → Says s st b b₁ r₁ → Says s st b b₂ r₂ → (r₁ ≡ r₂) × (b₁ ≡ b₂)
-  unfolding Says
-  says-unique said.Blank p q = same p q
-  says-unique (said.Rule u) p q = called (add New u) p q
-  says-unique (said.AtLeast a) p q = gated (atLeast a) p q
-  says-unique (said.AtMost a) p q = gated (atMost a) p q
-  says-unique (said.Within a c) p q = gated (within a c) p q
-  says-unique (said.Open n) p q = called (open-at (at-width n New)) p q
-  says-unique said.Mark p q = called mark p q
-  says-unique said.Back p q = called back p q
-  says-unique said.Forward p q = called forward p q
-  says-unique said.Ask p q =
-      let u = asked-unique (p .asked) (q .asked) in (
-        p .result ∙ ap (λ (a : Reply). byNumber (a .number) s (Asked a)) (u .0) ∙ sym (q .result),
-        ap₂ lent (u .1) (p .untouched ∙ sym (q .untouched)),
-      )
-  says-unique said.Count p q = (
-    p .result ∙ ap (λ (a : Share). byNumber (a .number) s (Counted a)) (counted-unique (p .counted) (q .counted)) ∙ sym (q .result),
-    p .untouched ∙ sym (q .untouched),
-  )
-  says-unique (said.List l) p q =
-      let u = listed-unique (p .listed) (q .listed) in (
-        p .result ∙ ap (λ (a : Listing). byNumber (a .number) s (Listed (upTo (l .most) a))) (u .0) ∙ sym (q .result),
-        ap₂ lent (p .untouched ∙ sym (q .untouched)) (u .1),
-      )
-  says-unique (said.Why x) p q =
-      let u = blamed-unique (p .blamed) (q .blamed) in (
-        p .result ∙ ap (λ (a : Listing). byNumber (a .number) s (Blamed a)) (u .0) ∙ sym (q .result),
-        ap₂ lent (u .1) (p .untouched ∙ sym (q .untouched)),
-      )
-  says-unique said.Show p q = (
-    p .0 .result ∙ ap (λ (n : ℕ). byNumber n s Shown) (stands-unique (p .0 .stands) (q .0 .stands)) ∙ sym (q .0 .result),
-    p .1 ∙ sym (q .1),
-  )
-  says-unique (said.Wrong w) p q = same p q
-
-abbrev So : Dialogue → Statement → (b b′ : Lent) → Taken → Bool → Type 0
-So d st b b′ r v = elim v [ true ↦ (r ≡ stops (d .sheet) Silent) × (b′ ≡ b) | false ↦ Says (d .sheet) st b b′ r ]
+abbrev So : Dialogue → Statement → (b b′ : Lent) → Upshot → Bool → Type 0
+So d st b b′ u v = elim v [ true ↦ (u ≡ stops (d .sheet) Silent) × (b′ ≡ b) | false ↦ Says (d .sheet) st b b′ u ]
 
 pub takes-unique : (d : Dialogue) (st : Statement) (b b₁ b₂ : Lent) (r₁ r₂ : Taken) → Takes d st b b₁ r₁ → Takes d st b b₂ r₂ → (r₁ ≡ r₂) × (b₁ ≡ b₂)
 unfolding Takes
-takes-unique d st b b₁ b₂ r₁ r₂ p q = go (d .stopped) p q
+takes-unique d st b b₁ b₂ r₁ r₂ p q = let u = go (d .stopped) p q in (one-taken (u .0), u .1)
   where
-    go : (v : Bool) → So d st b b₁ r₁ v → So d st b b₂ r₂ v → (r₁ ≡ r₂) × (b₁ ≡ b₂)
-    go true p q = same (d .sheet) b b₁ b₂ r₁ r₂ p q
-    go false p q = says-unique (d .sheet) b b₁ b₂ r₁ r₂ st p q
+    go : (v : Bool) → So d st b b₁ (upshotOf r₁) v → So d st b b₂ (upshotOf r₂) v → (upshotOf r₁ ≡ upshotOf r₂) × (b₁ ≡ b₂)
+    go true p q = (p .0 ∙ sym (q .0), p .1 ∙ sym (q .1))
+    go false p q = says-unique (d .sheet) b b₁ b₂ (upshotOf r₁) (upshotOf r₂) st p q

@@ -16,11 +16,12 @@ use Rattle.listing.specs.Listed.{listNumber, listOn, listings}
 use Rattle.blaming.specs.Blamed.{failedOn, whyNumber}
 use Rattle.line.specs.declared.Statement.{Statement}
 use Rattle.line.specs.declared.Statement.the-variants as said
+use Rattle.upshot.specs.declared.Response.{Response}
+use Rattle.upshot.specs.declared.Response.the-variants.{Asked, Blamed, Counted, Done, Listed, Mistaken, Refused, Shown, Silent}
+use Rattle.saying.specs.Says.{Lent, Wanted, atLeast, atMost, sets, unread, upTo, within}
 use Rattle.dialogue.specs.declared.Dialogue.{Dialogue}
-use Rattle.dialogue.specs.declared.Response.{Response}
-use Rattle.dialogue.specs.declared.Response.the-variants.{Asked, Blamed, Counted, Done, Listed, Mistaken, Refused, Shown, Silent}
 use Rattle.dialogue.specs.declared.Taken.{Taken}
-use Rattle.dialogue.specs.Takes.{Lent, Takes, Wanted, atLeast, atMost, sets, unread, upTo, within}
+use Rattle.dialogue.specs.Takes.{Takes}
 
 -- what is answered, or the number of a refusal
 unfoldable pub numbered : ℕ → Response → Response

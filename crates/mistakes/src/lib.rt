@@ -1,10 +1,10 @@
 // Mistakes, on standard error: where, what was expected or why a call was refused, the line, and a mark under the place.
-use dialogue::Response;
 use libc::STDERR_FILENO;
 use line::Statement;
 use printing::Told;
 use printing::within;
 use scan::Mistake;
+use upshot::Response;
 
 // Says a mistake or a refusal, and whether there was one.
 pub fn say(told: Told, text: &[u8]) -> bool {

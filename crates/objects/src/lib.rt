@@ -1,7 +1,6 @@
 // Answers as objects of JSON, one a line, on standard output. Words and counts may be above 2^53, which many readers of JSON round: they are
 // strings of decimal digits. A name has letters, digits, `_`, `.` and `-` alone, and a rule's text no quote, so that none is escaped.
 use chain::Link;
-use dialogue::Response;
 use line::Statement;
 use listing::Listing;
 use naming::MOST;
@@ -13,6 +12,7 @@ use printing::put_text;
 use rule::Rule;
 use sheet::Reply;
 use sheet::Sheet;
+use upshot::Response;
 
 // Tells what a statement is answered, where it is answered anything.
 pub fn tell(

@@ -1,12 +1,12 @@
 // What answers in words and as objects share, on standard output: the text and the name of a rule, counts and bits.
 ghost use Rattle.io.specs.Counts.{Counts};
 use counting::Share;
-use dialogue::Response;
 use libc::STDOUT_FILENO;
 use line::Statement;
 use naming::MOST;
 use rule::Rule;
 use sheet::Sheet;
+use upshot::Response;
 use word::Width;
 
 // How many words are listed at most.

@@ -19,10 +19,10 @@ use Rattle.page.proofs.Gates.{blank-gate, gate-four, gate-set, with-rules}
 use Rattle.page.proofs.Stretches.{restored-rules, stretch-struck, waitingRules}
 use Rattle.line.specs.declared.Statement.{Statement}
 use Rattle.line.specs.declared.Statement.the-variants as said
-use Rattle.dialogue.specs.declared.Response.{Response}
-use Rattle.dialogue.specs.declared.Response.the-variants.{Done}
+use Rattle.upshot.specs.declared.Response.{Response}
+use Rattle.upshot.specs.declared.Response.the-variants.{Done}
+use Rattle.saying.specs.Says.{Wanted, atLeast, atMost, sets, unread, within}
 use Rattle.dialogue.specs.Heard.{answerOn, ending, gateAnswer, gatePage, numbered, pageOn}
-use Rattle.dialogue.specs.Takes.{Wanted, atLeast, atMost, sets, unread, within}
 use Rattle.naming.specs.Names.{kept, newRules, put, rowOf}
 use Rattle.naming.proofs.Rows.{put-nothing}
 use Rattle.named.specs.Named.{Holds, namesAfter, noZero}

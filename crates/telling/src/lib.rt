@@ -1,7 +1,6 @@
 // Answers in words, on standard output. A rule is called by its name, or by its number where it has none.
 use chain::Link;
 use counting::Share;
-use dialogue::Response;
 use libc::STDOUT_FILENO;
 use line::Statement;
 use naming::MOST;
@@ -13,6 +12,7 @@ use printing::put_text;
 use rule::Rule;
 use sheet::Reply;
 use sheet::Sheet;
+use upshot::Response;
 
 // Tells what a statement is answered.
 pub fn tell(

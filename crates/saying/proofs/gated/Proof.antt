@@ -11,13 +11,14 @@ use Rattle.on_words.specs.Gates.{gateOf}
 use Rattle.watts.specs.declared.Limit.{Limit}
 use Rattle.watts.specs.declared.Limit.the-variants.{Bits, TooFine}
 use Rattle.scan.specs.declared.Amount.{Amount}
-use Rattle.dialogue.specs.declared.Response.the-variants.{Done, Mistaken}
-use Rattle.dialogue.specs.declared.Taken.{Taken}
-use Rattle.dialogue.specs.Takes.{Gated, SetsGate, Wanted, byLimits, byNumber, limitAt, stops, tooFine, wanted}
-use Rattle.dialogue.proofs.gated.Statement.{statement}
-use Rattle.dialogue.proofs.gated.Tie as tie
+use Rattle.upshot.specs.declared.Response.the-variants.{Done, Mistaken}
+use Rattle.upshot.specs.declared.Upshot.{Upshot}
+use Rattle.upshot.specs.Upshot.{byNumber, stops}
+use Rattle.saying.specs.Says.{Gated, SetsGate, Wanted, byLimits, limitAt, tooFine, wanted}
+use Rattle.saying.proofs.gated.Statement.{statement}
+use Rattle.saying.proofs.gated.Tie as tie
 
-module _ (s : Sheet) (k : ℕ) (a c : Amount) (r : Taken) where
+module _ (s : Sheet) (k : ℕ) (a c : Amount) (r : Upshot) where
   by-wanted : {w : Wanted} → wanted k a c ≡ w → SetsGate s w r → SetsGate s (wanted k a c) r
   by-wanted e p b = subst (λ (w : Wanted). Gated s w b b r) (sym e) (p b)
 

@@ -2,10 +2,10 @@
 use mathlib.Core.Path.{ap, _∙_}
 use borrow.Author.Needs.{needs}
 use Rattle.listing.specs.declared.Listing.{Listing}
-use Rattle.dialogue.specs.declared.Response.the-variants.{Listed}
-use Rattle.dialogue.specs.Takes.{byNumber}
-use Rattle.dialogue.proofs.listed.Statement.{statement}
-use Rattle.dialogue.proofs.listed.Tie as tie
+use Rattle.upshot.specs.declared.Response.the-variants.{Listed}
+use Rattle.upshot.specs.Upshot.{byNumber}
+use Rattle.saying.proofs.listed.Statement.{statement}
+use Rattle.saying.proofs.listed.Tie as tie
 
 up-to-requires : tie.Need-up-to-requires
 up-to-requires c κs = search needs

@@ -1,9 +1,9 @@
 -- `by_number` meets its contract: its test is that of the definition. Assumes nothing.
 use borrow.Author.Needs.{needs}
 use borrow.Author.Tests.{eq-eqb, ne-eqb}
-use Rattle.dialogue.specs.Takes.{byNumber}
-use Rattle.dialogue.proofs.by_number.Statement.{statement}
-use Rattle.dialogue.proofs.by_number.Tie as tie
+use Rattle.upshot.specs.Upshot.{byNumber}
+use Rattle.upshot.proofs.by_number.Statement.{statement}
+use Rattle.upshot.proofs.by_number.Tie as tie
 
 stops-requires : tie.Need-stops-requires
 stops-requires c κs = search needs

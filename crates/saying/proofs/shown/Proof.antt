@@ -9,8 +9,8 @@ use Rattle.sheet.specs.Shape.{isSheet}
 use Rattle.sheet.specs.Stands.{no-sheet}
 use Rattle.sheet.specs.Statements.{IsSheet}
 use Rattle.sheet.proofs.Stands.{has-width, is-blank}
-use Rattle.dialogue.proofs.shown.Statement.{statement}
-use Rattle.dialogue.proofs.shown.Tie as tie
+use Rattle.saying.proofs.shown.Statement.{statement}
+use Rattle.saying.proofs.shown.Tie as tie
 
 module _ (s : Sheet) (t : Bool) (e : (t ≡ isSheet s) × ((t ≡ true) ↔ IsSheet s)) where
   told : t ≡ true → IsSheet s

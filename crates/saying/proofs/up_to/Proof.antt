@@ -5,9 +5,9 @@ use native.Mathlib.Omega.{arith}
 use native.Mathlib.Nat.{min-eq-left, min-eq-right}
 use borrow.Author.Needs.{needs}
 use Rattle.listing.specs.Listed.{listings}
-use Rattle.dialogue.specs.Takes.{upTo}
-use Rattle.dialogue.proofs.up_to.Statement.{statement}
-use Rattle.dialogue.proofs.up_to.Tie as tie
+use Rattle.saying.specs.Says.{upTo}
+use Rattle.saying.proofs.up_to.Statement.{statement}
+use Rattle.saying.proofs.up_to.Tie as tie
 
 returns : tie.Need-returns
 unfolding upTo

@@ -1,10 +1,10 @@
 -- `says` meets its contract: each statement's call is made, and comes to what it promises. Assumes nothing.
 use mathlib.Core.Path.{refl}
 use borrow.Author.Needs.{needs}
-use Rattle.dialogue.proofs.says.Tie as tie
-use Rattle.dialogue.proofs.Said.{by-case}
-use Rattle.dialogue.specs.Takes.{Says}
-use Rattle.dialogue.proofs.says.Statement.{statement}
+use Rattle.saying.proofs.says.Tie as tie
+use Rattle.saying.proofs.Case.{by-case}
+use Rattle.saying.specs.Says.{Says}
+use Rattle.saying.proofs.says.Statement.{statement}
 
 enum-told : tie.Need-enum-told
 enum-told c = search needs
