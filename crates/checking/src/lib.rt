@@ -3,22 +3,19 @@
 mod settling;
 mod words;
 
+ghost use Rattle.checking.specs.Checked.{Checked};
 use gathering::LENT;
 use gathering::Reading;
 use naming::MOST;
 use rule::Rule;
 use sheet::Sheet;
+use status::MISTAKE;
 use word::Found;
 
-// What the check comes to, as a status: yes, no, or a mistake in the chain or a read that failed.
-pub const YES: u8 = 0;
-
-pub const NO: u8 = 1;
-
-pub const MISTAKE: u8 = 2;
-
-// Checks the chain against a sheet, whose rules have names.
-pub fn check(sheet: Sheet, names: &[[u8; MOST]; Rule::LIMIT]) -> u8 {
+// Checks the chain against a sheet, whose rules have names, and gives the status.
+pub fn check(sheet: Sheet, names: &[[u8; MOST]; Rule::LIMIT]) -> u8
+    ensures { λ r. ⌜ Checked sheet r ⌝ }
+{
     let mut links = [0; LENT];
     let read = gathering::read_all(Reading::start(sheet.count), names, &mut links);
     if read.wrong {

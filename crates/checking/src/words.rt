@@ -1,6 +1,6 @@
 // What is found of a chain, in one line on standard output.
-use crate::NO;
-use crate::YES;
+ghost use mathlib.Core.Path.{_≡_};
+ghost use Rattle.status.specs.Status.{statusOf};
 use chain::Link;
 use clause::Finding;
 use gathering::LENT;
@@ -11,15 +11,17 @@ use naming::MOST;
 use rule::Rule;
 
 // Tells it, and gives the status.
-pub fn tell(found: Finding, names: &[[u8; MOST]; Rule::LIMIT], links: &[u64; LENT]) -> u8 {
-    if let Finding::Yes = found {
+pub fn tell(found: Finding, names: &[[u8; MOST]; Rule::LIMIT], links: &[u64; LENT]) -> u8
+    ensures { λ r. ⌜ r ≡ statusOf found ⌝ }
+{
+    if found.is_yes() {
         put(b"yes: no word fits\n");
-        return YES;
+        return status::of(found);
     }
     put(b"no: ");
     put_found(found, names, links);
     put(b"\n");
-    NO
+    status::of(found)
 }
 
 // The clause of the paper that does not hold, with the line of its link, where it is one of a link.

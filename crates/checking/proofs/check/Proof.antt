@@ -1,6 +1,8 @@
--- `check` is safe and ends: the measure is a number of turns that no run uses up. Assumes nothing.
+-- `check` meets its contract: it gives the status of what is found of some numbers, or that of a mistake. The measure is a number of turns that no run uses up. Assumes nothing.
 use Prim.Native.Nat.{_-_, _≤_}
+use native.Mathlib.Omega.{arith}
 use borrow.Author.Needs.{needs}
+use Rattle.checking.proofs.Checked.{found-so}
 use Rattle.checking.proofs.check.Statement.{statement}
 use Rattle.checking.proofs.check.Tie as tie
 
@@ -17,7 +19,7 @@ read-all-requires : tie.Need-read-all-requires Inv-loop μ-loop
 read-all-requires c κs = search needs
 
 returns : tie.Need-returns Inv-loop μ-loop
-returns c = search needs
+returns c z = absurd (omega arith)
 
 loop-holds : tie.Need-loop-holds Inv-loop μ-loop
 loop-holds c = search needs
@@ -38,7 +40,9 @@ tell-requires : tie.Need-tell-requires Inv-loop μ-loop
 tell-requires c κs = search needs
 
 returns-2 : tie.Need-returns-2 Inv-loop μ-loop
-returns-2 c = search needs
+returns-2 c =
+    let found = c .before .before .before .before .before .before in
+    found-so _ _ _ _ (found .found-of .ensures .1) (c .tell .ensures)
 
 move-on-requires : tie.Need-move-on-requires Inv-loop μ-loop
 move-on-requires c κs = search needs
@@ -53,7 +57,7 @@ loop-again : tie.Need-loop-again Inv-loop μ-loop
 loop-again c = search needs
 
 returns-3 : tie.Need-returns-3 Inv-loop μ-loop
-returns-3 c = search needs
+returns-3 c z = absurd (omega arith)
 
 pub check-spec : {M : Type 1} → statement M
 check-spec = tie.close (tie.spec Inv-loop μ-loop start-requires read-all-requires returns loop-holds found-of-requires unshown-requires enum-known-link enum-told tell-requires returns-2 move-on-requires add-turn loop-less loop-again returns-3)
