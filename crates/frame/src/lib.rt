@@ -1,4 +1,4 @@
-// Lines of hexadecimal: which frame a line is, and how an answer is written.
+// Lines of hexadecimal: which frame a line is. How an answer is written stands in `fields`, and is handed on here.
 mod reading;
 
 use chain::Link;

@@ -12,7 +12,7 @@ use rows::InForce;
 use rule::Rule;
 use word::Found;
 
-// How often all bands are gone through before a leap, which sorts them.
+// One more than how often all bands are gone through before a leap, which sorts them.
 const PATIENCE: usize = 9;
 
 // How a walk ends: at a word that passes, nowhere, or at a word from which a leap is better.
@@ -67,7 +67,7 @@ fn rested(
 
 // A walk from a start on: it goes from one failing run to the next, never word by word, and leaves both loops as soon as a word fits. Where a band
 // failed the bands from the one before it on are looked at first: of rules in a row, up or down the wheel, one of these fails next. The newest band
-// is the first of all. With patience it ends where it has gone through all bands so often; with 0 it goes on.
+// is the first of all. With patience it ends where it has gone through all bands so often but one; with 0 it goes on.
 fn walk(
     rows: &[[u64; rows::NUMBERS]; Rule::LIMIT],
     force: InForce,
