@@ -3,8 +3,8 @@
  * Link target/staticlib/libbranchmetal.a, which `rt staticlib branchmetal` makes, for Linux on x86-64. It needs nothing but memcpy and
  * memset, keeps nothing between calls, allocates nothing, and may be called from any number of threads at once. docs/LIBRARY.md has more.
  *
- * Every function takes any numbers, always returns, and answers 0 or the number of a refusal; README.md has them. What each one promises
- * is proved, of the numbers. What nobody proves is owed by the caller:
+ * Every function takes any numbers, always returns and, but for blanking, answers 0 or the number of a refusal; docs/FRAMES.md and
+ * docs/LIBRARY.md have them. What each one promises is proved, of the numbers. What nobody proves is owed by the caller:
  *   - a pointer points to as many numbers as its type or the length beside it says, and is aligned to 8 bytes. Where the length is 0 the
  *     pointer may be null; no other may;
  *   - what is written (each pointer that is not const) overlaps nothing else that is handed to the same call.
@@ -36,7 +36,7 @@ extern "C" {
 #define BRANCHMETAL_ROOM(n) (3 * (4 * (size_t)(n) + 1))
 #define BRANCHMETAL_BITS 255
 
-/* A rule: a form from 1 to 8, a sense (0 as written, 1 negated) and two constants. README.md has the table of the forms. */
+/* A rule: a form from 1 to 8, a sense (0 as written, 1 negated) and two constants. docs/FRAMES.md has the table of the forms. */
 typedef struct {
     uint64_t form, sense, c1, c2;
 } branchmetal_rule;
