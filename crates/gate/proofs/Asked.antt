@@ -19,8 +19,9 @@ use Rattle.word.proofs.Tests.{both-pass}
 use Rattle.rule.specs.declared.Rule.{Rule}
 use Rattle.rule.specs.Meaning.{meets, rule}
 use Rattle.gate.specs.declared.Four.{Four}
-use Rattle.gate.specs.Gate.{failing, fourOf, over, under}
-use Rattle.gate.specs.Paper.{FailsJust, IsFour, Over, Under}
+use Rattle.gate.specs.declared.Gate.{Gate}
+use Rattle.gate.specs.Gate.{failing, fourOf, gateRules, listed, over, through, under}
+use Rattle.gate.specs.Paper.{FailsJust, FourInOrder, IsFour, Over, Under, in-order}
 use Rattle.gate.proofs.FormThree.{fails-between, form-3, one-rule}
 use Rattle.gate.proofs.Limits.{halved, whole}
 
@@ -163,6 +164,11 @@ is-four fit =
           (over-is fit (half 32))
           (is-over fit (half 32));
     }
+
+-- a gate's rules are these four, in the paper's order
+pub four-in-order : (g : Gate) → FourInOrder (through g) (gateRules g)
+unfolding gateRules listed
+four-in-order g = in-order (fourOf (through g)) (is-four (through g))
 
 -- "and no other": two rules that fail just the same words are one
 module _ (P : ℕ → Type 0) (r q : Rule) (is : FailsJust P r) (was : FailsJust P q) where

@@ -13,6 +13,7 @@ use Rattle.rule.specs.declared.Rule.{Rule}
 use Rattle.rule.specs.Meaning.{fits, meets}
 use Rattle.gate.specs.declared.Gate.{Gate}
 use Rattle.gate.specs.declared.Gate.the-variants.{AtLeast, AtMost, Within}
+use Rattle.gate.specs.declared.Span.{Span}
 use Rattle.gate.specs.Gate.{fourOf, gateRules, listed, meetsGate, notNumbers, through, worth}
 use Rattle.gate.specs.Paper.{FailsJust, IsFour, Over, Single, Under, compares}
 use Rattle.gate.specs.Value.{leV, value}
@@ -21,6 +22,7 @@ use Rattle.gate.proofs.Closed.{limits, through-span}
 use Rattle.gate.proofs.Halves.{Runs, after, before, inside, nowhere}
 use Rattle.gate.proofs.Language.{language-order}
 use Rattle.gate.proofs.Limits.{halved, lower-runs, upper-runs, whole}
+use Rattle.gate.proofs.Order.{leV-trans}
 
 holds : (b : Bool) → (b ≡ false → ⊥) → b ≡ true
 holds true h = refl
@@ -128,3 +130,15 @@ module _ (g : Gate) (single : Single g) (x : ℕ) where
       go (AtLeast l) s = least l s
       go (AtMost h) s = most h s
       go (Within i) s = ap₂ _&&_ (least (i .low) (s .0)) (most (i .high) (s .1))
+
+-- "A span with low above high is accepted and fits nothing": where its low limit is not at most its high one, no pattern meets its rules
+module _ (s : Span) (single : Single (Within s)) (numbers : notNumbers (Within s) ≡ false) (above : leV (worth (s .low)) (worth (s .high)) ≡ false) where
+  pub fits-nothing : (x : ℕ) → x ≤ top 32 → fits 32 (gateRules (Within s)) x ≡ false
+  unfolding through meetsGate
+  fits-nothing x word = exactly (Within s) single x numbers word ∙ go (leV (worth (s .low)) (value x)) (leV (value x) (worth (s .high))) refl refl
+    where
+      go : (a b : Bool) → leV (worth (s .low)) (value x) ≡ a → leV (value x) (worth (s .high)) ≡ b
+          → (leV (worth (s .low)) (value x) && leV (value x) (worth (s .high))) ≡ false
+      go true true d e = absurd (false≢true (sym above ∙ leV-trans (worth (s .low)) (value x) (worth (s .high)) d e))
+      go true false d e = rw (d, e)
+      go false b d e = rw d

@@ -1,6 +1,7 @@
 -- What the paper asks of the four rules, in its words and without a search (02, K9).
 use mathlib.Core.Path.{_≡_}
 use mathlib.Core.Bool.{Bool, true, false, _&&_}
+use mathlib.Core.List.{List, [], _∷_}
 use Prim.Native.Nat.{ℕ, _+_, _≤_, _<_}
 use lib.Ieee.{Float, binary32, fits, le}
 use Rattle.word.specs.Word.{half, top}
@@ -40,6 +41,10 @@ pub record IsFour (fit : ℕ → Bool) (f : Four) : Type 0 where
   pub second : FailsJust (Over fit 0) (f .second)
   pub third : FailsJust (Under fit (half 32)) (f .third)
   pub fourth : FailsJust (Over fit (half 32)) (f .fourth)
+
+-- "exactly four rules", in this order
+pub data FourInOrder (fit : ℕ → Bool) : List Rule → Type 0 where
+  in-order : (f : Four) → IsFour fit f → FourInOrder fit (f .first ∷ f .second ∷ f .third ∷ f .fourth ∷ [])
 
 -- the limits are single-precision floats, as those of every gate that code makes are
 unfoldable pub Single : Gate → Type 0
