@@ -23,7 +23,7 @@ pub fn count(sheet: Sheet) -> Share
     let mut marks: [usize; Sheet::MARKS] = [0; Sheet::MARKS];
     let head = sheet::laid::lay_out(sheet, &mut rows, &mut marks);
     let number = slate::refuses(head);
-    if number != 0 {
+    if 0 < number {
         return refusal(number);
     }
     let fixed = head.fixed;

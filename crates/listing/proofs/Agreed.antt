@@ -3,11 +3,11 @@
 use mathlib.Core.Path.{_≡_, refl, sym, ap, ap₂, _∙_, subst, subst₂}
 use mathlib.Core.Bool.{Bool, cond}
 use mathlib.Core.List.{List, [], _++_, append-nil}
-use Prim.Native.Nat.{ℕ, suc, min, _<_}
+use Prim.Native.Nat.{ℕ, suc, min, _≤_, _<_}
 use native.Mathlib.Decide.{ℕ-discrete}
 use native.Mathlib.Omega.{arith}
 use borrow.Author.Tests.{eq-eqb, ne-eqb}
-use lib.ListN.{drop, getD, length, length-take, take}
+use lib.ListN.{drop, getD, length, length-replicate, length-take, replicate, take}
 use lib.Seq.{getD-take, take-at}
 use Rattle.word.specs.Word.{top}
 use Rattle.rule.specs.declared.Rule.{Rule}
@@ -24,7 +24,7 @@ use Rattle.sheet.specs.Statements.{Asked, chainOn, refuses, replies, reply}
 use Rattle.sheet.proofs.WaysOfAsking.{accepted-reply}
 use Rattle.fitting.specs.Agreement.{Agrees}
 use Rattle.fitting.specs.Next.{EachNext}
-use Rattle.fitting.specs.Words.{fittingFrom, howMany, onward, wordsFrom}
+use Rattle.fitting.specs.Words.{atStart, fittingFrom, howMany, onward, wordsFrom}
 use Rattle.fitting.proofs.Agreement.{kept-agrees}
 use Rattle.fitting.proofs.Carried as carried
 use Rattle.fitting.proofs.Only.{each-next}
@@ -34,7 +34,8 @@ use Rattle.counting.specs.Share.{shares, together}
 use Rattle.counting.proofs.Free.{together-shares}
 use Rattle.listing.specs.declared.Listing.{Listing}
 use Rattle.listing.specs.Carried.{CarriedOn, Wrote, further, not-filled, top-written}
-use Rattle.listing.specs.Listed.{listNumber, listOn}
+use Rattle.listing.specs.Listed.{listNumber, listOn, listings}
+use Rattle.listing.proofs.Held.{listed-on, own-number}
 
 -- on a sheet that is not blank
 module _ (o : OpenPage) (reached : Reached (page o)) {s : Sheet} (gives : s ≡ fresh (page o)) where
@@ -79,6 +80,34 @@ module _ (o : OpenPage) (reached : Reached (page o)) {s : Sheet} (gives : s ≡ 
   all-written {p} (further {room = room} {xs = xs} {ys = ys} h rest) =
       let e = wrote h in
       ap₂ _++_ e (all-written rest ∙ ap (λ (l : List ℕ). fittingFrom w rs (onward p l)) e) ∙ sym (carried.carried-on w rs p room)
+
+  -- and there are such listings, from every word on: one buffer with a place more than words fit is not filled
+  pub some-end : (p : ℕ) → p ≤ top w → (xs : List ℕ) × CarriedOn s p xs
+  unfolding wordsFrom
+  some-end p l = (_, not-filled one short)
+    where
+      room : ℕ
+      room = suc (length (fittingFrom w rs p))
+
+      b : List ℕ
+      b = replicate room 0
+
+      words : List ℕ
+      words = listOn (page o) p (length b)
+
+      one : Wrote s p room (take (length words) (atStart words b))
+      one = record {
+        b = b;
+        b′ = atStart words b;
+        r = listings (listNumber (page o) p) (length words);
+        listed = listed-on (page o) reached gives (refl, refl);
+        accepted = own-number o p l;
+        size = length-replicate room 0;
+        words-are = refl;
+      }
+
+      short : length (take (length words) (atStart words b)) < room
+      short = omega (arith, ap length (wrote one), length-take room (fittingFrom w rs p))
 
   -- what a count says
   shared : {r : Share} → Counted s r → r ≡ shares 0 (howMany w rs)

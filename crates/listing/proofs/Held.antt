@@ -35,7 +35,7 @@ use Rattle.listing.specs.Listed.{Listed, listGrounds, listNumber, listOn
 abbrev Says : Page → ℕ → List ℕ → List ℕ → Listing → Type 0
 Says pg p b b′ r = (r ≡ listings (listNumber pg p) (length (listOn pg p (length b)))) × (b′ ≡ atStart (listOn pg p (length b)) b)
 
-listed-on : (pg : Page) → Reached pg → {s : Sheet} → s ≡ fresh pg → {p : ℕ} {b b′ : List ℕ} {r : Listing} → Says pg p b b′ r → Listed s p b b′ r
+pub listed-on : (pg : Page) → Reached pg → {s : Sheet} → s ≡ fresh pg → {p : ℕ} {b b′ : List ℕ} {r : Listing} → Says pg p b b′ r → Listed s p b b′ r
 listed-on pg h {s} e {p} {b} {b′} {r} q =
     record {
       no-sheet = λ n. absurd (n (record { on = pg; reached = h; gives = e }));
@@ -54,16 +54,20 @@ refused-list (no-sheet i) z p b =
 refused-list (blank-sheet e) z p b = listed-on no-page start e (refl, refl)
 refused-list (on-page q) z p b = absurd (z refl)
 
--- what an open page says
+-- the table, row by row
+pub blank-number : (p : ℕ) → listNumber no-page p ≡ 1
+unfolding listNumber listGrounds firstThatApplies isBlank
+blank-number p = refl
+
 module _ (o : OpenPage) (p : ℕ) where
   abbrev w : ℕ
   w = o .opening .width
 
-  high-number : top w < p → listNumber (page o) p ≡ 5
+  pub high-number : top w < p → listNumber (page o) p ≡ 5
   unfolding listNumber listGrounds firstThatApplies isBlank widthOf
   high-number h = rw (lt-ltb (top w) p h)
 
-  own-number : p ≤ top w → listNumber (page o) p ≡ 0
+  pub own-number : p ≤ top w → listNumber (page o) p ≡ 0
   unfolding listNumber listGrounds firstThatApplies isBlank widthOf
   own-number h = rw (le-ltb (top w) p h)
 

@@ -21,7 +21,7 @@ pub fn list(sheet: Sheet, start: u64, out: &mut [u64]) -> Listing
     let mut marks: [usize; Sheet::MARKS] = [0; Sheet::MARKS];
     let head = sheet::laid::lay_out(sheet, &mut rows, &mut marks);
     let number = slate::refuses(head);
-    if number != 0 {
+    if 0 < number {
         return refusal(number);
     }
     let width = Width {

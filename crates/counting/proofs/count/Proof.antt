@@ -1,5 +1,6 @@
 -- `count` meets its contract: what is tallied on the slate is the count of the record that was laid out. Assumes nothing.
-use mathlib.Core.Path.{_≡_, sym, ap, _∙_, subst}
+use mathlib.Core.Path.{_≡_, sym, ap, subst}
+use native.Mathlib.Omega.{arith}
 use borrow.Author.Needs.{needs}
 use Rattle.slate.specs.Numbers.{before}
 use Rattle.slate.proofs.Holding.{width-so}
@@ -36,10 +37,10 @@ returns c =
     let f : Found = c .before .before in
     let o = f .before in
     subst (λ (s : Sheet). Counted s (c .refusal .result)) (o .lay-out .ensures .0)
-    (subst (Counted _) (sym (c .refusal .ensures)) (refused-count (subst (Stands _) (sym (f .refuses .ensures)) (stands-so (o .lay-out .ensures .1))) (c .before .if1 .taken)))
+    (subst (Counted _) (sym (c .refusal .ensures)) (refused-count (subst (Stands _) (sym (f .refuses .ensures)) (stands-so (o .lay-out .ensures .1))) (λ e. omega (arith, c .before .if1 .taken, e))))
 
 none : (c : tie.Else1) → before (c .before .before .lay-out .result .stands) (c .before .before .lay-out .result .opening .width) ≡ 0
-none c = sym (c .before .refuses .ensures) ∙ c .if1 .left
+none c = omega (arith, c .before .refuses .ensures, c .if1 .left)
 
 words-requires : tie.Need-words-requires
 words-requires c κs =

@@ -1,5 +1,5 @@
 -- `list` meets its contract: what is filled in from the slate is the listing of the record that was laid out. Assumes nothing.
-use mathlib.Core.Path.{_≡_, sym, _∙_, subst}
+use mathlib.Core.Path.{_≡_, sym, subst}
 use Prim.Native.Nat.{ℕ, _≤_}
 use native.Mathlib.Omega.{arith}
 use borrow.Author.Needs.{needs}
@@ -38,10 +38,10 @@ returns c =
     let f = c .before .before in
     let o = f .before in
     listed-by-value {t = laid o} (o .lay-out .ensures .0)
-    (subst (Listed _ _ _ _) (sym (c .refusal .ensures)) (refused-list (subst (Stands _) (sym (f .refuses .ensures)) (stands-so (o .lay-out .ensures .1))) (c .before .if1 .taken) _ _))
+    (subst (Listed _ _ _ _) (sym (c .refusal .ensures)) (refused-list (subst (Stands _) (sym (f .refuses .ensures)) (stands-so (o .lay-out .ensures .1))) (λ e. omega (arith, c .before .if1 .taken, e)) _ _))
 
 none : (c : tie.Else1) → before (c .before .before .lay-out .result .stands) (c .before .before .lay-out .result .opening .width) ≡ 0
-none c = sym (c .before .refuses .ensures) ∙ c .if1 .left
+none c = omega (arith, c .before .refuses .ensures, c .if1 .left)
 
 top-requires : tie.Need-top-requires
 top-requires c κs = width-so (c .before .before .lay-out .ensures .1) (none c)
