@@ -1,9 +1,9 @@
 // The batch call: an opening, a lent list of rules and a chain buffer, answered as the calls one by one would be.
 ghost use mathlib.Core.Path.{_≡_};
-ghost use lib.ListN.{replicate, take};
+ghost use lib.ListN.{length, replicate, take};
 ghost use Rattle.accept.specs.Accept.{noRule};
-ghost use Rattle.batch.specs.Batch.{Batched, MOST};
-ghost use Rattle.batch.specs.Route.{few};
+ghost use Rattle.batch.specs.Batch.{Batched, Gives, MOST};
+ghost use Rattle.batch.specs.Route.{batchAt, few};
 
 mod course;
 
@@ -70,4 +70,18 @@ pub fn first(opening: Opening, rules: [Rule; Batch::MOST], count: usize, out: &m
 {
     let given = few(count);
     course::vet(opening, rules, given, given, &mut *out)
+}
+
+// The batch call on a list of so many rules, of which an array has the first: all of them, or as many as are read. A refused opening is said
+// at the list's length.
+pub fn beginning(
+    opening: Opening,
+    rules: [Rule; Batch::MOST],
+    given: usize,
+    out: &mut [u64],
+) -> Batch
+    ensures { λ r. ⌜ Gives (batchAt opening (take (few given) rules) given (length (now (out .entry)))) (now (out .entry)) (now (out .exit)) r ⌝ }
+{
+    let count = few(given);
+    course::vet(opening, rules, count, given, &mut *out)
 }

@@ -1,17 +1,17 @@
 -- The rules looked at: a list is copied place by place, and as many as it has are those. What the batch answers, in numbers. Assumes nothing.
 use mathlib.Core.Path.{_≡_, refl, sym, ap, _∙_}
 use mathlib.Core.List.{List, [], _∷_, _++_, append-assoc}
-use Prim.Native.Nat.{ℕ, zero, suc, _-_, _<_}
+use Prim.Native.Nat.{ℕ, zero, suc, _-_, _≤_, _<_}
 use native.Mathlib.Numerals.{unary-clauses}
 use native.Mathlib.Omega.{arith}
 use lib.ListN.{getD, length, replicate, set, take}
-use lib.Seq.{length-take-le, set-at, take-nil, take-suc}
+use lib.Seq.{length-take-le, set-at, take-suc}
 use Rattle.rule.specs.declared.Rule.{Rule}
 use Rattle.page.specs.declared.Opening.{Opening}
 use Rattle.page.specs.Page.{padded}
 use Rattle.batch.specs.declared.Batch.{Batch}
-use Rattle.batch.specs.Batch.{Batched, MOST}
-use Rattle.vetting.specs.Vetted.{Vetted, vetNumbers, vetting}
+use Rattle.batch.specs.Batch.{Batched}
+use Rattle.vetting.specs.Vetted.{Vetted, vetNumbers}
 
 -- one element more is copied
 pub filled : {A : Type 0} (n : ℕ) (z d : A) (us : List A) (i : ℕ) → i < length us → i < n
@@ -27,13 +27,12 @@ filled {A} n z d us i h l =
     ∙ ap (λ (l : List A). l ++ replicate (n - suc i) z) (sym (take-suc us i d h))
     ∙ ap (λ (k : ℕ). take (suc i) us ++ replicate (n - k) z) (sym (length-take-le (suc i) us h))
 
--- of the copy, as many as the list has are those that were looked at
-pub as-looked-at : {A : Type 0} (n : ℕ) (z : A) (us : List A) → take (length us) (padded n z (take n us)) ≡ take n us
-as-looked-at n z [] = sym (take-nil n)
-as-looked-at zero z (u ∷ us) = refl
-as-looked-at {A} (suc n) z (u ∷ us) = simp unary-clauses (ap (λ (l : List A). u ∷ l) (as-looked-at n z us))
+-- the copy begins as the list does
+pub as-read : {A : Type 0} (k n : ℕ) (z : A) (us : List A) → k ≤ n → k ≤ length us → take k (padded n z (take n us)) ≡ take k us
+as-read zero n z us l h = refl
+as-read (suc k) zero z us l h = absurd (omega arith)
+as-read (suc k) (suc n) z [] l h = absurd (omega arith)
+as-read {A} (suc k) (suc n) z (u ∷ us) l h = simp unary-clauses (ap (λ (l : List A). u ∷ l) (as-read k n z us (omega arith) (omega arith)))
 
-pub vetted : {g : Opening} {us : List Rule} {b b′ : List ℕ} (a : Batch) → Batched g (take MOST us) b b′ a
-    → Vetted g us b b′ (vetNumbers a) (a .reply .number)
-unfolding vetting
+pub vetted : {g : Opening} {us : List Rule} {b b′ : List ℕ} (a : Batch) → Batched g us b b′ a → Vetted g us b b′ (vetNumbers a) (a .reply .number)
 vetted a p = record { number = ap (λ (x : Batch). x .reply .number) (p .answers); answer = ap vetNumbers (p .answers); links = p .writes }

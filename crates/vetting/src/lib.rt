@@ -28,7 +28,7 @@ pub fn vet(
     ensures { λ r. ⌜ Vetted (openingOf width edition) (rulesIn (now (rules .entry))) (now (links .entry)) (now (links .exit)) (now (answer .exit)) r ⌝ }
 {
     let first = first_rules(rules);
-    let said = batch::first(
+    let said = batch::beginning(
         handing::opening(width, edition),
         first,
         rules.len(),

@@ -1,14 +1,13 @@
 -- `vet` meets its contract: the batch is handed the rules looked at, and its answer is written down. Assumes nothing.
-use mathlib.Core.Path.{_≡_, sym, ap₂, _∙_}
-use mathlib.Core.List.{List}
-use Prim.Native.Nat.{ℕ}
+use mathlib.Core.Path.{_≡_, ap, _∙_}
 use lib.ListN.{length, take}
-use Rattle.rule.specs.declared.Rule.{Rule}
 use Rattle.accept.specs.Accept.{noRule}
 use Rattle.batch.specs.Batch.{MOST}
+use Rattle.batch.specs.Route.{few}
+use Rattle.batch.proofs.Cut.{few-high, few-low, read-so}
 use Rattle.handing.specs.Handed.{rulesIn}
 use Rattle.handing.proofs.Rows.{as-many}
-use Rattle.vetting.proofs.First.{as-looked-at, vetted}
+use Rattle.vetting.proofs.First.{as-read, vetted}
 use borrow.Author.Needs.{needs}
 use Rattle.vetting.proofs.vet.Statement.{statement}
 use Rattle.vetting.proofs.vet.Tie as tie
@@ -19,8 +18,8 @@ first-rules-requires c κs = search needs
 opening-requires : tie.Need-opening-requires
 opening-requires c κs = search needs
 
-first-requires : tie.Need-first-requires
-first-requires c κs = search needs
+beginning-requires : tie.Need-beginning-requires
+beginning-requires c κs = search needs
 
 same-length : tie.Need-same-length
 same-length c = search needs
@@ -30,12 +29,14 @@ returns c =
     let called = c .before .before .before .before .before in
     let a = called .before .before .before .before .before .args in
     let us = rulesIn (a .rules .now) in
-    let looked : take (length (a .rules .now)) (called .before .before .before .first-rules .result) ≡ take MOST us =
-    ap₂ (λ (n : ℕ) (l : List Rule). take n l) (sym (as-many (a .rules .now))) (called .before .before .before .first-rules .ensures)
-    ∙ as-looked-at MOST noRule us
+    let n = length us in
+    let read = called .before .before .before .first-rules .result in
+    let alike : take (few n) read ≡ take (few n) us =
+    ap (take (few n)) (called .before .before .before .first-rules .ensures) ∙ as-read (few n) MOST noRule us (few-high n) (few-low n)
     in
-    vetted (called .first .result) (rw (← looked, ← called .before .before .opening .ensures) (called .first .ensures))
+    vetted (called .beginning .result)
+    (read-so _ us read alike (rw (as-many (a .rules .now), ← called .before .before .opening .ensures) (called .beginning .ensures)))
 
 pub vet-spec : {M : Type 1} → statement M
 vet-spec =
-    tie.close (tie.spec first-rules-requires opening-requires first-requires same-length returns)
+    tie.close (tie.spec first-rules-requires opening-requires beginning-requires same-length returns)
