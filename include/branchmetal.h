@@ -1,13 +1,17 @@
 /* Branchmetal for C: which words meet a list of rules, and why none does.
  *
  * Link target/staticlib/libbranchmetal.a, which `rt staticlib branchmetal` makes, for Linux on x86-64. It needs nothing but memcpy and
- * memset, keeps nothing between calls, allocates nothing, and may be called from any number of threads at once. docs/LIBRARY.md has more.
+ * memset, keeps nothing between calls and allocates nothing. docs/LIBRARY.md has more.
  *
- * Every function takes any numbers, always returns and, but for blanking, answers 0 or the number of a refusal; docs/FRAMES.md and
- * docs/LIBRARY.md have them. What each one promises is proved, of the numbers. What nobody proves is owed by the caller:
+ * Every function takes any numbers, always returns and, but for blanking, answers 0 or the number of a refusal. Each names its refusals in
+ * the order in which they are looked at: where several apply, the first is given. docs/FRAMES.md and docs/LIBRARY.md say what the numbers
+ * mean. What each function promises is proved, of the numbers. What nobody proves is owed by the caller:
  *   - a pointer points to as many numbers as its type or the length beside it says, and is aligned to 8 bytes. Where the length is 0 the
  *     pointer may be null; no other may;
- *   - what is written (each pointer that is not const) overlaps nothing else that is handed to the same call.
+ *   - what is written (each pointer that is not const) overlaps nothing else that is handed to the same call;
+ *   - while a call runs, no other thread writes what it reads, or reads or writes what it writes. Calls on memory of their own may run in
+ *     any number of threads at once;
+ *   - a call has some tens of kilobytes of stack.
  */
 #ifndef BRANCHMETAL_H
 #define BRANCHMETAL_H
@@ -28,7 +32,8 @@ extern "C" {
 #define BRANCHMETAL_ONE 1
 #define BRANCHMETAL_MANY 2
 
-/* The most rules that a sheet takes. Of a longer list one rule more is looked at, which is refused with 6. */
+/* The most rules that a sheet takes. Of a longer list one rule more is looked at, and it is refused: with 3, 4 or 5 where no sheet takes it,
+ * else with 6. */
 #define BRANCHMETAL_RULES 200
 
 /* A chain has three numbers a link: from, to, and why the words between fail, the number of a rule or BRANCHMETAL_BITS. This many
@@ -45,14 +50,15 @@ typedef struct {
  * sheet takes; 5, a word above the top word. */
 uint64_t branchmetal_meets(uint64_t width, const branchmetal_rule *rule, uint64_t word, uint64_t *meets);
 
-/* In the answers below `place` is the place in the list of the rule that was refused, or else the number of rules looked at. */
+/* In the answers below `place` is the place of the rule that was refused, from 0 on. Where no rule was, it is `count`, the length of the
+ * list: so a 5 for a start that is too large is told from one for a rule. A refusal leaves zeros in the other places. */
 typedef struct {
     uint64_t verdict, smallest, largest, links, place;
 } branchmetal_vetted;
 
 /* Which words meet all rules: none, one or many, with the smallest and the largest of them; for none, the chain that shows it is written
- * to `links`, three numbers a link, and the numbers after it stay as they were. Refused, with zeros and `links` as it was: 2, a width
- * that the edition has not; 3, 4, 5 and 6, a rule; 9, too little room. */
+ * to `links`, three numbers a link, and the numbers after it stay as they were. Refused, with `links` as it was: 2, a width that
+ * the edition has not; 3, 4, 5 and 6, a rule; 9, room for fewer than BRANCHMETAL_ROOM(count) numbers. */
 uint64_t branchmetal_vet(uint64_t width, uint64_t edition, const branchmetal_rule *rules, size_t count, uint64_t *links, size_t room,
                          branchmetal_vetted *answer);
 
@@ -60,7 +66,8 @@ typedef struct {
     uint64_t accepted, place;
 } branchmetal_checked;
 
-/* Whether a chain, whoever made it, shows that no word meets all rules: `accepted` becomes 1 or 0. Refused, with 0: 2, and 3 to 6. */
+/* Whether a chain, whoever made it, shows that no word meets all rules: `accepted` becomes 1 or 0. `numbers` counts numbers, three a link;
+ * none at all, or a number that is no multiple of three, is not accepted. Refused: 2; 3 to 6, a rule. */
 uint64_t branchmetal_check(uint64_t width, uint64_t edition, const branchmetal_rule *rules, size_t count, const uint64_t *links,
                            size_t numbers, branchmetal_checked *answer);
 
@@ -68,7 +75,7 @@ typedef struct {
     uint64_t quotient, remainder, place;
 } branchmetal_counted;
 
-/* How many words meet all rules: quotient * 2^32 + remainder, for a free word of 64 bits has 2^64. Refused, with zeros: 2, and 3 to 6. */
+/* How many words meet all rules: quotient * 2^32 + remainder, for a free word of 64 bits has 2^64. Refused: 2; 3 to 6, a rule. */
 uint64_t branchmetal_count(uint64_t width, uint64_t edition, const branchmetal_rule *rules, size_t count, branchmetal_counted *answer);
 
 typedef struct {
@@ -76,7 +83,7 @@ typedef struct {
 } branchmetal_listed;
 
 /* The words from `start` upward that meet all rules, in rising order and with none left out, as many as `words` has room for; the numbers
- * after them stay as they were. Refused, with 0 and `words` as it was: 2, and 3 to 6; 5, a start above the top word. */
+ * after them stay as they were. Refused, with `words` as it was: 2; 3 to 6, a rule; 5, a start above the top word. */
 uint64_t branchmetal_list(uint64_t width, uint64_t edition, const branchmetal_rule *rules, size_t count, uint64_t start, uint64_t *words,
                           size_t room, branchmetal_listed *answer);
 
@@ -101,9 +108,10 @@ typedef struct {
     uint64_t low, high;
 } branchmetal_interval;
 
-/* The intervals of h, x and y, each cut by what the others say of it; a NOT's y is not read. *empty becomes 1 where a cut is empty, and the
- * intervals then stay as they came, else 0. Refused, with *empty 0 and the intervals as they came: 2, a width outside 1 to 64; 5, a
- * bound above the top word; 15, a low end above the high one. */
+/* The intervals of h, x and y, in this order. That of h is cut to the span from the smallest to the largest result that x and y give. For NOT
+ * and XOR those of x and y are cut in the same way by the inverse operation; for AND and OR they stay. Every cut reads the intervals as
+ * given; a NOT's y is not read. *empty becomes 1 where a cut is empty, and the intervals then stay as they came, else 0. Refused, with
+ * *empty 0 and the intervals as they came: 2, a width outside 1 to 64; 5, a bound above the top word; 15, a low end above the high one. */
 uint64_t branchmetal_join(uint64_t width, uint64_t op, branchmetal_interval words[3], uint64_t *empty);
 
 /* A join of a net: what joins, and the places of h, x and y among its words. */
@@ -111,7 +119,8 @@ typedef struct {
     uint64_t op, h, x, y;
 } branchmetal_joined;
 
-/* How a run of a net ends: with an empty cut; with as many steps in a row as there are joins that changed nothing; or with the steps spent. */
+/* How a run of a net ends: with an empty cut; with as many steps in a row as there are joins that changed nothing; or with the steps spent.
+ * Where a step meets two of these the earlier is answered. A net without joins is steady at 0 steps. */
 #define BRANCHMETAL_EMPTY 0
 #define BRANCHMETAL_STEADY 1
 #define BRANCHMETAL_SPENT 2
@@ -121,8 +130,9 @@ typedef struct {
 } branchmetal_ran;
 
 /* Cuts the intervals of up to 16 words by up to 32 joins, one join a step, in order, round and round, for at most `pay` steps. No assignment
- * inside the given intervals that satisfies all joins is lost. Refused, with zeros and the intervals as they came: 16, too many words or
- * joins, or a join that names a word that is not there (a NOT's y is not read); then 2, 5 and 15, as a join is. */
+ * inside the given intervals that satisfies all joins is lost. `steps` says how many were used; one that ends with an empty cut is counted, and
+ * leaves the intervals from before it. Refused, with zeros and the intervals as they came: 16, too many words or joins, or a join that names
+ * a word that is not there (a NOT's y is not read); then 2, 5 and 15, as a join is. */
 uint64_t branchmetal_net(uint64_t width, branchmetal_interval *words, size_t count, const branchmetal_joined *joins, size_t many, uint64_t pay,
                          branchmetal_ran *answer);
 

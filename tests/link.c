@@ -122,7 +122,7 @@ static void walk(const branchmetal_vetted *vetted, uint64_t counted, uint64_t li
     static uint64_t listed[256];
     branchmetal_listed answer;
     uint64_t fitting = 0;
-    if (branchmetal_list(width, edition, rules, count, 0, listed, 256, &answer) || answer.written != counted)
+    if (branchmetal_list(width, edition, rules, count, 0, listed, 256, &answer) || answer.written != counted || answer.place != count)
         wrong("the listing has not as many words as the count", line);
     for (uint64_t x = 0; x <= top_of(width); x++) {
         uint64_t all = 1;
@@ -140,23 +140,89 @@ static void walk(const branchmetal_vetted *vetted, uint64_t counted, uint64_t li
         wrong("the count is not the number of words that meet all rules", line);
 }
 
+/* Whether the library takes the chain of the sheet, and says so of the whole list. */
+static int taken(size_t numbers, uint64_t line)
+{
+    branchmetal_checked checked = {2, 2};
+    if (branchmetal_check(width, edition, rules, count, links, numbers, &checked) || checked.accepted > 1 || checked.place != count)
+        wrong("the check of a chain is refused, or has another place than the list's length", line);
+    return checked.accepted != 0;
+}
+
+/* A chain is taken, and not one that misses the top word, has a reason that is no rule, or lacks a number. */
+static void check(const branchmetal_vetted *vetted, uint64_t line)
+{
+    size_t numbers = 3 * vetted->links;
+    if (taken(numbers, line) != (vetted->verdict == 0))
+        wrong("the chain is not accepted, or an empty one is", line);
+    if (!numbers)
+        return;
+    links[numbers - 2] -= 1;
+    if (taken(numbers, line))
+        wrong("a chain that misses the top word is accepted", line);
+    links[numbers - 2] += 1;
+    links[2] ^= 128;
+    if (taken(numbers, line))
+        wrong("a chain with a reason that no rule has is accepted", line);
+    links[2] ^= 128;
+    if (taken(numbers - 1, line))
+        wrong("a chain that lacks a number is accepted", line);
+}
+
+/* At any width: what meets the last rule and what fails it are together what the rules before it leave. */
+static void part(const branchmetal_counted *counted, uint64_t line)
+{
+    branchmetal_counted fails, all;
+    uint64_t remainders;
+    if (count == 0 || rules[count - 1].form == 7)
+        return;
+    rules[count - 1].sense ^= 1;
+    if (branchmetal_count(width, edition, rules, count, &fails))
+        wrong("a list whose last rule is turned about is not counted", line);
+    rules[count - 1].sense ^= 1;
+    if (branchmetal_count(width, edition, rules, count - 1, &all) || all.place != count - 1)
+        wrong("a list without its last rule is not counted", line);
+    remainders = counted->remainder + fails.remainder;
+    if (all.remainder != remainders % 4294967296u || all.quotient != counted->quotient + fails.quotient + remainders / 4294967296u)
+        wrong("the words that meet a rule and those that fail it are not all words", line);
+}
+
+/* A width, a rule and a word that are refused: the number, zeros, and the place of the rule, or the list's length. */
+static void refused(uint64_t line)
+{
+    branchmetal_rule none = {9, 0, 0, 0};
+    branchmetal_vetted vetted = {1, 1, 1, 1, 1};
+    branchmetal_checked checked = {1, 1};
+    branchmetal_counted counted = {1, 1, 1};
+    branchmetal_listed listed = {1, 1};
+    uint64_t word = 7, meets = 1;
+    if (branchmetal_vet(0, edition, rules, count, &word, 1, &vetted) != 2 || vetted.place != count || vetted.verdict || word != 7)
+        wrong("vetting at width 0 is not refused with 2 at the list's length", line);
+    if (branchmetal_check(0, edition, rules, count, &word, 1, &checked) != 2 || checked.place != count || checked.accepted)
+        wrong("a check at width 0 is not refused with 2 at the list's length", line);
+    if (branchmetal_count(width, edition, &none, 1, &counted) != 3 || counted.place || counted.quotient || counted.remainder)
+        wrong("a count with form 9 is not refused with 3 at place 0", line);
+    if (branchmetal_list(width, edition, &none, 1, 0, &word, 1, &listed) != 3 || listed.place || listed.written || word != 7)
+        wrong("a listing with form 9 is not refused with 3 at place 0", line);
+    if (width < 64 && (branchmetal_list(width, edition, rules, count, top_of(width) + 1, &word, 1, &listed) != 5 || listed.place != count ||
+                       listed.written || word != 7))
+        wrong("a listing above the top word is not refused with 5 at the list's length", line);
+    if (branchmetal_meets(width, &none, 0, &meets) != 3 || meets)
+        wrong("a word held to form 9 is not refused with 3", line);
+}
+
 /* Holds the chain, the count and the words to a vetted list. */
 static void hold(const branchmetal_vetted *vetted, uint64_t line)
 {
-    branchmetal_checked checked;
     branchmetal_counted counted;
     uint64_t words;
-    size_t numbers = 3 * vetted->links;
-    if (branchmetal_check(width, edition, rules, count, links, numbers, &checked) || checked.accepted != (vetted->verdict == 0))
-        wrong("the chain is not accepted, or an empty one is", line);
-    if (numbers) {
-        links[numbers - 2] -= 1;
-        if (branchmetal_check(width, edition, rules, count, links, numbers, &checked) || checked.accepted)
-            wrong("a chain that misses the top word is accepted", line);
-        links[numbers - 2] += 1;
-    }
+    if (vetted->place != count)
+        wrong("a list that is vetted has another place than its length", line);
+    check(vetted, line);
+    refused(line);
     if (branchmetal_count(width, edition, rules, count, &counted) || counted.place != count)
         wrong("a list that is vetted is not counted", line);
+    part(&counted, line);
     words = counted.quotient > 1 ? 2 : (counted.quotient << 32) + counted.remainder;
     if ((words > 2 ? 2 : words) != vetted->verdict)
         wrong("the count is not the verdict's", line);
@@ -195,9 +261,25 @@ static void adds(const char *digits, int wide)
     rule->c1 = field(&digits, wide);
     rule->c2 = field(&digits, wide);
     number = width == 0 ? 1 : edition != (wide == 16) ? 11 : branchmetal_vet(width, edition, rules, count + 1, links, room, &vetted);
+    if (number >= 3 && number <= 6 && vetted.place != count)
+        wrong("a list whose last rule is refused has another place", count);
     if (!number)
         count++;
     say(number);
+}
+
+/* A list longer than is looked at: refused at its 201st rule, but a width that no sheet has at its length. */
+static void long_list(void)
+{
+    static branchmetal_rule many[BRANCHMETAL_RULES + 100];
+    const size_t all = sizeof many / sizeof many[0];
+    branchmetal_vetted vetted;
+    for (size_t i = 0; i < all; i++)
+        many[i].form = 6;
+    if (branchmetal_vet(8, BRANCHMETAL_OLD, many, all, links, room, &vetted) != 6 || vetted.place != BRANCHMETAL_RULES)
+        wrong("a list that is too long is not refused with 6 at place 200", all);
+    if (branchmetal_vet(33, BRANCHMETAL_OLD, many, all, links, room, &vetted) != 2 || vetted.place != all)
+        wrong("a list that is too long, at width 33, is not refused with 2 at its length", all);
 }
 
 static void asks(uint64_t line)
@@ -246,29 +328,6 @@ static uint64_t joined(uint64_t op, uint64_t x, uint64_t y)
     return op == BRANCHMETAL_NOT ? ~x & 15 : op == BRANCHMETAL_AND ? x & y : op == BRANCHMETAL_OR ? x | y : x ^ y;
 }
 
-/* A join of drawn intervals at width 4: the interval of h, against all pairs of words. */
-static void join(void)
-{
-    branchmetal_interval words[3];
-    uint64_t op = below(4), empty, least = 15, most = 0, high;
-    for (int i = 0; i < 3; i++) {
-        words[i].low = below(16);
-        words[i].high = words[i].low + below(16 - words[i].low);
-    }
-    for (uint64_t x = words[1].low; x <= words[1].high; x++)
-        for (uint64_t y = words[2].low; y <= words[2].high; y++) {
-            uint64_t h = joined(op, x, y);
-            least = h < least ? h : least;
-            most = h > most ? h : most;
-        }
-    least = least > words[0].low ? least : words[0].low;
-    high = most < words[0].high ? most : words[0].high;
-    if (branchmetal_join(4, op, words, &empty))
-        wrong("a join is refused", op);
-    if (least > high ? !empty : !empty && (words[0].low != least || words[0].high != high))
-        wrong("the interval of h is not cut by the results", op);
-}
-
 /* The results that words of two intervals give at width 4: the smallest and the largest. */
 static branchmetal_interval results(uint64_t op, branchmetal_interval x, branchmetal_interval y)
 {
@@ -301,6 +360,30 @@ static int plain_step(branchmetal_interval *words, const branchmetal_joined *joi
     }
     return words[join->h].low > words[join->h].high || words[join->x].low > words[join->x].high ||
            (join->op != BRANCHMETAL_NOT && words[join->y].low > words[join->y].high);
+}
+
+/* A join of drawn intervals at width 4, against all pairs of words: all three intervals, and whether a cut is empty. */
+static void join(void)
+{
+    branchmetal_interval words[3], plain[3], given[3];
+    branchmetal_joined as = {below(4), 0, 1, 2};
+    uint64_t empty = 2, nothing;
+    for (int i = 0; i < 3; i++) {
+        words[i].low = below(16);
+        words[i].high = words[i].low + below(16 - words[i].low);
+    }
+    memcpy(plain, words, sizeof plain);
+    memcpy(given, words, sizeof given);
+    nothing = plain_step(plain, &as);
+    if (branchmetal_join(4, as.op, words, &empty) || empty != nothing)
+        wrong("a join is refused, or its cuts are empty where the results say otherwise", as.op);
+    if (memcmp(words, nothing ? given : plain, sizeof words))
+        wrong("the intervals of a join are not cut by the results", as.op);
+    memcpy(words, given, sizeof words);
+    words[1].low = words[1].high + 1;
+    if (branchmetal_join(4, as.op, words, &empty) != (words[1].low == 16 ? 5 : 15) || empty || words[1].low != given[1].high + 1 ||
+        memcmp(words, given, sizeof words[0]) || memcmp(words + 2, given + 2, sizeof words[2]))
+        wrong("a join whose low end is too large is not refused, or moves", as.op);
 }
 
 /* A net of drawn words at width 4, against the plain rule; some name a word that is not there, or have too many words. */
@@ -358,6 +441,7 @@ static void net(void)
 
 static void answer(void)
 {
+    long_list();
     for (int i = 0; i < 4000; i++) {
         gate();
         join();

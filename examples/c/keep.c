@@ -18,7 +18,7 @@ int main(void)
 {
     static const uint16_t spans[][2] = {{65200, 200}, {500, 800}};
     branchmetal_sheet sheet;
-    branchmetal_shared both;
+    branchmetal_shared both; /* two numbers, since a free word of 64 bits has 2^64 fits; at 16 bits they make one */
     uint64_t refused = branchmetal_sheet_open(&sheet, 16, BRANCHMETAL_OLD);
 
     refused = refused ? refused : branchmetal_sheet_add(&sheet, BRANCHMETAL_OLD, &unsettled);

@@ -1,8 +1,8 @@
 """Can "viewing" and "not yet settled" hold together? The library from Python, to copy, and the question that the desk was built for.
 
 Make a shared object of the archive, and name it:
-    cc -shared -o libbranchmetal.so -Wl,--whole-archive target/staticlib/libbranchmetal.a -Wl,--no-whole-archive
-    python3 examples/python/branchmetal.py ./libbranchmetal.so
+    cc -shared -o target/libbranchmetal.so -Wl,--whole-archive target/staticlib/libbranchmetal.a -Wl,--no-whole-archive
+    python3 examples/python/branchmetal.py target/libbranchmetal.so
 """
 import ctypes
 import sys
@@ -13,6 +13,13 @@ NONE, ONE, MANY = 0, 1, 2
 
 class Refused(Exception):
     """The number of a refusal, and the place of the rule that was refused, or the list's length."""
+
+
+def _number(n):
+    """A number as the library takes it. ctypes would cut one that is larger, or below zero, and say nothing."""
+    if not 0 <= n < 2**64:
+        raise OverflowError(f"{n} is not a number of 64 bits")
+    return n
 
 
 class Library:
@@ -33,14 +40,14 @@ class Library:
 
     @staticmethod
     def _rules(rules):
-        numbers = [number for rule in rules for number in rule]
+        numbers = [_number(n) for form, sense, c1, c2 in rules for n in (form, sense, c1, c2)]
         return (ctypes.c_uint64 * len(numbers))(*numbers), len(rules)
 
     def vet(self, width, edition, rules):
         """The verdict, the smallest and the largest word, and for NONE the links: (from, to, reason)."""
         links = (ctypes.c_uint64 * (3 * (4 * min(len(rules), 200) + 1)))()
         answer = (ctypes.c_uint64 * 5)()
-        number = self._c.branchmetal_vet(width, edition, *self._rules(rules), links, len(links), answer)
+        number = self._c.branchmetal_vet(_number(width), _number(edition), *self._rules(rules), links, len(links), answer)
         verdict, smallest, largest, count, place = answer
         if number:
             raise Refused(number, place)
@@ -49,7 +56,7 @@ class Library:
     def count(self, width, edition, rules):
         """How many words meet all rules."""
         answer = (ctypes.c_uint64 * 3)()
-        number = self._c.branchmetal_count(width, edition, *self._rules(rules), answer)
+        number = self._c.branchmetal_count(_number(width), _number(edition), *self._rules(rules), answer)
         quotient, remainder, place = answer
         if number:
             raise Refused(number, place)
@@ -65,7 +72,7 @@ class Sheet:
 
     def __init__(self, c, width, edition):
         self._c, self._edition, self._numbers = c, edition, (ctypes.c_uint64 * 841)()
-        self._call("open", width, edition)
+        self._call("open", _number(width), _number(edition))
 
     def _call(self, name, *arguments):
         number = getattr(self._c, f"branchmetal_sheet_{name}")(self._numbers, *arguments)
@@ -73,7 +80,7 @@ class Sheet:
             raise Refused(number)
 
     def add(self, form, sense, c1, c2):
-        self._call("add", self._edition, (ctypes.c_uint64 * 4)(form, sense, c1, c2))
+        self._call("add", self._edition, (ctypes.c_uint64 * 4)(*map(_number, (form, sense, c1, c2))))
 
     def mark(self):
         self._call("mark")

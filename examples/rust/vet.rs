@@ -1,5 +1,5 @@
 //! Can "viewing" and "not yet settled" hold together? A safe wrapper of the library in one file, to copy, and the question that the desk
-//! was built for. Build: rustc --edition 2021 -L target/staticlib -l static=branchmetal examples/rust/vet.rs
+//! was built for. Build: rustc --edition 2021 -L target/staticlib -l static=branchmetal -o target/viewing examples/rust/vet.rs
 
 mod branchmetal {
     /// A rule: a form from 1 to 8, a sense (0 as written, 1 negated) and two constants.
@@ -27,12 +27,21 @@ mod branchmetal {
         Many { smallest: u64, largest: u64 },
     }
 
-    /// The number of a refusal, and the place of the rule that was refused, or the list's length; of a kept sheet, 0.
+    /// The number of a refusal, and of a list the place of the rule that was refused, or the list's length.
     #[derive(Debug)]
     pub struct Refused {
         pub number: u64,
-        pub place: u64,
+        pub place: Option<u64>,
     }
+
+    impl std::fmt::Display for Refused {
+        fn fmt(&self, f: &mut std::fmt::Formatter) -> std::fmt::Result {
+            write!(f, "refused with {}", self.number)?;
+            self.place.map_or(Ok(()), |place| write!(f, " at place {place} of the list"))
+        }
+    }
+
+    impl std::error::Error for Refused {}
 
     #[repr(C)]
     #[derive(Default)]
@@ -82,7 +91,7 @@ mod branchmetal {
             (0, 0) => Ok(Verdict::None(links.chunks_exact(3).take(answer.links as usize).map(|l| [l[0], l[1], l[2]]).collect())),
             (0, 1) => Ok(Verdict::One(answer.smallest)),
             (0, _) => Ok(Verdict::Many { smallest: answer.smallest, largest: answer.largest }),
-            (number, _) => Err(Refused { number, place: answer.place }),
+            (number, _) => Err(Refused { number, place: Some(answer.place) }),
         }
     }
 
@@ -91,7 +100,7 @@ mod branchmetal {
         // As above.
         match unsafe { branchmetal_count(width, edition as u64, rules.as_ptr(), rules.len(), &mut answer) } {
             0 => Ok((u128::from(answer.quotient) << 32) + u128::from(answer.remainder)),
-            number => Err(Refused { number, place: answer.place }),
+            number => Err(Refused { number, place: Some(answer.place) }),
         }
     }
 
@@ -106,7 +115,7 @@ mod branchmetal {
         if number == 0 {
             Ok(())
         } else {
-            Err(Refused { number, place: 0 })
+            Err(Refused { number, place: None })
         }
     }
 
@@ -163,7 +172,7 @@ fn ask() -> Result<(), Refused> {
 
 fn main() {
     if let Err(refused) = ask() {
-        eprintln!("refused with {} at rule {}", refused.number, refused.place);
+        eprintln!("{refused}");
         std::process::exit(1);
     }
 }
