@@ -4,11 +4,12 @@
 # own; what it says on standard error, or how it died, is its failure.
 : "${name:?}" "${tools:?}"
 
-# A descriptor that is closed becomes one that fails in the same way, so that nothing opened later takes its number.
+# A descriptor that is closed becomes one that fails in the same way, so that nothing opened later takes its number. What is said to a closed
+# standard error is lost, and is no failure more.
 stand() {
     (: 3<&0) 2>/dev/null || exec 0>/dev/null
     (: 3>&1) 2>/dev/null || exec 1</dev/null
-    (: 3>&2) 2>/dev/null || exec 2>/dev/null
+    (: 3>&2) || exec 2>/dev/null
 }
 
 # Programs are compiled for x86-64; for another processor the kit has an emulator.
