@@ -42,7 +42,7 @@ died() { # STATUS
 # Passes on what the command says. A reader with more statuses than 0 and 1 declares this anew.
 told() {
     status=0
-    while IFS= read -r line; do
+    while IFS= read -r line || [ -n "$line" ]; do
         printf '%s\n' "$line" >&2 || :
         status=1
     done
