@@ -1,11 +1,11 @@
 /* Branchmetal for C: which words meet a list of rules, and why none does.
  *
  * Link target/staticlib/libbranchmetal.a, which `rt staticlib branchmetal` makes, for Linux on x86-64. It needs nothing but memcpy and
- * memset, keeps nothing between calls and allocates nothing. docs/LIBRARY.md has more.
+ * memset, keeps nothing between calls and allocates nothing. In the tree docs/LIBRARY.md has more.
  *
  * Every function takes any numbers, always returns and, but for blanking, answers 0 or the number of a refusal. Each names its refusals in
- * the order in which they are looked at: where several apply, the first is given. docs/FRAMES.md and docs/LIBRARY.md say what the numbers
- * mean. What each function promises is proved, of the numbers. What nobody proves is owed by the caller:
+ * the order in which they are looked at: where several apply, the first is given. In the tree docs/FRAMES.md says what each number
+ * means. What each function promises is proved, of the numbers. What nobody proves is owed by the caller:
  *   - a pointer points to as many numbers as its type or the length beside it says, and is aligned to 8 bytes. Where the length is 0 the
  *     pointer may be null; no other may;
  *   - what is written (each pointer that is not const) overlaps nothing else that is handed to the same call;
@@ -41,7 +41,9 @@ extern "C" {
 #define BRANCHMETAL_ROOM(n) (3 * (4 * (size_t)(n) + 1))
 #define BRANCHMETAL_BITS 255
 
-/* A rule: a form from 1 to 8, a sense (0 as written, 1 negated) and two constants. docs/FRAMES.md has the table of the forms. */
+/* A rule: a form from 1 to 8, a sense (0 as written, 1 negated) and two constants. Sums are modulo 2^width, and s() reads a word as a signed
+ * number: 1, c1 + x <= c2 + x; 2, c1 <= c2 + x; 3, c1 + x <= c2; 4, s(x) <= s(c1); 5, s(c1) <= s(x); 6, x = c1; 7, x AND c1 = c2, sense 0
+ * alone; 8, settled: c2 <= x - c1 and x - c1 < 2^(width - 1). Forms 4, 5 and 6 have c2 0. */
 typedef struct {
     uint64_t form, sense, c1, c2;
 } branchmetal_rule;
