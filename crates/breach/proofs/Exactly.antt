@@ -1,9 +1,9 @@
 -- Nothing is found just where the check says yes: clauses that all hold are links that cover the wheel, one after another, and so
 -- the other way round. By induction on the links. Assumes nothing.
 use mathlib.Core.Path.{_≡_, refl, sym, ap, ap₂, _∙_, subst}
-use mathlib.Core.Bool.{Bool, true, false, false≢true, not, _&&_, _||_}
-use mathlib.Core.List.{List, [], _∷_, _++_}
-use Prim.Native.Nat.{ℕ, suc, max, _%_, _≤_, _<_}
+use mathlib.Core.Bool.{Bool, true, false, not, _&&_, _||_}
+use mathlib.Core.List.{List, [], _∷_}
+use Prim.Native.Nat.{ℕ, suc, max, _≤_}
 use native.Mathlib.Decide.{ℕ-discrete}
 use native.Mathlib.Omega.{arith}
 use borrow.Author.Tests.{eq-eqb, eqb-true, le-leb, leb-true, ltb-true, ne-eqb}
@@ -19,12 +19,12 @@ use Rattle.chain.specs.declared.Link.{Link}
 use Rattle.chain.specs.Chain.{Covers}
 use Rattle.chain.specs.Chain.Covers.{end, on}
 use Rattle.chain.specs.Links.{BITS, nth}
-use Rattle.covering.specs.Check.{linksIn, namesBits, namesRule, rightReason, shown, shownBy}
+use Rattle.covering.specs.Check.{namesBits, namesRule, rightReason, shown}
 use Rattle.covering.specs.Route.{covered}
 use Rattle.covering.proofs.Covering.{covers-shown, shown-covers, shows-is, shows-order, shows-reason}
 use Rattle.covering.proofs.EveryWord.{misses}
 use Rattle.covering.proofs.Midway.{covered-none, covered-some}
-use Rattle.finding.specs.Clauses.{Clause, firstBroken, isYes, lieClauses, listClauses, reasonClauses}
+use Rattle.finding.specs.Clauses.{firstBroken, isYes, lieClauses, listClauses, reasonClauses}
 use Rattle.finding.specs.First.{allHold}
 use Rattle.finding.proofs.Broken.{telling, yes-all}
 

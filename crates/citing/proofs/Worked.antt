@@ -1,6 +1,6 @@
 -- What the definition says of the table's lines, by computing. Assumes nothing.
 use mathlib.Core.Path.{_≡_, refl}
-use mathlib.Core.List.{List, map}
+use mathlib.Core.List.{map}
 use Rattle.word.specs.Edition.{terms}
 use Rattle.hex.specs.Hex.{allDigits, isDigit, number, numberFrom, value}
 use Rattle.hex.specs.Text.{bytesOf}

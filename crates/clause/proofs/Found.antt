@@ -1,22 +1,19 @@
 -- What is found of a record that is laid out: where it is no sheet or blank, or the list empty or no whole links, the check says no, and
 -- else both are said of the links. Assumes nothing.
 use mathlib.Core.Path.{_≡_, refl, sym, ap, _∙_}
-use mathlib.Core.Bool.{Bool, true, false, not, _&&_, and-false, cond}
+use mathlib.Core.Bool.{Bool, true, false, not, _&&_, cond}
 use mathlib.Core.List.{List}
-use Prim.Native.Nat.{ℕ, _%_, _≤_}
+use Prim.Native.Nat.{ℕ, _%_}
 use native.Mathlib.Omega.{arith}
 use borrow.Author.Tests.{eq-eqb, ne-eqb}
 use lib.Dec.{eqb}
 use lib.ListN.{length, length-map, take}
 use lib.Seq.{length-take-le}
-use Rattle.word.specs.Word.{top}
 use Rattle.word.proofs.Widths.{half-pos, halves}
-use Rattle.rule.specs.declared.Rule.{Rule}
 use Rattle.slate.specs.declared.Head.{Head}
 use Rattle.slate.specs.Held.{Held}
 use Rattle.sheet.specs.declared.Sheet.{Sheet}
 use Rattle.sheet.specs.Held.{packed}
-use Rattle.sheet.specs.Shape.{isSheet}
 use Rattle.sheet.proofs.Holding.{packed-told}
 use Rattle.rows.specs.Rows.{ruleIn, rulesIn}
 use Rattle.covering.specs.Check.{linksIn, shown, shownBy}

@@ -4,7 +4,7 @@ use mathlib.Core.List.{List, [], _∷_}
 use Prim.Native.Nat.{ℕ}
 use Rattle.word.specs.declared.Edition.{Edition}
 use Rattle.rule.specs.Meaning.{rule}
-use Rattle.page.specs.Page.{Entry, a-rule, at-width, newPage, page, withEntries}
+use Rattle.page.specs.Page.{a-rule, at-width, newPage, page, withEntries}
 use Rattle.sheet.specs.declared.Sheet.{Sheet}
 use Rattle.sheet.specs.Record.{blank, fresh}
 use Rattle.finding.specs.declared.Finding.{Finding}

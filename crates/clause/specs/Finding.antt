@@ -1,7 +1,7 @@
 -- What is found of a record and a list of numbers: the first clause that does not hold, those on the record and on the list before
 -- those on its links (02, K3).
 use mathlib.Core.Bool.{not}
-use mathlib.Core.List.{List, [], _∷_, _++_}
+use mathlib.Core.List.{List, _∷_}
 use Prim.Native.Nat.{ℕ, _%_}
 use lib.Dec.{eqb}
 use lib.ListN.{length, take}

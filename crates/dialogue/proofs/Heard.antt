@@ -2,7 +2,7 @@
 -- its own statement, and a dialogue that stopped stays as it is. Assumes nothing.
 use mathlib.Core.Path.{_≡_, refl, ap, ap₂, _∙_}
 use mathlib.Core.Bool.{Bool, true, false, cond}
-use mathlib.Core.List.{List, [], _∷_}
+use mathlib.Core.List.{List, _∷_}
 use Prim.Native.Nat.{ℕ}
 use lib.ListN.{length, replicate}
 use Rattle.page.specs.Page.{Page, no-page}
@@ -12,10 +12,8 @@ use Rattle.line.specs.declared.Statement.{Statement}
 use Rattle.upshot.specs.declared.Response.{Response}
 use Rattle.upshot.specs.declared.Response.the-variants.{Silent}
 use Rattle.upshot.specs.declared.Upshot.{Upshot}
-use Rattle.saying.specs.Says.{Lent}
 use Rattle.dialogue.specs.declared.Dialogue.{Dialogue}
-use Rattle.dialogue.specs.declared.Taken.{Taken}
-use Rattle.dialogue.specs.Takes.{Takes, upshotOf}
+use Rattle.dialogue.specs.Takes.{upshotOf}
 use Rattle.dialogue.specs.Heard.{Heard, all, answerOn, answersTo, ending, next, pageAfter, pageOn}
 use Rattle.dialogue.proofs.OnPage.{Answered, on-a-page, reached-on}
 use Rattle.dialogue.proofs.Said.{takes-says, takes-silent}

@@ -1,6 +1,6 @@
 -- On the sheet of a page a statement is answered what the page says, since its call is: each call's statement gives its outcome there.
 -- Assumes nothing.
-use mathlib.Core.Path.{_≡_, refl, sym, ap, ap₂, _∙_, subst}
+use mathlib.Core.Path.{_≡_, refl, sym, ap, _∙_}
 use mathlib.Core.Bool.{Bool, true, false, cond}
 use mathlib.Core.List.{List}
 use Prim.Native.Nat.{ℕ}
@@ -10,7 +10,7 @@ use Rattle.word.specs.declared.Edition.the-variants.{New}
 use Rattle.rule.specs.Meaning.{RULES}
 use Rattle.chain.specs.Links.{chainRoom}
 use Rattle.page.specs.Calls.{Call, add, after, back, firstThatApplies, forward, isBlank, mark, open-at, refusal, set-gate}
-use Rattle.page.specs.Page.{Page, at-width, no-page, page}
+use Rattle.page.specs.Page.{Page, at-width}
 use Rattle.page.specs.Reached.{Reached, start}
 use Rattle.page.proofs.Replayed.{after-reached}
 use Rattle.sheet.specs.declared.Answer.{Answer}
@@ -22,7 +22,7 @@ use Rattle.sheet.specs.Statements.{reply}
 use Rattle.sheet.proofs.OnePage.{one-page}
 use Rattle.demands.proofs.Demand.{outcome-on}
 use Rattle.counting.specs.declared.Share.{Share}
-use Rattle.counting.specs.Counted.{countGrounds, shareOf}
+use Rattle.counting.specs.Counted.{countGrounds}
 use Rattle.listing.specs.declared.Listing.{Listing}
 use Rattle.listing.specs.Listed.{listNumber, listOn, listings}
 use Rattle.blaming.specs.Blamed.{failedOn, whyNumber}

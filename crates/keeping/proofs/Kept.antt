@@ -1,22 +1,21 @@
 -- Numbers that are a sheet's, and the record that they are read as: what was written is read again, since each number has its place; and what
 -- is read as a sheet is what that sheet is written as, since an edition's number that is none leaves the new edition without a width,
 -- which no page has. Assumes nothing.
-use mathlib.Core.Path.{_≡_, refl, sym, ap, ap₂, _∙_, subst}
+use mathlib.Core.Path.{_≡_, refl, sym, ap, _∙_}
 use mathlib.Core.Bool.{Bool, true, false, cond}
 use mathlib.Core.List.{List, [], _∷_, _++_}
-use Prim.Native.Nat.{ℕ, zero, suc, _+_, _*_, _≤_, _<_}
+use Prim.Native.Nat.{ℕ, zero, suc, _*_, _≤_, _<_}
 use native.Mathlib.Decide.{ℕ-discrete}
 use native.Mathlib.Omega.{arith}
 use borrow.Author.Tests.{le-ltb, ltb-false, ltb-true, ne-eqb}
 use lib.Dec.{eqb, ltb}
-use lib.ListN.{drop, getD, length, length-append, length-drop, length-take, take, take-append-drop}
+use lib.ListN.{drop, getD, length, length-append, length-drop, take, take-append-drop}
 use lib.Seq.{drop-at, drop-cons, drop-drop, take-at}
 use Rattle.word.specs.declared.Edition.{Edition}
 use Rattle.word.specs.declared.Edition.the-variants.{New, Old}
 use Rattle.rule.specs.declared.Rule.{Rule}
 use Rattle.rule.specs.Meaning.{RULES}
-use Rattle.verdict.specs.declared.Kept.{Kept}
-use Rattle.page.specs.Page.{MARKS, OpenPage, Page, no-page, page}
+use Rattle.page.specs.Page.{MARKS, Page, no-page, page}
 use Rattle.page.specs.Reached.{Reached}
 use Rattle.page.proofs.Lawful.{LawfulPage, reached-lawful, reached-page}
 use Rattle.sheet.specs.declared.Sheet.{Sheet}
@@ -24,9 +23,9 @@ use Rattle.sheet.specs.Record.{fresh}
 use Rattle.sheet.specs.Statements.{IsSheet}
 use Rattle.sheet.proofs.Fresh.{given}
 use Rattle.sheet.proofs.Tested.{sheet-dec}
-use Rattle.handing.specs.Handed.{editionOf, ruleIn}
-use Rattle.keeping.specs.Numbers.{HEAD, IsKept, NUMBERS, RULES-AT, flat, headOf, numberOf, numbersOf}
-use Rattle.keeping.specs.Reading.{marksIn, openingIn, rulesFrom, rulesIn, sheetIn}
+use Rattle.handing.specs.Handed.{editionOf}
+use Rattle.keeping.specs.Numbers.{HEAD, IsKept, NUMBERS, RULES-AT, flat, numberOf, numbersOf}
+use Rattle.keeping.specs.Reading.{marksIn, rulesFrom, rulesIn, sheetIn}
 
 -- ---- rules, four numbers each
 

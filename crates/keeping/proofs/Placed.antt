@@ -1,6 +1,6 @@
 -- Where the numbers of a sheet lie: a rule's four after those of the rules before it, and what is put one after the other in its place is
 -- there when all is put. By where each store and each read falls. Assumes nothing.
-use mathlib.Core.Path.{_≡_, refl, sym, ap, ap₂, _∙_}
+use mathlib.Core.Path.{_≡_, refl, sym, ap, _∙_}
 use mathlib.Core.List.{List, [], _∷_, _++_, append-assoc}
 use Prim.Native.Nat.{ℕ, zero, suc, _+_, _*_, _≤_, _<_}
 use native.Mathlib.Omega.{arith}

@@ -1,8 +1,8 @@
 -- A line as people write it, read into a statement, or into its first mistake.
-use mathlib.Core.Bool.{Bool, true, false, not, _&&_, _||_, cond}
+use mathlib.Core.Bool.{Bool, false, _&&_, _||_, cond}
 use mathlib.Core.List.{List, [], _∷_}
 use Prim.Native.Nat.{ℕ, _-_}
-use lib.Dec.{eqb, leb, ltb}
+use lib.Dec.{eqb, ltb}
 use lib.ListN.{getD, length}
 use Rattle.word.specs.declared.Found.{Found}
 use Rattle.word.specs.declared.Found.the-variants.{At, Nothing}

@@ -1,8 +1,8 @@
 -- Numbers as people write them: `9`, `0x1f`, `0b101`, `-3`, `5.5`. They are taken letter by letter, so that a line is read once.
 use mathlib.Core.Bool.{Bool, true, false, not, _&&_, cond}
 use mathlib.Core.List.{List, [], _∷_}
-use Prim.Native.Nat.{ℕ, zero, suc, _+_, _-_, _*_, _^_}
-use lib.Dec.{eqb, leb, ltb}
+use Prim.Native.Nat.{ℕ, _+_, _-_, _*_, _^_}
+use lib.Dec.{eqb, leb}
 use Rattle.numeral.specs.declared.Numeral.{Numeral}
 
 -- how far a number has come: nothing is read; a lone 0, which the letter of a base may follow; digits; what wants a digit after

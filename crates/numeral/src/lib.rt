@@ -2,7 +2,7 @@
 mod digits;
 
 ghost use mathlib.Core.Path.{_≡_};
-ghost use Prim.Native.Nat.{_<_, _≤_};
+ghost use Prim.Native.Nat.{_<_};
 ghost use Rattle.numeral.specs.Numeral.{PLACES, afterZero, belowZero, digit, inBase, next, pastDigit, pastPlace, pointed, start, stopped, valueOf};
 pub use digits::put_digits;
 

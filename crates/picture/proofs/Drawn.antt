@@ -29,7 +29,6 @@ use Rattle.sheet.specs.declared.Sheet.{Sheet}
 use Rattle.sheet.specs.Held.{packed}
 use Rattle.sheet.proofs.Holding.{packed-told}
 use Rattle.covering.proofs.EveryWord.{every-same}
-use Rattle.shade.specs.declared.Cell.{Cell}
 use Rattle.shade.specs.declared.Cell.the-variants.{Fails, Meets, Nowhere, Partly}
 use Rattle.shade.specs.Cell.{cellOf}
 use Rattle.column.specs.Column.{columns}

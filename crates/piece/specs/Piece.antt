@@ -1,5 +1,5 @@
 -- The words of a line, one after another: letters of one class in a row are one word, as in a sheet (`token: Token`).
-use mathlib.Core.Bool.{Bool, false, not, _&&_, _||_, cond}
+use mathlib.Core.Bool.{Bool, false, not, _&&_, cond}
 use mathlib.Core.List.{List, [], _∷_}
 use Prim.Native.Nat.{ℕ, suc}
 use lib.Dec.{eqb}

@@ -12,7 +12,7 @@ use Rattle.word.specs.declared.Found.the-variants.{At, Nothing}
 use Rattle.word.specs.Search.{climb, first}
 use Rattle.word.proofs.Climb.{all-miss, climb-is}
 use Rattle.word.proofs.Search.{first-at, first-none}
-use Rattle.word.proofs.Searched.{First, first-is, first-nothing}
+use Rattle.word.proofs.Searched.{first-is, first-nothing}
 use Rattle.chain.specs.declared.Link.{Link}
 use Rattle.covering.proofs.EveryWord.{misses, next-after, none-after}
 use Rattle.finding.specs.Clauses.{smallest, theWord}

@@ -1,9 +1,9 @@
 -- The clauses on the reason of a link, case by case: each test of the code decides one of them, and those before it hold. The band of a rule
 -- outside form 7 holds just the words that meet it, and the fixed bits are had by just the words that meet all form 7 rules.
 -- Assumes nothing.
-use mathlib.Core.Path.{_≡_, refl, sym, ap, ap₂, _∙_}
+use mathlib.Core.Path.{_≡_, refl, sym, ap, _∙_}
 use mathlib.Core.Bool.{Bool, true, false, not, _||_, cond}
-use mathlib.Core.List.{List, [], _∷_}
+use mathlib.Core.List.{List}
 use Prim.Native.Nat.{ℕ, suc, _-_, _≤_, _<_}
 use native.Mathlib.Omega.{arith}
 use lib.Dec.{eqb, ltb}
@@ -14,7 +14,7 @@ use Rattle.word.specs.Word.{top}
 use Rattle.word.specs.Search.{first}
 use Rattle.word.proofs.Search.{first-same}
 use Rattle.rule.specs.declared.Rule.{Rule}
-use Rattle.rule.specs.Meaning.{AllLawful, Lawful, meets, meets7}
+use Rattle.rule.specs.Meaning.{AllLawful, meets, meets7}
 use Rattle.band.specs.Band.{bandOf, holds}
 use Rattle.band.proofs.Law.{band-law}
 use Rattle.bits.specs.Fixed.{fixedBits, hasBits}

@@ -11,12 +11,11 @@ use lib.Dec.{eqb, leb, ltb}
 use lib.IntN.{ℤ, pos, negsuc}
 use lib.Signed.{leZ}
 use Rattle.word.specs.Word.{half, minus, plus, signed, top}
-use Rattle.word.specs.declared.Found.{Found}
 use Rattle.word.specs.declared.Found.the-variants.{At, Nothing}
 use Rattle.word.proofs.Signed.{high, low}
 use Rattle.word.proofs.Sums.{minus-cases, plus-cases}
 use Rattle.word.proofs.Widths.{half-pos, halves}
-use Rattle.rule.specs.Meaning.{meets, rows, rule, written}
+use Rattle.rule.specs.Meaning.{meets, rows, written}
 use Rattle.accept.proofs.Choices.{above}
 use Rattle.row_rules.specs.Rules.{ruleAt, signedWord}
 

@@ -1,14 +1,11 @@
 -- Rows whose bands are drawn have the rules that they had, and the bands of those rules; a rule read past what is drawn is as it was.
 -- Assumes nothing.
-use mathlib.Core.Path.{_≡_, refl, sym, ap, ap₂, _∙_}
-use mathlib.Core.List.{List, [], _∷_, map, _++_}
-use Prim.Native.Nat.{ℕ, zero, suc, _≤_}
-use native.Mathlib.Omega.{arith}
+use mathlib.Core.Path.{_≡_, refl, ap, ap₂}
+use mathlib.Core.List.{List, [], _∷_, map}
+use Prim.Native.Nat.{ℕ, zero, suc}
 use lib.ListN.{length, take}
-use Rattle.rule.specs.declared.Rule.{Rule}
-use Rattle.band.specs.declared.Band.{Band}
 use Rattle.band.specs.Band.{bandOf}
-use Rattle.rows.specs.Rows.{bandIn, bandsIn, drawn, drawnRow, ruleIn, rulesIn}
+use Rattle.rows.specs.Rows.{bandsIn, drawn, drawnRow, ruleIn, rulesIn}
 use Rattle.rows.proofs.Reading.{band-of, rule-of}
 
 module _ (w : ℕ) where

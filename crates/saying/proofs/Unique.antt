@@ -3,7 +3,7 @@ use mathlib.Core.Path.{_≡_, refl, sym, ap, ap₂, _∙_}
 use Prim.Native.Nat.{ℕ}
 use native.Mathlib.Omega.{arith}
 use Rattle.page.specs.Calls.{Call, add, back, forward, mark, open-at, set-gate}
-use Rattle.page.specs.Page.{Page, no-page, page}
+use Rattle.page.specs.Page.{no-page, page}
 use Rattle.page.specs.Reached.{start}
 use Rattle.word.specs.declared.Edition.the-variants.{New}
 use Rattle.page.specs.Page.{at-width}

@@ -1,7 +1,7 @@
 -- A stretch of words: where the first that passes comes after it every word fails, and where the section that begins it is held as far
 -- every word passes just where every word has the bits. Assumes nothing.
 use mathlib.Core.Path.{_≡_, refl, sym, ap, ap₂, _∙_}
-use mathlib.Core.Bool.{Bool, true, false, false≢true, not, _&&_, cond}
+use mathlib.Core.Bool.{Bool, true, false, false≢true, cond}
 use mathlib.Core.List.{List}
 use mathlib.Core.Logic.{_⊎_, inl, inr}
 use Prim.Native.Nat.{ℕ, suc, _-_, _≤_, _<_}
@@ -23,7 +23,6 @@ use Rattle.section.specs.Sides.{someFails}
 use Rattle.section.proofs.Alike.{held-passes, held-section, section-alike}
 use Rattle.covering.specs.Check.{everyWord}
 use Rattle.covering.proofs.EveryWord.{every-each, every-same, misses, next-after, none-after}
-use Rattle.shade.specs.declared.Cell.{Cell}
 use Rattle.shade.specs.declared.Cell.the-variants.{Fails, Meets, Partly}
 use Rattle.shade.specs.Cell.{cellOf}
 

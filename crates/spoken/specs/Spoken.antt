@@ -1,7 +1,7 @@
 -- Statements on the clerk's pages, each with the name of its rule, none of which is a mistake or is refused.
 use mathlib.Core.Path.{_≡_}
 use mathlib.Core.Bool.{true, false}
-use mathlib.Core.List.{List, []}
+use mathlib.Core.List.{List}
 use Prim.Native.Nat.{ℕ, _≤_}
 use lib.ListN.{length}
 use Rattle.page.specs.Calls.{rulesOf}

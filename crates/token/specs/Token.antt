@@ -1,5 +1,5 @@
 -- What a line is made of, letter by letter: letters of one class in a row are one token.
-use mathlib.Core.Bool.{Bool, true, false, _&&_, _||_, cond}
+use mathlib.Core.Bool.{Bool, _&&_, _||_, cond}
 use Prim.Native.Nat.{ℕ, _+_, _*_, _^_}
 use lib.Dec.{eqb, leb, ltb}
 use Rattle.numeral.specs.declared.Numeral.{Numeral}

@@ -7,7 +7,6 @@ mod tell;
 
 ghost use Prim.Native.Nat.{_≤_};
 ghost use lib.ListN.{length};
-ghost use Rattle.word.specs.Word.{IsWidth};
 use libc::STDIN_FILENO;
 use tell::tell;
 use word::Width;

@@ -1,11 +1,10 @@
 -- `lab_says` meets its contract: each word stands where the one before it ends. Assumes nothing.
-use mathlib.Core.Path.{_≡_, ap, _∙_}
+use mathlib.Core.Path.{_≡_, _∙_}
 use mathlib.Core.List.{List}
 use Prim.Native.Nat.{ℕ}
 use borrow.Author.Needs.{needs}
 use Rattle.piece.specs.declared.Piece.{Piece}
 use Rattle.piece.specs.Piece.{wordAt}
-use Rattle.citing.specs.declared.Citation.{Citation}
 use Rattle.citing.specs.Citation.{labSays, said}
 use Rattle.citing.proofs.lab_says.Statement.{statement}
 use Rattle.citing.proofs.lab_says.Tie as tie

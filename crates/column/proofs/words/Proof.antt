@@ -1,10 +1,9 @@
 -- `words` meets its contract: a column is as many words as it has, from its number times as many on, and none is above the top word.
 -- Assumes nothing.
-use mathlib.Core.Path.{_≡_, refl, sym, ap, _∙_}
+use mathlib.Core.Path.{_≡_, ap}
 use Prim.Native.Nat.{ℕ, _+_, _-_, _*_, _≤_}
 use native.Mathlib.Omega.{arith}
 use borrow.Author.Needs.{needs}
-use Rattle.band.specs.declared.Run.{Run}
 use Rattle.word.specs.Word.{top}
 use Rattle.column.specs.Column.{size, wordsOf}
 use Rattle.column.proofs.Columns.{column-words, some-words, top-fits}

@@ -1,6 +1,5 @@
 -- `free` meets its contract: no bit is fixed where the mask is 0. Assumes nothing.
-use mathlib.Core.Path.{_≡_, sym, ap, _∙_}
-use mathlib.Core.Bool.{Bool, false}
+use mathlib.Core.Path.{sym, ap}
 use borrow.Author.Needs.{needs}
 use Rattle.filling.specs.Put.{isFree}
 use Rattle.filling.proofs.free.Statement.{statement}

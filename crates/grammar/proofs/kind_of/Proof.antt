@@ -1,8 +1,7 @@
 -- `kind_of` meets its contract: the table is the texts, packed, and a place in it is a kind. Assumes nothing.
 use native.Mathlib.Omega.{arith}
-use mathlib.Core.Path.{_≡_, ap, sym, _∙_}
+use mathlib.Core.Path.{_≡_}
 use mathlib.Core.List.{map}
-use Prim.Native.Nat.{ℕ, _+_, _<_, _≤_}
 use borrow.Author.Tests.{le-ltb, lt-ltb}
 use Rattle.grammar.specs.Grammar.{find, kindOf}
 use Rattle.grammar.specs.Kinds.{packedFrom, texts}

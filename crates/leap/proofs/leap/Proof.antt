@@ -1,15 +1,13 @@
 -- `leap` meets its contract. The loop's invariant: no word from the start to p passes, whatever the order. The measure is the places left.
 -- Assumes nothing.
-use mathlib.Core.Path.{_≡_, sym, subst}
+use mathlib.Core.Path.{sym, subst}
 use mathlib.Core.List.{List}
-use Prim.Native.Nat.{ℕ, suc, _-_, _≤_, _<_}
-use native.Mathlib.Decide.{decLt}
+use Prim.Native.Nat.{ℕ, _-_, _≤_}
 use native.Mathlib.Omega.{arith}
 use borrow.Author.Needs.{needs}
 use lib.ListN.{take}
 use Rattle.word.specs.Word.{top}
 use Rattle.band.specs.declared.Band.{Band}
-use Rattle.bits.specs.declared.Fixed.{Fixed}
 use Rattle.rows.specs.Bands.{Lie, allSeen}
 use Rattle.rows.specs.Rows.{bandsIn}
 use Rattle.leap.specs.Leapt.{NoneFrom}

@@ -1,15 +1,14 @@
 -- `past` meets its contract: no word is passed that has the bits and that the band holds. Assumes nothing.
 use mathlib.Core.Path.{_≡_, sym, ap, _∙_, subst}
-use mathlib.Core.Bool.{true, false}
+use mathlib.Core.Bool.{false}
 use mathlib.Core.List.{List}
 use Prim.Native.Nat.{ℕ, suc, _+_, _-_, _≤_, _<_}
 use native.Mathlib.Omega.{arith}
 use borrow.Author.Needs.{needs}
-use borrow.Author.Tests.{not-true}
 use lib.ListN.{getD, length, take}
 use lib.Seq.{getD-take, length-take-le}
 use Rattle.word.specs.Word.{top}
-use Rattle.word.specs.Search.{climb, first}
+use Rattle.word.specs.Search.{climb}
 use Rattle.word.proofs.Searched.{First, first-is}
 use Rattle.band.specs.declared.Band.{Band}
 use Rattle.band.specs.Band.{Laid, holds}
@@ -17,7 +16,7 @@ use Rattle.bits.specs.Fixed.{hasBits}
 use Rattle.rows.specs.Bands.{allSeen, blankBand, seen}
 use Rattle.rows.specs.Rows.{bandsIn}
 use Rattle.rows.proofs.Reading.{laid-take, seen-at, seen-laid, seen-length}
-use Rattle.leap.specs.Leapt.{Leapt, NoneFrom}
+use Rattle.leap.specs.Leapt.{NoneFrom}
 use Rattle.leap.proofs.Steps.{leapt-out, leapt-to, past-all, past-next, past-run, run-range}
 use Rattle.leap.proofs.past.Statement.{statement}
 use Rattle.leap.proofs.past.Tie as tie

@@ -3,7 +3,7 @@ use native.Mathlib.Omega.{arith}
 use mathlib.Core.Path.{_≡_, ap, sym}
 use Prim.Native.Nat.{ℕ, suc, _-_, _≤_}
 use native.Mathlib.Decide.{decLe, ℕ-discrete}
-use lib.ListN.{List·getD-eq-default, getD}
+use lib.ListN.{List·getD-eq-default}
 use Rattle.scan.specs.declared.Amount.{Amount}
 use Rattle.line.specs.declared.Statement.the-variants.{Blank}
 use Rattle.line.specs.Line.{other, others}

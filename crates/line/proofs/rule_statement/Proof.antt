@@ -1,6 +1,6 @@
 -- `rule_statement` meets its contract: the row picks the case, and a signed number has a word or none. Assumes nothing.
 use native.Mathlib.Omega.{arith}
-use mathlib.Core.Path.{_≡_, ap, sym, _∙_}
+use mathlib.Core.Path.{ap, sym, _∙_}
 use borrow.Author.Tests.{eq-eqb, le-ltb, lt-ltb, ne-eqb}
 use Rattle.line.specs.declared.Statement.the-variants as said
 use Rattle.line.specs.Line.{ruleStatement, ruleWith}

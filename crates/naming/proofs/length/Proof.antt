@@ -1,11 +1,11 @@
 -- `length` meets its contract. The loop's invariant: the bytes passed are of the name, and so are those before the first zero byte from here on.
 -- Assumes nothing.
-use mathlib.Core.Path.{_≡_, refl, sym, ap, _∙_}
-use Prim.Native.Nat.{ℕ, suc, _+_, _-_, _≤_}
+use mathlib.Core.Path.{_≡_, sym, ap, _∙_}
+use Prim.Native.Nat.{_+_, _-_, _≤_}
 use native.Mathlib.Numerals.{add-one}
 use native.Mathlib.Omega.{arith}
 use borrow.Author.Needs.{needs}
-use lib.ListN.{drop, getD, length, take}
+use lib.ListN.{drop, length, take}
 use lib.Seq.{getD-take}
 use Rattle.naming.specs.Names.{beforeZero, nameIn}
 use Rattle.naming.proofs.Rows.{name-ends, name-full, name-goes-on}

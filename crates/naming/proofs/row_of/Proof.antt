@@ -7,7 +7,7 @@ use Prim.Native.Nat.{ℕ, suc, _-_, _≤_}
 use native.Mathlib.Numerals.{add-one}
 use native.Mathlib.Omega.{arith}
 use borrow.Author.Needs.{needs}
-use lib.ListN.{drop, getD, length, length-set, replicate}
+use lib.ListN.{drop, getD, length, length-set}
 use lib.Seq.{drop-cons, drop-length, set-out, sets}
 use Rattle.naming.specs.Names.{rowOf}
 use Rattle.naming.proofs.row_of.Statement.{statement}

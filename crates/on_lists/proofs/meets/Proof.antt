@@ -1,6 +1,5 @@
 -- `meets` meets its contract: a word that is not refused is tested. Assumes nothing.
-use mathlib.Core.Path.{_≡_, sym, ap, _∙_}
-use Prim.Native.Nat.{ℕ}
+use mathlib.Core.Path.{sym, ap, _∙_}
 use Rattle.rule.specs.declared.Rule.{Rule}
 use Rattle.rule.specs.Meaning.{meets}
 use Rattle.handing.specs.Handed.{weighNumber}

@@ -1,10 +1,7 @@
 -- `grown` meets its contract: the class of the letter picks the row. Assumes nothing.
-use mathlib.Core.Path.{ap, _∙_}
-use Prim.Native.Nat.{ℕ}
 use native.Mathlib.Omega.{arith}
 use borrow.Author.Needs.{needs}
 use borrow.Author.Tests.{eq-eqb, ne-eqb}
-use Rattle.token.specs.Token.{begun}
 use Rattle.piece.specs.Piece.{grown}
 use Rattle.piece.proofs.grown.Statement.{statement}
 use Rattle.piece.proofs.grown.Tie as tie

@@ -1,14 +1,14 @@
 -- `next` meets its contract. The loop's invariant: what stands from the place on is what the letters left give after the token. Assumes nothing.
 use mathlib.Core.Path.{_≡_, sym, ap, ap₂, _∙_}
 use mathlib.Core.Bool.{true, false}
-use Prim.Native.Nat.{ℕ, _-_, _≤_, _<_}
+use Prim.Native.Nat.{ℕ, _-_}
 use native.Mathlib.Numerals.{add-one}
 use native.Mathlib.Omega.{arith}
 use borrow.Author.Needs.{needs}
 use lib.ListN.{drop, drop-of-length-le, getD, length}
 use lib.Seq.{drop-cons}
 use Rattle.token.specs.declared.Token.{Token}
-use Rattle.piece.specs.Piece.{ends, fresh, grown, pieceOf, wordAt, wordFrom}
+use Rattle.piece.specs.Piece.{ends, fresh, grown, wordAt, wordFrom}
 use Rattle.piece.proofs.next.Statement.{statement}
 use Rattle.piece.proofs.next.Tie as tie
 

@@ -3,14 +3,13 @@
 use mathlib.Core.Path.{_≡_, sym, ap, _∙_, subst, subst₂}
 use mathlib.Core.Bool.{true, false}
 use mathlib.Core.List.{List}
-use Prim.Native.Nat.{ℕ, suc, _-_, _≤_, _<_}
+use Prim.Native.Nat.{ℕ, suc, _-_, _<_}
 use native.Mathlib.Omega.{arith}
 use borrow.Author.Needs.{needs}
 use borrow.Author.Tests.{eq-eqb, le-ltb, lt-ltb, ne-eqb}
 use lib.Dec.{eqb, ltb}
 use lib.ListN.{getD, length, take}
 use lib.Seq.{getD-take}
-use Rattle.word.specs.declared.Found.{Found}
 use Rattle.word.specs.Word.{top}
 use Rattle.word.specs.Search.{first}
 use Rattle.rule.specs.declared.Rule.{Rule}

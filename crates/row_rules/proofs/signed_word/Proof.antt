@@ -1,11 +1,10 @@
 -- `signed_word` meets its contract: the tests pick the row. Assumes nothing.
 use native.Mathlib.Omega.{arith}
-use mathlib.Core.Path.{_≡_, ap, sym, _∙_}
+use mathlib.Core.Path.{_≡_, ap}
 use mathlib.Core.Bool.{Bool, true, false}
 use Prim.Native.Nat.{ℕ, _<_}
 use borrow.Author.Tests.{le-leb, le-ltb, lt-leb, lt-ltb}
 use Rattle.word.specs.Word.{half}
-use Rattle.word.specs.declared.Found.{Found}
 use Rattle.word.specs.declared.Found.the-variants.{At, Nothing}
 use Rattle.row_rules.specs.Rules.{signedWord}
 use borrow.Author.Needs.{needs}

@@ -6,7 +6,6 @@ use Rattle.rows.proofs.Reading.{band-in, seen-plain, seen-turned}
 use borrow.Author.Needs.{needs}
 use Rattle.rows.proofs.band_at.Statement.{statement}
 use Rattle.rows.proofs.band_at.Tie as tie
-use Rattle.band.proofs.Band.turned.Reads as turned-reads
 
 mul-from : tie.Need-mul-from
 mul-from c = search needs

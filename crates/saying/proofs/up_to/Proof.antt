@@ -1,9 +1,7 @@
 -- `up_to` meets its contract: the smaller of two numbers. Assumes nothing.
 use mathlib.Core.Path.{sym, ap}
-use Prim.Native.Nat.{ℕ}
 use native.Mathlib.Omega.{arith}
 use native.Mathlib.Nat.{min-eq-left, min-eq-right}
-use borrow.Author.Needs.{needs}
 use Rattle.listing.specs.Listed.{listings}
 use Rattle.saying.specs.Says.{upTo}
 use Rattle.saying.proofs.up_to.Statement.{statement}

@@ -27,7 +27,6 @@ use Rattle.leap.specs.Leapt.{NoneFrom}
 use Rattle.leap.proofs.Steps.{found-at, found-none, hold-suc, past-all, past-next, past-run, run-range}
 use Rattle.sweep.specs.declared.Walked.{Walked}
 use Rattle.sweep.specs.declared.Walked.the-variants as walked
-use Rattle.sweep.specs.Walked.{Walks}
 use Rattle.sweep.proofs.Ways.{walks-at, walks-none, walks-tired}
 use Rattle.sweep.proofs.walk.Statement.{statement}
 use Rattle.sweep.proofs.walk.Tie as tie

@@ -1,6 +1,6 @@
 -- `Place::follow` meets its contract: the tests are those of the definition, and the open rows are the first of the table. Assumes nothing.
 use native.Mathlib.Omega.{arith}
-use mathlib.Core.Path.{_≡_, ap, sym, _∙_}
+use mathlib.Core.Path.{ap, sym, _∙_}
 use Prim.Native.Nat.{ℕ, _+_, _*_, _/_, _^_}
 use borrow.Author.Tests.{eq-eqb, le-leb, le-ltb, lt-leb, lt-ltb, ne-eqb}
 use lib.ListN.{take}

@@ -1,10 +1,8 @@
 -- `Place::is_whole` meets its contract: its tests are those of the definition, one after the other. Assumes nothing.
 use native.Mathlib.Omega.{arith}
-use mathlib.Core.Path.{_≡_, ap}
-use Prim.Native.Nat.{ℕ, _/_, _%_}
+use Prim.Native.Nat.{_/_}
 use borrow.Author.Tests.{eq-eqb, ne-eqb}
-use lib.Dec.{eqb}
-use Rattle.grammar.specs.Grammar.{isWhole, rowAt}
+use Rattle.grammar.specs.Grammar.{isWhole}
 use borrow.Author.Needs.{needs}
 use Rattle.grammar.proofs.Place.is_whole.Statement.{statement}
 use Rattle.grammar.proofs.Place.is_whole.Tie as tie

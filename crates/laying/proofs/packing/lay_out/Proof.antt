@@ -1,11 +1,11 @@
 -- `lay_out` meets its contract. The loop's invariant: the rules passed are laid, and the others are as they were. Assumes nothing.
 use mathlib.Core.Path.{_≡_, refl, sym, ap, ap₂, _∙_}
 use mathlib.Core.List.{List, map, _++_}
-use Prim.Native.Nat.{ℕ, _+_, _-_, _≤_}
+use Prim.Native.Nat.{ℕ, _-_, _≤_}
 use native.Mathlib.Numerals.{add-one}
 use native.Mathlib.Omega.{arith}
 use borrow.Author.Needs.{needs}
-use lib.ListN.{List·getD-map, drop, getD, length, length-map, set, take}
+use lib.ListN.{List·getD-map, drop, length, length-map, set, take}
 use Rattle.rule.specs.Meaning.{RULES}
 use Rattle.accept.specs.Accept.{noRule}
 use Rattle.rows.specs.Rows.{bareRow}

@@ -1,8 +1,8 @@
 -- `Numeral::digit` meets its contract: the tests pick the row, and the test by division is the one on the product. Assumes nothing.
 use native.Mathlib.Omega.{arith}
-use mathlib.Core.Path.{ap₂, _∙_, refl, sym}
-use Prim.Native.Nat.{ℕ, _+_, _*_, _^_, _-_, _≤_, _<_}
-use borrow.Author.Tests.{eq-eqb, le-leb, lt-leb}
+use mathlib.Core.Path.{ap₂}
+use Prim.Native.Nat.{ℕ, _+_, _*_, _^_, _-_}
+use borrow.Author.Tests.{le-leb, lt-leb}
 use Rattle.numeral.specs.Numeral.{digit, numeral}
 use Rattle.numeral.proofs.Fit.{fits, over}
 use borrow.Author.Needs.{needs}

@@ -1,16 +1,16 @@
 -- `put_digits` meets its contract: it writes the digits of the quotient and then the last one. The measure is x, which a call of
 -- itself divides. Assumes nothing.
-use mathlib.Core.Path.{_≡_, refl, sym, ap, _∙_}
-use mathlib.Core.List.{List, [], _∷_}
-use Prim.Native.Nat.{ℕ, _+_, _/_, _%_, _≤_, _<_}
+use mathlib.Core.Path.{sym, ap, _∙_}
+use mathlib.Core.List.{List}
+use Prim.Native.Nat.{ℕ, _+_, _/_, _<_}
 use native.Mathlib.Nat.{div-lt-self, mod-lt}
 use native.Mathlib.Omega.{arith}
 use borrow.Author.Needs.{needs}
 use borrow.Fn.Kinds.{In}
 use borrow.Fn.PlainCycle.{Measures, is, falls, and}
-use lib.ListN.{length, length-set, set}
+use lib.ListN.{length, length-set}
 use lib.Seq.{length-sets}
-use Rattle.hex.specs.Hex.{Written, glyph}
+use Rattle.hex.specs.Hex.{glyph}
 use Rattle.hex.proofs.Digits.{and-then}
 use Rattle.hex.proofs.glyph.Reads as glyph-reads
 use Rattle.numeral.specs.Digits.{digitsIn}

@@ -6,8 +6,6 @@ use Rattle.scan.specs.Scan.{accepted, failed}
 use borrow.Author.Needs.{needs}
 use Rattle.scan.proofs.Scan.accept.Statement.{statement}
 use Rattle.scan.proofs.Scan.accept.Tie as tie
-use Rattle.grammar.proofs.Place.follow.Reads as Place-follow-reads
-use Rattle.scan.proofs.Scan.follow.Reads as Scan-follow-reads
 
 follow-requires : tie.Need-follow-requires
 follow-requires c κs = search needs

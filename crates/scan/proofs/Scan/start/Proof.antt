@@ -8,8 +8,6 @@ use Rattle.scan.specs.Scan.{scan, started}
 use borrow.Author.Needs.{needs}
 use Rattle.scan.proofs.Scan.start.Statement.{statement}
 use Rattle.scan.proofs.Scan.start.Tie as tie
-use Rattle.grammar.proofs.Place.start.Reads as Place-start-reads
-use Rattle.numeral.proofs.Numeral.start.Reads as Numeral-start-reads
 
 start-requires : tie.Need-start-requires
 start-requires c κs = search needs
