@@ -16,11 +16,6 @@ module _ {i j : Interval} {a : ℕ} where
   unfolding cut
   in-cut p q = record { low = omega arith; high = omega arith }
 
-pub cut-in : (i j : Interval) {a : ℕ} → In (cut i j) a → In i a × In j a
-unfolding cut
-cut-in i j m =
-    (record { low = omega (arith, m .low); high = omega (arith, m .high) }, record { low = omega (arith, m .low); high = omega (arith, m .high) })
-
 pub not-hollow : {i : Interval} {a : ℕ} → In i a → hollow i ≡ false
 unfolding hollow
 not-hollow {i} m = le-ltb (i .high) (i .low) (omega arith)
