@@ -80,13 +80,7 @@ fn any_empty(none: bool, h: Interval, x: Interval, y: Interval) -> bool
     if none {
         return true;
     }
-    if h.hollow() {
-        return true;
-    }
-    if x.hollow() {
-        return true;
-    }
-    y.hollow()
+    span::any_hollow(h, x, y)
 }
 
 fn same(one: Interval, other: Interval) -> bool

@@ -98,7 +98,7 @@ fn all_words(top: u64, h: Interval, x: Interval, y: Interval) -> bool
 }
 
 // Whether one of them has its low end above its high end.
-fn any_hollow(h: Interval, x: Interval, y: Interval) -> bool
+pub fn any_hollow(h: Interval, x: Interval, y: Interval) -> bool
     ensures { λ r. ⌜ r ≡ anyHollow h x y ⌝ }
 {
     if h.hollow() {
