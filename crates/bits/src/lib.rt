@@ -16,6 +16,16 @@ pub enum Fixed {
 }
 
 impl Fixed {
+    // Whether the word x has the bits.
+    pub fn has(self, x: u64) -> bool
+        ensures { λ r. ⌜ r ≡ hasBits self x ⌝ }
+    {
+        match self {
+            Fixed::Bits { mask, value } => x & mask == value,
+            Fixed::Clash => false,
+        }
+    }
+
     // These bits and, where the rule is of form 7, those that it fixes too.
     pub fn with(self, rule: Rule) -> Fixed
         ensures { λ r. ⌜ r ≡ joined self rule ⌝ }

@@ -68,15 +68,5 @@ fn all_have(fixed: Fixed, from: u64, to: u64) -> bool
     if having != to - from {
         return false;
     }
-    has(fixed, to)
-}
-
-// Whether the word x has the bits.
-fn has(fixed: Fixed, x: u64) -> bool
-    ensures { λ r. ⌜ r ≡ hasBits fixed x ⌝ }
-{
-    match fixed {
-        Fixed::Bits { mask, value } => x & mask == value,
-        Fixed::Clash => false,
-    }
+    fixed.has(to)
 }

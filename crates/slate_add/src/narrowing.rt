@@ -1,7 +1,6 @@
 // What is kept with one rule more: the new rule is looked at first, at the old ends.
 ghost use mathlib.Core.Path.{_≡_};
 ghost use lib.ListN.{take};
-ghost use Rattle.bits.specs.Fixed.{hasBits};
 ghost use Rattle.rows.specs.Rows.{bandsIn};
 ghost use Rattle.verdict.specs.OnBands.{keptBy};
 ghost use Rattle.slate_add.specs.Narrows.{Narrows, staysSo};
@@ -45,18 +44,8 @@ fn stays(before: Kept, band: Band, fixed: Fixed) -> bool
     if !band.holds(largest) {
         return false;
     }
-    if !has(fixed, smallest) {
+    if !fixed.has(smallest) {
         return false;
     }
-    has(fixed, largest)
-}
-
-// Whether a word has the bits.
-fn has(fixed: Fixed, word: u64) -> bool
-    ensures { λ r. ⌜ r ≡ hasBits fixed word ⌝ }
-{
-    let Fixed::Bits { mask, value } = fixed else {
-        return false;
-    };
-    word & mask == value
+    fixed.has(largest)
 }

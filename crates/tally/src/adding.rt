@@ -28,7 +28,7 @@ impl Total {
         ensures { λ r. ⌜ r ≡ totals (whole self + count (hasBits fixed) (suc last - first) first) ⌝ }
     {
         let total = self.plus(rank::below(fixed, last) - rank::below(fixed, first));
-        if has(fixed, last) {
+        if fixed.has(last) {
             return total.plus(1);
         }
         total
@@ -44,15 +44,5 @@ impl Total {
             quotient: self.quotient + more / Total::UNIT + rest / Total::UNIT,
             remainder: rest % Total::UNIT,
         }
-    }
-}
-
-// Whether the word x has the bits.
-fn has(fixed: Fixed, x: u64) -> bool
-    ensures { λ r. ⌜ r ≡ hasBits fixed x ⌝ }
-{
-    match fixed {
-        Fixed::Bits { mask, value } => x & mask == value,
-        Fixed::Clash => false,
     }
 }
