@@ -15,13 +15,7 @@ use sheet::Sheet;
 pub fn rules_in(numbers: &[u64; NUMBERS]) -> [Rule; Rule::LIMIT]
     ensures { λ r. ⌜ r ≡ rulesIn (now (numbers .entry)) ⌝ }
 {
-    let none = Rule {
-        form: 0,
-        sense: 0,
-        c1: 0,
-        c2: 0,
-    };
-    let mut rules = [none; Rule::LIMIT];
+    let mut rules = [Rule::NONE; Rule::LIMIT];
     for i in 0..Rule::LIMIT {
         rules[i] = rule_at(numbers, i);
     }

@@ -39,13 +39,7 @@ pub fn pack(rows: &[[u64; rows::NUMBERS]; Rule::LIMIT]) -> [Rule; Rule::LIMIT]
     requires { ⌜ length (now rows) ≡ RULES ⌝ }
     ensures { λ r. ⌜ r ≡ rulesIn (now (rows .entry)) ⌝ }
 {
-    let none = Rule {
-        form: 0,
-        sense: 0,
-        c1: 0,
-        c2: 0,
-    };
-    let mut packed = [none; Rule::LIMIT];
+    let mut packed = [Rule::NONE; Rule::LIMIT];
     for i in 0..Rule::LIMIT {
         packed[i] = rows::rule_at(rows, i);
     }

@@ -20,6 +20,14 @@ impl Rule {
     // The most rules that may be in force on a sheet.
     pub const LIMIT: usize = 200;
 
+    // What stands at a place that no rule has taken.
+    pub const NONE: Rule = Rule {
+        form: 0,
+        sense: 0,
+        c1: 0,
+        c2: 0,
+    };
+
     // Whether the word x meets the rule.
     pub fn meets(self, width: Width, x: u64) -> bool
         requires { ⌜ IsWidth (width .bits) ⌝ }

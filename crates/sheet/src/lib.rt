@@ -53,14 +53,6 @@ pub struct Reply {
     pub links: usize,
 }
 
-// A place that no rule has taken.
-const NO_RULE: Rule = Rule {
-    form: 0,
-    sense: 0,
-    c1: 0,
-    c2: 0,
-};
-
 impl Sheet {
     // The most marks that may be in force.
     pub const MARKS: usize = page::MARKS;
@@ -74,7 +66,7 @@ impl Sheet {
     {
         Sheet {
             width: 0,
-            rules: [NO_RULE; Rule::LIMIT],
+            rules: [Rule::NONE; Rule::LIMIT],
             count: 0,
             marks: [0; Sheet::MARKS],
             marked: 0,
