@@ -227,8 +227,8 @@ fn put_of(share: Share, width: u64) {
 
 // `11 (0xb)`.
 fn put_twice(n: u64) {
-    put_number(n);
-    put(b" (0x");
-    io::print_hex(STDOUT_FILENO, n, 1);
-    put(b")");
+    let mut text = [0; figure::NUMBER];
+    let end = figure::put_number(&mut text, 0, n);
+    let bytes = printing::within(end, &text);
+    put(&text[..bytes]);
 }
