@@ -51,21 +51,21 @@ pub fn lay_out(
     let edition = sheet.edition;
     laying::lay_out(&mut *rows, laid);
     slate::set_marks(&mut *marks, set);
-    let head = Head {
-        stands: false,
-        opening: Opening {
+    // the test says whether it stands
+    let head = Head::of(
+        Opening {
             width: sheet.width,
             edition,
         },
-        counts: Counts {
+        Counts {
             count: sheet.count,
             marked: sheet.marked,
             given: sheet.given,
             waiting: sheet.waiting,
         },
         kept,
-        fixed: Fixed::Bits { mask: 0, value: 0 },
-    };
+        Fixed::Bits { mask: 0, value: 0 },
+    );
     slate_test::tested(head, &mut *rows, &*marks)
 }
 
