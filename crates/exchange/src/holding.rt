@@ -1,7 +1,7 @@
 // A line that was begun in one part of the input and goes on in the next.
 ghost use mathlib.Core.Path.{_≡_};
 ghost use Rattle.frame.specs.Frames.{frameOf};
-ghost use Rattle.exchange.specs.Begun.{begins, begunLine, joined, none};
+ghost use Rattle.exchange.specs.Begun.{begunLine, joined, none};
 use crate::Begun;
 use frame::Frame;
 
@@ -36,28 +36,20 @@ impl Begun {
     pub fn frame(self, more: &[u8]) -> Frame
         ensures { λ r. ⌜ r ≡ frameOf (begunLine (joined self (now (more .entry)))) ⌝ }
     {
-        let begun = self;
-        let bytes = begun.bytes;
-        ended(bytes, begun.len, more)
+        let len = self.len;
+        if len == 0 {
+            return frame::decode(more);
+        }
+        held_frame(self.with(more))
     }
-}
-
-// The frame that a line is of which so many bytes are held, where it ends with these.
-fn ended(bytes: [u8; Begun::HELD], len: usize, more: &[u8]) -> Frame
-    ensures { λ r. ⌜ r ≡ frameOf (begunLine (joined (begins bytes len) (now (more .entry)))) ⌝ }
-{
-    if len == 0 {
-        return frame::decode(more);
-    }
-    let whole = Begun { bytes, len }.with(more);
-    let held = whole.bytes;
-    held_frame(held, whole.len)
 }
 
 // The frame that the bytes held are. A line of more bytes than a frame has is none.
-fn held_frame(bytes: [u8; Begun::HELD], len: usize) -> Frame
-    ensures { λ r. ⌜ r ≡ frameOf (begunLine (begins bytes len)) ⌝ }
+fn held_frame(begun: Begun) -> Frame
+    ensures { λ r. ⌜ r ≡ frameOf (begunLine begun) ⌝ }
 {
+    let bytes = begun.bytes;
+    let len = begun.len;
     if Frame::LONGEST < len {
         return Frame::NoFrame;
     }
