@@ -7,16 +7,17 @@ use native.Mathlib.Omega.{arith}
 use borrow.Author.Needs.{needs}
 use mathlib.Core.List.{[]}
 use lib.ListN.{drop, getD, take}
+use Rattle.rule.specs.Meaning.{RULES}
 use Rattle.naming.specs.Names.{hasName, numberFrom, numberOf}
 use Rattle.naming.proofs.Rows.{from-on, none-on}
 use Rattle.naming.proofs.number_of.Statement.{statement}
 use Rattle.naming.proofs.number_of.Tie as tie
 
 abbrev Inv-loop : tie.InvT-loop
-Inv-loop names count name i₀ i = (i ≤ 200) × (numberOf names count name ≡ numberFrom i (drop i (take (min count 200) names)) name)
+Inv-loop names count name i₀ i = (i ≤ RULES) × (numberOf names count name ≡ numberFrom i (drop i (take (min count RULES) names)) name)
 
 abbrev μ-loop : tie.MeasureT-loop
-μ-loop names count name i₀ i = 200 - i
+μ-loop names count name i₀ i = RULES - i
 
 loop-holds : tie.Need-loop-holds Inv-loop μ-loop
 unfolding numberOf
@@ -26,7 +27,7 @@ returns : tie.Need-returns Inv-loop μ-loop
 returns c =
     let l = c .before .before in
     let a = l .before .before .args in
-    sym (l .loop .inv .1 ∙ none-on (a .name .now) (a .names .now) (min (a .count) 200) (l .loop .i) (omega arith))
+    sym (l .loop .inv .1 ∙ none-on (a .name .now) (a .names .now) (min (a .count) RULES) (l .loop .i) (omega arith))
 
 mul-row : tie.Need-mul-row Inv-loop μ-loop
 mul-row c = search needs
@@ -42,7 +43,7 @@ returns-2 c =
     let l = c .before .before .before .before .before .before in
     let a = l .before .before .args in
     let e : hasName (a .name .now) (getD (a .names .now) (l .loop .i) []) ≡ true = sym (c .before .has-name .ensures) ∙ c .if2 .taken in
-    sym (l .loop .inv .1 ∙ from-on (a .name .now) (a .names .now) (min (a .count) 200) (l .loop .i) (omega arith) ∙ rw e)
+    sym (l .loop .inv .1 ∙ from-on (a .name .now) (a .names .now) (min (a .count) RULES) (l .loop .i) (omega arith) ∙ rw e)
 
 add-i : tie.Need-add-i Inv-loop μ-loop
 add-i c = search needs
@@ -56,13 +57,13 @@ loop-again c =
     let a = l .before .before .args in
     let i = l .loop .i in
     let e : hasName (a .name .now) (getD (a .names .now) i []) ≡ false = sym (c .before .has-name .ensures) ∙ c .if2 .left in
-    (omega arith, rw (add-one i) (l .loop .inv .1 ∙ from-on (a .name .now) (a .names .now) (min (a .count) 200) i (omega arith) ∙ rw e))
+    (omega arith, rw (add-one i) (l .loop .inv .1 ∙ from-on (a .name .now) (a .names .now) (min (a .count) RULES) i (omega arith) ∙ rw e))
 
 returns-3 : tie.Need-returns-3 Inv-loop μ-loop
 returns-3 c =
     let l = c .before in
     let a = l .before .before .args in
-    sym (l .loop .inv .1 ∙ none-on (a .name .now) (a .names .now) (min (a .count) 200) (l .loop .i) (omega arith))
+    sym (l .loop .inv .1 ∙ none-on (a .name .now) (a .names .now) (min (a .count) RULES) (l .loop .i) (omega arith))
 
 pub number-of-spec : {M : Type 1} → statement M
 number-of-spec =

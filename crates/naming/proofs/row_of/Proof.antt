@@ -9,12 +9,13 @@ use native.Mathlib.Omega.{arith}
 use borrow.Author.Needs.{needs}
 use lib.ListN.{drop, getD, length, length-set}
 use lib.Seq.{drop-cons, drop-length, set-out, sets}
+use Rattle.line.specs.Line.{LIMIT}
 use Rattle.naming.specs.Names.{rowOf}
 use Rattle.naming.proofs.row_of.Statement.{statement}
 use Rattle.naming.proofs.row_of.Tie as tie
 
 abbrev Inv-loop : tie.InvT-loop
-Inv-loop name row₀ i₀ i-end row i = (i ≤ length name) × (length row ≡ 1024) × (sets row i (drop i name) ≡ rowOf name)
+Inv-loop name row₀ i₀ i-end row i = (i ≤ length name) × (length row ≡ LIMIT) × (sets row i (drop i name) ≡ rowOf name)
 
 abbrev μ-loop : tie.MeasureT-loop
 μ-loop name row₀ i₀ i-end row i = length name - i

@@ -1,14 +1,16 @@
 -- `tell_chain` is safe and ends: the measure is the links left. Assumes nothing.
 use Prim.Native.Nat.{_-_, _≤_}
 use borrow.Author.Needs.{needs}
+use Rattle.rule.specs.Meaning.{RULES}
+use Rattle.chain.specs.Links.{mostLinks}
 use Rattle.objects.proofs.tell_chain.Statement.{statement}
 use Rattle.objects.proofs.tell_chain.Tie as tie
 
 abbrev Inv-loop : tie.InvT-loop
-Inv-loop sheet links names numbers i₀ t7 t8 t9 t10 i = i ≤ 801
+Inv-loop sheet links names numbers i₀ t7 t8 t9 t10 i = i ≤ mostLinks RULES
 
 abbrev μ-loop : tie.MeasureT-loop
-μ-loop sheet links names numbers i₀ t7 t8 t9 t10 i = 801 - i
+μ-loop sheet links names numbers i₀ t7 t8 t9 t10 i = mostLinks RULES - i
 
 slice-aggregate-put : tie.Need-slice-aggregate-put Inv-loop μ-loop
 slice-aggregate-put c = search needs

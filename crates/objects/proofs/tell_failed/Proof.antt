@@ -1,14 +1,15 @@
 -- `tell_failed` is safe and ends: the measure is the rules left. Assumes nothing.
 use Prim.Native.Nat.{_-_, _≤_}
 use borrow.Author.Needs.{needs}
+use Rattle.rule.specs.Meaning.{RULES}
 use Rattle.objects.proofs.tell_failed.Statement.{statement}
 use Rattle.objects.proofs.tell_failed.Tie as tie
 
 abbrev Inv-loop : tie.InvT-loop
-Inv-loop sheet failed names numbers i₀ t7 t8 i = i ≤ 200
+Inv-loop sheet failed names numbers i₀ t7 t8 i = i ≤ RULES
 
 abbrev μ-loop : tie.MeasureT-loop
-μ-loop sheet failed names numbers i₀ t7 t8 i = 200 - i
+μ-loop sheet failed names numbers i₀ t7 t8 i = RULES - i
 
 slice-aggregate-put : tie.Need-slice-aggregate-put Inv-loop μ-loop
 slice-aggregate-put c = search needs

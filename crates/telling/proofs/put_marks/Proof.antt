@@ -1,14 +1,15 @@
 -- `put_marks` is safe and ends: the measure is the marks left. Assumes nothing.
 use Prim.Native.Nat.{_-_, _≤_}
 use borrow.Author.Needs.{needs}
+use Rattle.page.specs.Page.{MARKS}
 use Rattle.telling.proofs.put_marks.Statement.{statement}
 use Rattle.telling.proofs.put_marks.Tie as tie
 
 abbrev Inv-loop : tie.InvT-loop
-Inv-loop sheet number marks i₀ t5 i = i ≤ 32
+Inv-loop sheet number marks i₀ t5 i = i ≤ MARKS
 
 abbrev μ-loop : tie.MeasureT-loop
-μ-loop sheet number marks i₀ t5 i = 32 - i
+μ-loop sheet number marks i₀ t5 i = MARKS - i
 
 loop-holds : tie.Need-loop-holds Inv-loop μ-loop
 loop-holds c = search needs

@@ -1,14 +1,16 @@
 -- `tell_links` is safe and ends: the measure is the links left. Assumes nothing.
 use Prim.Native.Nat.{_-_, _≤_}
 use borrow.Author.Needs.{needs}
+use Rattle.rule.specs.Meaning.{RULES}
+use Rattle.chain.specs.Links.{mostLinks}
 use Rattle.telling.proofs.tell_links.Statement.{statement}
 use Rattle.telling.proofs.tell_links.Tie as tie
 
 abbrev Inv-loop : tie.InvT-loop
-Inv-loop sheet links names numbers i₀ t6 i = i ≤ 801
+Inv-loop sheet links names numbers i₀ t6 i = i ≤ mostLinks RULES
 
 abbrev μ-loop : tie.MeasureT-loop
-μ-loop sheet links names numbers i₀ t6 i = 801 - i
+μ-loop sheet links names numbers i₀ t6 i = mostLinks RULES - i
 
 loop-holds : tie.Need-loop-holds Inv-loop μ-loop
 loop-holds c = search needs

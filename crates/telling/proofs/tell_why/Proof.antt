@@ -1,14 +1,15 @@
 -- `tell_why` is safe and ends: the measure is the rules left. Assumes nothing.
 use Prim.Native.Nat.{_-_, _≤_}
 use borrow.Author.Needs.{needs}
+use Rattle.rule.specs.Meaning.{RULES}
 use Rattle.telling.proofs.tell_why.Statement.{statement}
 use Rattle.telling.proofs.tell_why.Tie as tie
 
 abbrev Inv-loop : tie.InvT-loop
-Inv-loop sheet x failed names numbers i₀ t8 i = i ≤ 200
+Inv-loop sheet x failed names numbers i₀ t8 i = i ≤ RULES
 
 abbrev μ-loop : tie.MeasureT-loop
-μ-loop sheet x failed names numbers i₀ t8 i = 200 - i
+μ-loop sheet x failed names numbers i₀ t8 i = RULES - i
 
 put-number-requires : tie.Need-put-number-requires Inv-loop μ-loop
 put-number-requires c κs = search needs

@@ -1,14 +1,15 @@
 -- `same` is safe and ends: the measure is the bytes left. Assumes nothing.
 use Prim.Native.Nat.{_-_, _≤_}
 use borrow.Author.Needs.{needs}
+use Rattle.line.specs.Line.{LIMIT}
 use Rattle.checking.proofs.settling.same.Statement.{statement}
 use Rattle.checking.proofs.settling.same.Tie as tie
 
 abbrev Inv-loop : tie.InvT-loop
-Inv-loop row other i₀ i = i ≤ 1024
+Inv-loop row other i₀ i = i ≤ LIMIT
 
 abbrev μ-loop : tie.MeasureT-loop
-μ-loop row other i₀ i = 1024 - i
+μ-loop row other i₀ i = LIMIT - i
 
 loop-holds : tie.Need-loop-holds Inv-loop μ-loop
 loop-holds c = search needs

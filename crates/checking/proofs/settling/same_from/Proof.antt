@@ -1,14 +1,15 @@
 -- `same_from` is safe and ends: the measure is the rules left. Assumes nothing.
 use Prim.Native.Nat.{_-_, _≤_}
 use borrow.Author.Needs.{needs}
+use Rattle.rule.specs.Meaning.{RULES}
 use Rattle.checking.proofs.settling.same_from.Statement.{statement}
 use Rattle.checking.proofs.settling.same_from.Tie as tie
 
 abbrev Inv-loop : tie.InvT-loop
-Inv-loop rules names row from i₀ i = i ≤ 200
+Inv-loop rules names row from i₀ i = i ≤ RULES
 
 abbrev μ-loop : tie.MeasureT-loop
-μ-loop rules names row from i₀ i = 200 - i
+μ-loop rules names row from i₀ i = RULES - i
 
 loop-holds : tie.Need-loop-holds Inv-loop μ-loop
 loop-holds c = search needs

@@ -1,14 +1,15 @@
 -- `put_letters` is safe and ends: the measure is the places left. Assumes nothing.
 use Prim.Native.Nat.{_-_, _≤_}
 use borrow.Author.Needs.{needs}
+use Rattle.line.specs.Line.{LIMIT}
 use Rattle.checking.proofs.words.put_letters.Statement.{statement}
 use Rattle.checking.proofs.words.put_letters.Tie as tie
 
 abbrev Inv-loop : tie.InvT-loop
-Inv-loop n row i₀ i = i ≤ 1024
+Inv-loop n row i₀ i = i ≤ LIMIT
 
 abbrev μ-loop : tie.MeasureT-loop
-μ-loop n row i₀ i = 1024 - i
+μ-loop n row i₀ i = LIMIT - i
 
 loop-holds : tie.Need-loop-holds Inv-loop μ-loop
 loop-holds c = search needs
