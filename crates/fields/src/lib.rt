@@ -33,7 +33,7 @@ const REFUSED: u64 = 0xff;
 
 const TOLD: u64 = 0xa0;
 
-const LINKED: u64 = 0xc0;
+pub const LINKED: u64 = 0xc0;
 
 // The most numbers that an answer's line has.
 const FIELDS: usize = 4;

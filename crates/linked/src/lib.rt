@@ -6,6 +6,7 @@ ghost use Rattle.fields.specs.Fields.{WORD};
 ghost use Rattle.linked.specs.Linked.{bareEnd, endOf, isLink, linkIn, linkOf};
 use chain::Link;
 use fields::Field;
+use fields::LINKED;
 use word::Edition;
 
 // What a line is: a link, or none.
@@ -13,9 +14,6 @@ pub enum Linked {
     At(Link),
     Nothing,
 }
-
-// What a link's line begins with.
-const LINKED: u64 = 0xc0;
 
 // The link that a line is, without its byte 10 and a byte 13 before it.
 pub fn read(line: &[u8]) -> Linked
