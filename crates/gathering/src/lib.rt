@@ -1,12 +1,12 @@
 // A lab's chain, read from a descriptor part by part and line by line: its links, and the line of each. A mistake is said on standard error.
 mod mistakes;
 
-ghost use Prim.Native.Nat.{_≤_};
-ghost use Rattle.io.specs.Counts.{Counts};
 use chain::Link;
 use citing::Citation;
 use mistakes::RULE_NAME;
 use naming::MOST;
+use printing::up_to;
+use printing::within;
 use rule::Rule;
 use scan::Mistake;
 use scan::Name;
@@ -218,16 +218,6 @@ fn named(
     )
 }
 
-// A place, or one that it must not pass.
-fn up_to(place: usize, end: usize) -> usize
-    ensures { λ r. ⌜ r ≤ end ⌝ }
-{
-    if end < place {
-        return end;
-    }
-    place
-}
-
 // A link more, with its line twice and one more where a name stands for its reason.
 fn put_link(reading: Reading, links: &mut [u64; LENT], link: Link, named: u64) -> Reading {
     let mut after = reading;
@@ -254,14 +244,4 @@ fn too_many(reading: Reading) -> Reading {
 fn mistaken(reading: Reading, text: &[u8], mistake: Mistake) -> Reading {
     mistakes::say(reading.line, text, mistake);
     reading.stopped()
-}
-
-// So many bytes of a buffer, or none where it has fewer.
-fn within(n: usize, buffer: &[u8]) -> usize
-    ensures { λ r. ⌜ Counts r (now (buffer .entry)) ⌝ }
-{
-    if buffer.len() < n {
-        return 0;
-    }
-    n
 }

@@ -1,4 +1,5 @@
 // What answers in words and as objects share, on standard output: the text and the name of a rule, counts and bits.
+ghost use Prim.Native.Nat.{_≤_};
 ghost use Rattle.io.specs.Counts.{Counts};
 use counting::Share;
 use libc::STDOUT_FILENO;
@@ -151,4 +152,14 @@ pub fn within(n: usize, buffer: &[u8]) -> usize
         return 0;
     }
     n
+}
+
+// A place, or one that it must not pass.
+pub fn up_to(place: usize, end: usize) -> usize
+    ensures { λ r. ⌜ r ≤ end ⌝ }
+{
+    if end < place {
+        return end;
+    }
+    place
 }

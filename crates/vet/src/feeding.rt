@@ -9,6 +9,7 @@ use libc::STDIN_FILENO;
 use naming::MOST;
 use printing::Told;
 use printing::WORDS;
+use printing::up_to;
 use printing::within;
 use rule::Rule;
 use sheet::Sheet;
@@ -268,16 +269,6 @@ fn take_line(run: Run, names: &mut [[u8; MOST]; Rule::LIMIT], text: &[u8]) -> Ru
         run.more = false;
     }
     run
-}
-
-// A place, or one that it must not pass.
-fn up_to(place: usize, end: usize) -> usize
-    ensures { λ r. ⌜ r ≤ end ⌝ }
-{
-    if end < place {
-        return end;
-    }
-    place
 }
 
 // The width of a word: the widest where no sheet is open.
