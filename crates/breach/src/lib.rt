@@ -9,26 +9,20 @@ ghost use Rattle.rows.specs.OfRules.{OfLawful};
 ghost use Rattle.rows.specs.Rows.{bandsIn, rulesIn};
 ghost use Rattle.covering.specs.Check.{linksIn};
 ghost use Rattle.finding.specs.Clauses.{firstBroken, listClauses};
-use bits::Fixed;
 use chain::Link;
 pub use finding::Finding;
+use rows::InForce;
 use rule::Rule;
-use word::Width;
 
 // The first clause that links do not keep, link by link: where the link lies, then its reason, and at last whether the top word is reached.
-pub fn first(
-    links: &[u64],
-    rows: &[[u64; rows::NUMBERS]; Rule::LIMIT],
-    n: usize,
-    fixed: Fixed,
-    width: Width,
-) -> Finding
-    requires { ⌜ IsWidth (width .bits) ⌝ }
-    requires { ⌜ Lie (top (width .bits)) n (bandsIn (now rows)) ⌝ }
-    requires { ⌜ OfLawful (width .bits) (take n (bandsIn (now rows))) fixed (take n (rulesIn (now rows))) ⌝ }
-    requires { ⌜ Tidy fixed × (length (now links) % 3 ≡ 0) ⌝ }
-    ensures { λ r. ⌜ r ≡ firstBroken (listClauses (width .bits) (take n (rulesIn (now (rows .entry)))) 0 0 (linksIn (now (links .entry)))) ⌝ }
+pub fn first(links: &[u64], rows: &[[u64; rows::NUMBERS]; Rule::LIMIT], force: InForce) -> Finding
+    requires { ⌜ IsWidth (force .width .bits) ⌝ }
+    requires { ⌜ Lie (top (force .width .bits)) (force .count) (bandsIn (now rows)) ⌝ }
+    requires { ⌜ OfLawful (force .width .bits) (take (force .count) (bandsIn (now rows))) (force .fixed) (take (force .count) (rulesIn (now rows))) ⌝ }
+    requires { ⌜ Tidy (force .fixed) × (length (now links) % 3 ≡ 0) ⌝ }
+    ensures { λ r. ⌜ r ≡ firstBroken (listClauses (force .width .bits) (take (force .count) (rulesIn (now (rows .entry)))) 0 0 (linksIn (now (links .entry)))) ⌝ }
 {
+    let width = force.width;
     let top = width.top();
     let mut end = 0;
     let mut number = 0;
@@ -39,7 +33,7 @@ pub fn first(
         if !lies.is_yes() {
             return lies;
         }
-        let shows = reason::shows(read, number, rows, n, fixed, width);
+        let shows = reason::shows(read, number, rows, force);
         if !shows.is_yes() {
             return shows;
         }

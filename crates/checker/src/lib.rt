@@ -4,6 +4,7 @@ ghost use mathlib.Core.Logic.{_↔_};
 ghost use mathlib.Core.Path.{_≡_};
 ghost use Rattle.checker.specs.Accepted.{Accepted};
 ghost use Rattle.checker.specs.Check.{accepts};
+use rows::InForce;
 use rows::NUMBERS;
 use rule::Rule;
 use sheet::Sheet;
@@ -26,7 +27,12 @@ pub fn accepts(sheet: Sheet, links: &[u64]) -> bool
     let fixed = head.fixed;
     if head.stands {
         if width != 0 {
-            return covering::covers(links, &rows, count, fixed, Width { bits: width });
+            let force = InForce {
+                count,
+                fixed,
+                width: Width { bits: width },
+            };
+            return covering::covers(links, &rows, force);
         }
     }
     false

@@ -5,6 +5,7 @@ ghost use Rattle.finding.specs.Clauses.{isYes};
 ghost use Rattle.clause.specs.Finding.{finding};
 pub use breach::Finding;
 use chain::Link;
+use rows::InForce;
 use rows::NUMBERS;
 use rule::Rule;
 use sheet::Sheet;
@@ -34,5 +35,10 @@ pub fn first(sheet: Sheet, links: &[u64]) -> Finding
     if numbers % Link::NUMBERS != 0 {
         return Finding::Ragged;
     }
-    breach::first(links, &rows, count, fixed, Width { bits: width })
+    let force = InForce {
+        count,
+        fixed,
+        width: Width { bits: width },
+    };
+    breach::first(links, &rows, force)
 }

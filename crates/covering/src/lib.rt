@@ -12,25 +12,19 @@ ghost use Rattle.covering.specs.Check.{shownBy};
 
 mod link;
 
-use bits::Fixed;
 use chain::Link;
+use rows::InForce;
 use rule::Rule;
-use word::Width;
 
 // Whether the links go from 0 to the top word with no gap, and each shows that its words fail. A link costs a few comparisons
 // and, for the bits, one look for the next word that has them.
-pub fn covers(
-    links: &[u64],
-    rows: &[[u64; rows::NUMBERS]; Rule::LIMIT],
-    n: usize,
-    fixed: Fixed,
-    width: Width,
-) -> bool
-    requires { ⌜ IsWidth (width .bits) ⌝ }
-    requires { ⌜ Lie (top (width .bits)) n (bandsIn (now rows)) ⌝ }
-    requires { ⌜ Tidy fixed ⌝ }
-    ensures { λ r. ⌜ ((rs : List RuleOf) → OfLawful (width .bits) (take n (bandsIn (now (rows .entry)))) fixed rs → r ≡ shownBy (width .bits) rs (now (links .entry))) ⌝ }
+pub fn covers(links: &[u64], rows: &[[u64; rows::NUMBERS]; Rule::LIMIT], force: InForce) -> bool
+    requires { ⌜ IsWidth (force .width .bits) ⌝ }
+    requires { ⌜ Lie (top (force .width .bits)) (force .count) (bandsIn (now rows)) ⌝ }
+    requires { ⌜ Tidy (force .fixed) ⌝ }
+    ensures { λ r. ⌜ ((rs : List RuleOf) → OfLawful (force .width .bits) (take (force .count) (bandsIn (now (rows .entry)))) (force .fixed) rs → r ≡ shownBy (force .width .bits) rs (now (links .entry))) ⌝ }
 {
+    let width = force.width;
     let top = width.top();
     let mut end = 0;
     let mut i = 0;
@@ -47,7 +41,7 @@ pub fn covers(
         if top < last {
             return false;
         }
-        if !link::shows(rows, n, fixed, width, read) {
+        if !link::shows(rows, force, read) {
             return false;
         }
         if end < last {

@@ -17,6 +17,7 @@ ghost use Rattle.covering.specs.Route.{covered};
 use band::Band;
 use bits::Fixed;
 use chain::Link;
+use rows::InForce;
 use rule::Rule;
 use word::Found;
 use word::Width;
@@ -60,18 +61,15 @@ fn lacks(fixed: Fixed, width: Width, first: u64, last: u64) -> bool
 
 // Whether the words of a link fail for the reason that it gives: the number of one of the first n rules, or that of the bits.
 // The band of a form 7 rule fails no word, so that its number is never a reason.
-pub fn shows(
-    rows: &[[u64; rows::NUMBERS]; Rule::LIMIT],
-    n: usize,
-    fixed: Fixed,
-    width: Width,
-    link: Link,
-) -> bool
-    requires { ⌜ IsWidth (width .bits) ⌝ }
-    requires { ⌜ Lie (top (width .bits)) n (bandsIn (now rows)) ⌝ }
-    requires { ⌜ Tidy fixed × (link .from ≤ link .to) × (link .to ≤ top (width .bits)) ⌝ }
-    ensures { λ r. ⌜ ((rs : List RuleOf) → OfLawful (width .bits) (take n (bandsIn (now (rows .entry)))) fixed rs → r ≡ rightReason (width .bits) rs link) ⌝ }
+pub fn shows(rows: &[[u64; rows::NUMBERS]; Rule::LIMIT], force: InForce, link: Link) -> bool
+    requires { ⌜ IsWidth (force .width .bits) ⌝ }
+    requires { ⌜ Lie (top (force .width .bits)) (force .count) (bandsIn (now rows)) ⌝ }
+    requires { ⌜ Tidy (force .fixed) × (link .from ≤ link .to) × (link .to ≤ top (force .width .bits)) ⌝ }
+    ensures { λ r. ⌜ ((rs : List RuleOf) → OfLawful (force .width .bits) (take (force .count) (bandsIn (now (rows .entry)))) (force .fixed) rs → r ≡ rightReason (force .width .bits) rs link) ⌝ }
 {
+    let n = force.count;
+    let fixed = force.fixed;
+    let width = force.width;
     let reason = link.reason;
     if reason < n as u64 {
         let top = width.top();

@@ -14,6 +14,7 @@ use band::Band;
 use bits::Fixed;
 use chain::Link;
 use finding::Finding;
+use rows::InForce;
 use rule::Rule;
 use word::Found;
 use word::Width;
@@ -53,16 +54,17 @@ pub fn shows(
     link: Link,
     number: usize,
     rows: &[[u64; rows::NUMBERS]; Rule::LIMIT],
-    n: usize,
-    fixed: Fixed,
-    width: Width,
+    force: InForce,
 ) -> Finding
-    requires { ⌜ IsWidth (width .bits) ⌝ }
-    requires { ⌜ Lie (top (width .bits)) n (bandsIn (now rows)) ⌝ }
-    requires { ⌜ OfLawful (width .bits) (take n (bandsIn (now rows))) fixed (take n (rulesIn (now rows))) ⌝ }
-    requires { ⌜ Tidy fixed × (link .from ≤ link .to) × (link .to ≤ top (width .bits)) ⌝ }
-    ensures { λ r. ⌜ r ≡ firstBroken (reasonClauses (width .bits) (take n (rulesIn (now (rows .entry)))) number link) ⌝ }
+    requires { ⌜ IsWidth (force .width .bits) ⌝ }
+    requires { ⌜ Lie (top (force .width .bits)) (force .count) (bandsIn (now rows)) ⌝ }
+    requires { ⌜ OfLawful (force .width .bits) (take (force .count) (bandsIn (now rows))) (force .fixed) (take (force .count) (rulesIn (now rows))) ⌝ }
+    requires { ⌜ Tidy (force .fixed) × (link .from ≤ link .to) × (link .to ≤ top (force .width .bits)) ⌝ }
+    ensures { λ r. ⌜ r ≡ firstBroken (reasonClauses (force .width .bits) (take (force .count) (rulesIn (now (rows .entry)))) number link) ⌝ }
 {
+    let n = force.count;
+    let fixed = force.fixed;
+    let width = force.width;
     let reason = link.reason;
     if reason < n as u64 {
         let place = reason as usize;

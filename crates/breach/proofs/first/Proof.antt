@@ -23,11 +23,11 @@ use Rattle.breach.proofs.first.Statement.{statement}
 use Rattle.breach.proofs.first.Tie as tie
 
 abbrev Inv-loop : tie.InvT-loop
-Inv-loop links rows n fixed width top end₀ number₀ at₀ end number at =
-    (at ≤ length links) × (at ≡ 3 * number) × Midway (width .bits) (take n (rulesIn rows)) links number at end
+Inv-loop links rows force top end₀ number₀ at₀ end number at =
+    (at ≤ length links) × (at ≡ 3 * number) × Midway (force .width .bits) (take (force .count) (rulesIn rows)) links number at end
 
 abbrev μ-loop : tie.MeasureT-loop
-μ-loop links rows n fixed width top end₀ number₀ at₀ end number at = length links - at
+μ-loop links rows force top end₀ number₀ at₀ end number at = length links - at
 
 abbrev Loop : Type 0
 Loop = tie.At-loop Inv-loop μ-loop
@@ -36,14 +36,14 @@ abbrev Body : Type 0
 Body = tie.In-loop Inv-loop μ-loop
 
 abbrev start : Loop → tie.Start Inv-loop μ-loop
-start l = l .before .before .before
+start l = l .before .before .before .before
 
 -- the numbers of the list, and the width
 abbrev numbers : Loop → List ℕ
 numbers l = start l .args .links .now
 
 abbrev width : Loop → ℕ
-width l = start l .args .width .bits
+width l = start l .args .force .width .bits
 
 top-requires : tie.Need-top-requires Inv-loop μ-loop
 top-requires c κs = search needs
@@ -108,7 +108,7 @@ is-yes-requires-2 c κs = search needs
 
 -- what is found of its reason
 abbrev own : Loop → List Rule
-own l = take (start l .args .n) (rulesIn (start l .args .rows .now))
+own l = take (start l .args .force .count) (rulesIn (start l .args .rows .now))
 
 reasoned : (f : tie.After-shows Inv-loop μ-loop) → let b = body (f .before) in let l = b .before in
     f .shows .result ≡ firstBroken (reasonClauses (width l) (own l) (l .loop .number) (link b))

@@ -25,11 +25,11 @@ use Rattle.covering.proofs.covers.Statement.{statement}
 use Rattle.covering.proofs.covers.Tie as tie
 
 abbrev Inv-loop : tie.InvT-loop
-Inv-loop links rows n fixed width t end₀ i₀ end i =
-    (i ≤ length links) × (i % 3 ≡ 0) × (i ≡ 0 → end ≡ 0) × ((rs : List Rule) → OfLawful (width .bits) (take n (bandsIn rows)) fixed rs → Midway (width .bits) rs links i end)
+Inv-loop links rows force t end₀ i₀ end i =
+    (i ≤ length links) × (i % 3 ≡ 0) × (i ≡ 0 → end ≡ 0) × ((rs : List Rule) → OfLawful (force .width .bits) (take (force .count) (bandsIn rows)) (force .fixed) rs → Midway (force .width .bits) rs links i end)
 
 abbrev μ-loop : tie.MeasureT-loop
-μ-loop links rows n fixed width t end₀ i₀ end i = length links - i
+μ-loop links rows force t end₀ i₀ end i = length links - i
 
 abbrev Loop : Type 0
 Loop = tie.At-loop Inv-loop μ-loop
@@ -38,14 +38,14 @@ abbrev Body : Type 0
 Body = tie.In-loop Inv-loop μ-loop
 
 abbrev start : Loop → tie.Start Inv-loop μ-loop
-start l = l .before .before .before
+start l = l .before .before .before .before
 
 -- the numbers of the list, and the width
 abbrev numbers : Loop → List ℕ
 numbers l = start l .args .links .now
 
 abbrev width : Loop → ℕ
-width l = start l .args .width .bits
+width l = start l .args .force .width .bits
 
 -- there is a whole link at this place
 room : (b : Body) → b .before .loop .i + 3 ≤ length (numbers (b .before))
@@ -53,7 +53,7 @@ room b = omega (arith, b .before .loop .inv .0, b .loop-test .taken)
 
 -- the walk has come to this place, whichever rules the bands and the bits are those of
 abbrev Own : Loop → List Rule → Type 0
-Own l rs = OfLawful (width l) (take (start l .args .n) (bandsIn (start l .args .rows .now))) (start l .args .fixed) rs
+Own l rs = OfLawful (width l) (take (start l .args .force .count) (bandsIn (start l .args .rows .now))) (start l .args .force .fixed) rs
 
 mid : (l : Loop) (rs : List Rule) → Own l rs → Midway (width l) rs (numbers l) (l .loop .i) (l .loop .end)
 mid l rs h = l .loop .inv .3 rs h

@@ -24,47 +24,47 @@ use Rattle.covering.proofs.link.shows.Tie as tie
 abbrev lying : tie.Start → List Band
 lying s = bandsIn (s .args .rows .now)
 
-one-laid : (s : tie.Start) → s .args .link .reason < s .args .n → Laid (top (s .args .width .bits)) (getD (lying s) (s .args .link .reason) blankBand)
+one-laid : (s : tie.Start) → s .args .link .reason < s .args .force .count → Laid (top (s .args .force .width .bits)) (getD (lying s) (s .args .link .reason) blankBand)
 one-laid s h =
     let l = s .pre .1 .0 in
-    laid-take _ (lying s) (s .args .n) (s .args .link .reason) blankBand h (omega (arith, l .places, l .count)) (l .laid)
+    laid-take _ (lying s) (s .args .force .count) (s .args .link .reason) blankBand h (omega (arith, l .places, l .count)) (l .laid)
 
 -- the words of the link
-abbrev order : (s : tie.Start) → (s .args .link .from ≤ s .args .link .to) × (s .args .link .to ≤ top (s .args .width .bits))
+abbrev order : (s : tie.Start) → (s .args .link .from ≤ s .args .link .to) × (s .args .link .to ≤ top (s .args .force .width .bits))
 order s = (s .pre .1 .1 .1, s .pre .1 .1 .2)
 
-count : (s : tie.Start) (rs : List Rule) → OfLawful (s .args .width .bits) (take (s .args .n) (lying s)) (s .args .fixed) rs → length rs ≡ s .args .n
-count s rs h = rules-count _ _ (s .args .n) (lying s) rs (s .pre .1 .0) (h .1 .own)
+count : (s : tie.Start) (rs : List Rule) → OfLawful (s .args .force .width .bits) (take (s .args .force .count) (lying s)) (s .args .force .fixed) rs → length rs ≡ s .args .force .count
+count s rs h = rules-count _ _ (s .args .force .count) (lying s) rs (s .pre .1 .0) (h .1 .own)
 
 top-requires : tie.Need-top-requires
 top-requires c κs = search needs
 
 band-at-requires : tie.Need-band-at-requires
 band-at-requires c κs =
-    let s = c .before .before in
-    let h : s .args .link .reason < s .args .n = omega (arith, c .before .if1 .taken) in
+    let s = c .before .before .before in
+    let h : s .args .link .reason < s .args .force .count = omega (arith, c .before .if1 .taken) in
     let l = s .pre .1 .0 in
     (omega (arith, l .count), subst (λ (t : ℕ). Laid t (getD (lying s) (s .args .link .reason) blankBand)) (sym (c .top .ensures)) (one-laid s h))
 
-read : (c : tie.After-band-at) → c .band-at .result ≡ getD (lying (c .before .before .before)) (c .before .before .before .args .link .reason) blankBand
+read : (c : tie.After-band-at) → c .band-at .result ≡ getD (lying (c .before .before .before .before)) (c .before .before .before .before .args .link .reason) blankBand
 unfolding seen
 read c = c .band-at .ensures
 
 fails-requires : tie.Need-fails-requires
 fails-requires c κs =
     let t = c .before in
-    let s = t .before .before in
-    let h : s .args .link .reason < s .args .n = omega (arith, t .before .if1 .taken) in
+    let s = t .before .before .before in
+    let h : s .args .link .reason < s .args .force .count = omega (arith, t .before .if1 .taken) in
     (subst₂ Laid (sym (t .top .ensures)) (sym (read c)) (one-laid s h), order s .0, omega (arith, order s .1, t .top .ensures))
 
 returns : tie.Need-returns
 returns c rs h =
     let b = c .before in
-    let s = b .before .before .before in
+    let s = b .before .before .before .before in
     let few = s .pre .1 .0 .count in
-    let there : s .args .link .reason < s .args .n = omega (arith, b .before .before .if1 .taken) in
+    let there : s .args .link .reason < s .args .force .count = omega (arith, b .before .before .if1 .taken) in
     c .fails .ensures
-    ∙ ap (λ (t : Band). misses (holds t) (s .args .link .from) (s .args .link .to)) (read b ∙ band-of _ _ (s .args .n) (lying s) rs (s .pre .1 .0) (h .1 .own) _ blankBand there)
+    ∙ ap (λ (t : Band). misses (holds t) (s .args .link .from) (s .args .link .to)) (read b ∙ band-of _ _ (s .args .force .count) (lying s) rs (s .pre .1 .0) (h .1 .own) _ blankBand there)
     ∙ rule-reason _ (s .pre .0 .low) _ _ (order s .0) (order s .1) rs (h .0) _ (omega (arith, count s rs h)) (λ e. omega arith)
 
 lacks-requires : tie.Need-lacks-requires
@@ -72,14 +72,14 @@ lacks-requires c κs = search needs
 
 returns-2 : tie.Need-returns-2
 returns-2 c rs h =
-    let s = c .before .before .before in
+    let s = c .before .before .before .before in
     c .lacks .ensures
     ∙ ap (λ (f : Fixed). misses (hasBits f) (s .args .link .from) (s .args .link .to)) (h .1 .bits)
     ∙ bits-reason _ (s .pre .0 .low) _ _ (order s .0) (order s .1) rs (h .0) _ (omega (arith, count s rs h, c .before .before .if1 .left)) (c .before .if2 .taken)
 
 returns-3 : tie.Need-returns-3
 returns-3 c rs h =
-    let s = c .before .before in
+    let s = c .before .before .before in
     no-reason _ (s .pre .0 .low) _ _ (order s .0) (order s .1) rs (h .0) _ (omega (arith, count s rs h, c .before .if1 .left)) (c .if2 .left)
 
 pub shows-spec : {M : Type 1} → statement M
