@@ -22,14 +22,6 @@ impl Batch {
     pub const MOST: usize = Rule::LIMIT + 1;
 }
 
-// A place that no rule has taken.
-const NO_RULE: Rule = Rule {
-    form: 0,
-    sense: 0,
-    c1: 0,
-    c2: 0,
-};
-
 // Opens a sheet, adds each rule in order and asks, up to the first refusal. The adds are of the opening's edition. The rule after as many
 // as a sheet takes is refused, so that no rule past it is read.
 pub fn run(opening: Opening, rules: &[Rule], out: &mut [u64]) -> Batch
@@ -50,7 +42,7 @@ pub fn run(opening: Opening, rules: &[Rule], out: &mut [u64]) -> Batch
 fn none() -> [Rule; Batch::MOST]
     ensures { λ r. ⌜ r ≡ replicate MOST noRule ⌝ }
 {
-    [NO_RULE; Batch::MOST]
+    [Rule::NONE; Batch::MOST]
 }
 
 // How many rules of a list are read.

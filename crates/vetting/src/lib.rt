@@ -10,13 +10,6 @@ use batch::Batch;
 use handing::NUMBERS;
 use rule::Rule;
 
-const NO_RULE: Rule = Rule {
-    form: 0,
-    sense: 0,
-    c1: 0,
-    c2: 0,
-};
-
 // Vets a list: the batch call.
 pub fn vet(
     width: u64,
@@ -50,7 +43,7 @@ pub fn vet(
 fn first_rules(rules: &[[u64; NUMBERS]]) -> [Rule; Batch::MOST]
     ensures { λ r. ⌜ r ≡ padded MOST noRule (take MOST (rulesIn (now (rules .entry)))) ⌝ }
 {
-    let mut first = [NO_RULE; Batch::MOST];
+    let mut first = [Rule::NONE; Batch::MOST];
     let mut i = 0;
     while i < Batch::MOST {
         if rules.len() <= i {
