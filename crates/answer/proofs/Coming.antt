@@ -8,9 +8,9 @@ use Rattle.rule.specs.Meaning.{RULES}
 use Rattle.chain.specs.Links.{chainRoom}
 use Rattle.page.specs.Calls.{Call}
 use Rattle.slate.specs.declared.Head.{Head}
-use Rattle.slate.specs.Held.{Held}
-use Rattle.sheet.specs.Held.{packed}
-use Rattle.sheet.specs.Laid.{After}
+use Rattle.slate.specs.route.Held.{Held}
+use Rattle.sheet.specs.route.Held.{packed}
+use Rattle.sheet.specs.route.Laid.{After}
 use Rattle.sheet.specs.declared.Reply.{Reply}
 use Rattle.sheet.specs.declared.Sheet.{Sheet}
 use Rattle.sheet.specs.Statements.{Asked}
@@ -24,7 +24,7 @@ use Rattle.answer.specs.declared.Called.{Called}
 use Rattle.answer.specs.declared.Told.{Told}
 use Rattle.answer.specs.declared.Told.the-variants.{Asking, Number}
 use Rattle.answer.specs.Statements.{by-asking, no-frame, untouched}
-use Rattle.answer.specs.Told.{ComesTo, Few, numberTold, toldLines}
+use Rattle.answer.specs.route.Told.{ComesTo, Few, numberTold, toldLines}
 
 pub number-comes : {s : Sheet} {n : ℕ} {h : Head} {rows : List (List ℕ)} {marks b : List ℕ} {f g : Frame} {r : Called} (c : Call)
     → length b ≡ chainRoom RULES → f ≡ g → callOf g ≡ makes c → After s c n h rows marks → r ≡ numberTold n h

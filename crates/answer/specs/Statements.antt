@@ -3,8 +3,8 @@
 use mathlib.Core.List.{List}
 use Prim.Native.Nat.{ℕ}
 use Rattle.page.specs.Calls.{Call}
-use Rattle.slate.specs.Held.{Held}
-use Rattle.sheet.specs.Held.{packed}
+use Rattle.slate.specs.route.Held.{Held}
+use Rattle.sheet.specs.route.Held.{packed}
 use Rattle.sheet.specs.declared.Reply.{Reply}
 use Rattle.sheet.specs.declared.Sheet.{Sheet}
 use Rattle.sheet.specs.Statements.{Asked}

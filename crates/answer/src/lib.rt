@@ -6,10 +6,10 @@ ghost use Rattle.rule.specs.Meaning.{RULES};
 ghost use Rattle.chain.specs.Links.{chainRoom};
 ghost use Rattle.fields.specs.Answers.{ROOM};
 ghost use Rattle.frame.specs.Calls.{callOf};
-ghost use Rattle.slate.specs.Held.{Held};
-ghost use Rattle.sheet.specs.Held.{packed};
+ghost use Rattle.slate.specs.route.Held.{Held};
+ghost use Rattle.sheet.specs.route.Held.{packed};
 ghost use Rattle.answer.specs.Statements.{ChainLeft, FrameAnswered};
-ghost use Rattle.answer.specs.Told.{ComesTo, numberTold};
+ghost use Rattle.answer.specs.route.Told.{ComesTo, numberTold};
 
 mod telling;
 

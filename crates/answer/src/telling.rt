@@ -5,7 +5,7 @@ ghost use Rattle.rule.specs.Meaning.{RULES};
 ghost use Rattle.chain.specs.Links.{mostLinks};
 ghost use Rattle.fields.specs.Answers.{ROOM, answerBytes, askLines};
 ghost use Rattle.fields.specs.Put.{PutAt};
-ghost use Rattle.answer.specs.Told.{Few, toldLines};
+ghost use Rattle.answer.specs.route.Told.{Few, toldLines};
 use crate::Told;
 use frame::kept_line;
 use frame::put_line;

@@ -19,7 +19,7 @@ use Rattle.word.proofs.Widths.{halves, half-pos}
 use Rattle.rule.specs.Meaning.{settled}
 use Rattle.rule.proofs.Settled.{never}
 use Rattle.band.specs.declared.Band.{Band}
-use Rattle.band.specs.Band.{holds, settledBand, span, wheel, within}
+use Rattle.band.specs.route.Band.{holds, settledBand, span, wheel, within}
 use Rattle.band.proofs.Sides.{In, Out, is-in, is-out, sides, value}
 
 -- d is how far it is up from a to y on a wheel with the top word t

@@ -21,7 +21,7 @@ use Rattle.rule.proofs.Forms.{by-form, end, row}
 use Rattle.rule.proofs.Ends.{ends-below}
 use Rattle.rule.proofs.Rows.{at-row, past-rows}
 use Rattle.band.specs.declared.Band.{Band}
-use Rattle.band.specs.Band.{Laid, bandOf, bySense, holds, otherSide, seamless, settledBand, span, wheel, within, writtenBand, writtenBands}
+use Rattle.band.specs.route.Band.{Laid, bandOf, bySense, holds, otherSide, seamless, settledBand, span, wheel, within, writtenBand, writtenBands}
 use Rattle.band.proofs.Arcs.{distance, form1, form2, form3, form4, form5, form6, form8}
 use Rattle.band.proofs.Laying.{at-band, part-band, past-bands, whole-band}
 use Rattle.band.proofs.Runs.{edge, run-ends}

@@ -9,7 +9,7 @@ use Rattle.rule.specs.declared.Rule.{Rule}
 use Rattle.rule.specs.Meaning.{FORMS}
 use Rattle.rule.proofs.Forms.{Rows, by-form, row}
 use Rattle.band.specs.declared.Band.{Band}
-use Rattle.band.specs.Band.{bySense, otherSide, seamless, span, wheel, writtenBand, writtenBands}
+use Rattle.band.specs.route.Band.{bySense, otherSide, seamless, span, wheel, writtenBand, writtenBands}
 
 module _ (w : ℕ) (b : Band) where
   pub whole-band : minus w (b .to) (b .from) ≡ top w → seamless w b ≡ wheel (top w) (b .inside)

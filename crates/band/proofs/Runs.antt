@@ -10,7 +10,7 @@ use borrow.Author.Tests.{not-false}
 use Rattle.word.specs.Search.{climb, sink}
 use Rattle.word.proofs.Search.{climb-to, sink-to}
 use Rattle.band.specs.declared.Band.{Band}
-use Rattle.band.specs.Band.{Laid, holds, within}
+use Rattle.band.specs.route.Band.{Laid, holds, within}
 use Rattle.band.proofs.Sides.{In, Out, is-in, is-out, in-of, out-of}
 
 module _ (b : Band) where

@@ -8,7 +8,7 @@ use native.Mathlib.Decide.{decLe}
 use native.Mathlib.Omega.{arith}
 use borrow.Author.Tests.{le-leb, lt-leb}
 use lib.Dec.{leb}
-use Rattle.band.specs.Band.{within}
+use Rattle.band.specs.route.Band.{within}
 
 abbrev pub In : (a b x : ℕ) → Type 0
 In a b x = ((a ≤ x) × (x ≤ b)) ⊎ (((b < a) × (x ≤ b)) ⊎ ((b < a) × (a ≤ x)))

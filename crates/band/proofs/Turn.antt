@@ -6,7 +6,7 @@ use mathlib.Core.Logic.{inl, inr, ⊎-elim}
 use Prim.Native.Nat.{ℕ, _-_, _≤_}
 use native.Mathlib.Omega.{arith}
 use Rattle.band.specs.declared.Band.{Band}
-use Rattle.band.specs.Band.{Laid, holds, turnedBand, within}
+use Rattle.band.specs.route.Band.{Laid, holds, turnedBand, within}
 use Rattle.band.proofs.Sides.{In, Out, is-in, is-out, sides}
 
 within-turned : (t a b x : ℕ) → a ≤ t → b ≤ t → x ≤ t → within (t - b) (t - a) x ≡ within a b (t - x)

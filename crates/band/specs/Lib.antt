@@ -1,1 +1,1 @@
-pub mod Band
+pub mod route

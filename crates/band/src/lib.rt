@@ -5,7 +5,7 @@ ghost use mathlib.Core.Bool.{false};
 ghost use Prim.Native.Nat.{_-_, _≤_};
 ghost use Rattle.word.specs.Word.{IsWidth};
 ghost use Rattle.word.specs.Search.{climb, sink};
-ghost use Rattle.band.specs.Band.{Laid, bandOf, bySense, holds, seamless, settledBand, span, turnedBand, wheel, within, writtenBand};
+ghost use Rattle.band.specs.route.Band.{Laid, bandOf, bySense, holds, seamless, settledBand, span, turnedBand, wheel, within, writtenBand};
 use rule::Rule;
 use word::Width;
 

@@ -19,7 +19,7 @@ use Rattle.page.specs.Page.{OpenPage, a-rule, newPage, no-page, page, rulesOn, 
 use Rattle.page.proofs.Refusals.{added-rule, after-accepted}
 use Rattle.batch.specs.declared.Batch.{Batch}
 use Rattle.batch.specs.Batch.{Batched, Ending, Gives, MOST, added, batch}
-use Rattle.batch.specs.Route.{batchAt, few}
+use Rattle.batch.specs.route.Route.{batchAt, few}
 use Rattle.batch.proofs.Added.{add-goes, add-stops}
 
 module _ (e : Edition) (m : ℕ) where

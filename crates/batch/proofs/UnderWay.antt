@@ -21,15 +21,15 @@ use Rattle.slate.specs.declared.Head.{Head}
 use Rattle.sheet.specs.declared.Answer.{Answer}
 use Rattle.sheet.specs.declared.Reply.{Reply}
 use Rattle.sheet.specs.declared.Sheet.{Sheet}
-use Rattle.sheet.specs.Held.{packed}
-use Rattle.sheet.specs.Laid.{After}
+use Rattle.sheet.specs.route.Held.{packed}
+use Rattle.sheet.specs.route.Laid.{After}
 use Rattle.sheet.specs.Record.{blank, fresh}
 use Rattle.sheet.specs.Statements.{Asked, answers, refuses}
 use Rattle.demands.proofs.Demand.{after-reached, outcome-on}
 use Rattle.batch.specs.declared.Batch.{Batch}
 use Rattle.batch.specs.Batch.{Gives, added, batches, stops}
-use Rattle.batch.specs.Course.{Came, Under}
-use Rattle.batch.specs.Route.{batchAt}
+use Rattle.batch.specs.route.Course.{Came, Under}
+use Rattle.batch.specs.route.Route.{batchAt}
 use Rattle.batch.proofs.Added.{add-goes, add-stops}
 
 -- ---- the adds

@@ -1,4 +1,3 @@
 pub mod Batch
-pub mod Course
 pub mod OneByOne
-pub mod Route
+pub mod route

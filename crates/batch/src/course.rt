@@ -2,11 +2,11 @@
 ghost use mathlib.Core.Path.{_≡_};
 ghost use Prim.Native.Nat.{_≤_};
 ghost use lib.ListN.{length, take};
-ghost use Rattle.slate.specs.Held.{Held};
-ghost use Rattle.sheet.specs.Held.{packed};
+ghost use Rattle.slate.specs.route.Held.{Held};
+ghost use Rattle.sheet.specs.route.Held.{packed};
 ghost use Rattle.batch.specs.Batch.{Gives, MOST, batches};
-ghost use Rattle.batch.specs.Course.{Came};
-ghost use Rattle.batch.specs.Route.{batchAt};
+ghost use Rattle.batch.specs.route.Course.{Came};
+ghost use Rattle.batch.specs.route.Route.{batchAt};
 use crate::Batch;
 use page::Opening;
 use rows::NUMBERS;

@@ -3,7 +3,7 @@ ghost use mathlib.Core.Path.{_≡_};
 ghost use lib.ListN.{length, replicate, take};
 ghost use Rattle.accept.specs.Accept.{noRule};
 ghost use Rattle.batch.specs.Batch.{Batched, Gives, MOST};
-ghost use Rattle.batch.specs.Route.{batchAt, few};
+ghost use Rattle.batch.specs.route.Route.{batchAt, few};
 
 mod course;
 

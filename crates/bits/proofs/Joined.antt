@@ -18,7 +18,7 @@ use Rattle.rule.specs.Meaning.{AllLawful, Lawful, meets, meets7, rows}
 use Rattle.rule.proofs.Rows.{as-written, at-row}
 use Rattle.bits.specs.declared.Fixed.{Fixed}
 use Rattle.bits.specs.declared.Fixed.the-variants.{Bits, Clash}
-use Rattle.bits.specs.Fixed.{hasBits, agrees, both, joined, fixedFrom, fixedBits, Tidy, Within}
+use Rattle.bits.specs.route.Fixed.{hasBits, agrees, both, joined, fixedFrom, fixedBits, Tidy, Within}
 use Rattle.bits.proofs.Bit.{and-twice, and-swap, and-both, or-tidy, and-first}
 
 -- agreeing is two facts

@@ -16,7 +16,7 @@ use Rattle.word.proofs.Search.{first-at, first-none}
 use Rattle.word.proofs.Widths.{top-suc}
 use Rattle.bits.specs.declared.Fixed.{Fixed}
 use Rattle.bits.specs.declared.Fixed.the-variants.{Bits, Clash}
-use Rattle.bits.specs.Fixed.{hasBits, Tidy}
+use Rattle.bits.specs.route.Fixed.{hasBits, Tidy}
 use Rattle.bits.proofs.Bit.{or-twice}
 use Rattle.bits.proofs.Masks.{NextWhole, lack, and-not, or-adds, or-takes, whole-after, whole-here, whole-next}
 

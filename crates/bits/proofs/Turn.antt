@@ -10,7 +10,7 @@ use Rattle.word.proofs.Tests.{same-test}
 use Rattle.word.proofs.Shared.{shared}
 use Rattle.bits.specs.declared.Fixed.{Fixed}
 use Rattle.bits.specs.declared.Fixed.the-variants.{Bits, Clash}
-use Rattle.bits.specs.Fixed.{hasBits, turnedBits, Tidy, Within}
+use Rattle.bits.specs.route.Fixed.{hasBits, turnedBits, Tidy, Within}
 use Rattle.bits.proofs.Bit.{and-twice}
 
 pub turned-bits : (w : ℕ) (f : Fixed) (x : ℕ) → Tidy f → Within w f → x ≤ top w → hasBits (turnedBits f) x ≡ hasBits f (top w - x)

@@ -8,7 +8,7 @@ use lib.Dec.{eqb}
 use Rattle.rule.specs.declared.Rule.{Rule}
 use Rattle.bits.specs.declared.Fixed.{Fixed}
 use Rattle.bits.specs.declared.Fixed.the-variants.{Bits, Clash}
-use Rattle.bits.specs.Fixed.{agrees, both, joined}
+use Rattle.bits.specs.route.Fixed.{agrees, both, joined}
 
 module _ (f : Fixed) (r : Rule) where
   pub other-form : (r .form ≡ 7 → ⊥) → f ≡ joined f r

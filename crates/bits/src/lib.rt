@@ -4,7 +4,7 @@ ghost use mathlib.Core.Bool.{true};
 ghost use Prim.Native.Nat.{suc, _-_, _≤_};
 ghost use Rattle.word.specs.Word.{IsWidth, top};
 ghost use Rattle.word.specs.Search.{first};
-ghost use Rattle.bits.specs.Fixed.{hasBits, joined, Tidy, turnedBits};
+ghost use Rattle.bits.specs.route.Fixed.{hasBits, joined, Tidy, turnedBits};
 use rule::Rule;
 use word::Found;
 use word::Width;

@@ -12,7 +12,7 @@ use Rattle.page.specs.Page.{OpenPage, Page, entriesOf, no-page, page, rulesOn, 
 use Rattle.page.specs.Reached.{Reached, start}
 use Rattle.sheet.specs.declared.Sheet.{Sheet}
 use Rattle.sheet.specs.Record.{fresh}
-use Rattle.sheet.specs.Stands.{Standing, Stands, blank-sheet, no-sheet, on-page}
+use Rattle.sheet.specs.route.Stands.{Standing, Stands, blank-sheet, no-sheet, on-page}
 use Rattle.sheet.proofs.OnePage.{one-page}
 use Rattle.sheet.proofs.Stands.{known}
 use Rattle.fitting.specs.Words.{atStart}

@@ -20,7 +20,7 @@ use Rattle.chain.specs.Chain.{Covers}
 use Rattle.chain.specs.Chain.Covers.{end, on}
 use Rattle.chain.specs.Links.{BITS, nth}
 use Rattle.covering.specs.Check.{namesBits, namesRule, rightReason, shown}
-use Rattle.covering.specs.Route.{covered}
+use Rattle.covering.specs.route.Route.{covered}
 use Rattle.covering.proofs.Covering.{covers-shown, shown-covers, shows-is, shows-order, shows-reason}
 use Rattle.covering.proofs.EveryWord.{misses}
 use Rattle.covering.proofs.Midway.{covered-none, covered-some}

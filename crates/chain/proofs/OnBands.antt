@@ -19,17 +19,17 @@ use Rattle.word.proofs.Search.{first-same}
 use Rattle.rule.specs.declared.Rule.{Rule}
 use Rattle.rule.specs.Meaning.{AllLawful, Lawful, start}
 use Rattle.band.specs.declared.Band.{Band}
-use Rattle.band.specs.Band.{bandOf, holds}
+use Rattle.band.specs.route.Band.{bandOf, holds}
 use Rattle.band.proofs.Law.{band-law, bit-band, reach-law, start-law}
 use Rattle.bits.specs.declared.Fixed.{Fixed}
-use Rattle.bits.specs.Fixed.{fixedBits, hasBits}
+use Rattle.bits.specs.route.Fixed.{fixedBits, hasBits}
 use Rattle.bits.proofs.Joined.{fixed-bits}
-use Rattle.rows.specs.Bands.{blankBand}
+use Rattle.rows.specs.route.Bands.{blankBand}
 use Rattle.chain.specs.declared.Far.{Far}
 use Rattle.chain.specs.declared.Far.the-variants.{To, Nowhere}
 use Rattle.chain.specs.Chain.{Plain}
 use Rattle.chain.specs.Links.{before, blocks, further, furthest, furthestOf, gap, link, linkAt, linkBy, nth}
-use Rattle.chain.specs.OnBands.{furtherBand, furthestBand, furthestBandOf, gapOn, linkOn}
+use Rattle.chain.specs.route.OnBands.{furtherBand, furthestBand, furthestBandOf, gapOn, linkOn}
 use Rattle.chain.proofs.Furthest.{Held, added, furthest-held}
 
 module _ (w : ℕ) (width : 1 ≤ w) (p : ℕ) (word : p ≤ top w) where

@@ -13,12 +13,12 @@ use Rattle.rule.specs.declared.Rule.{Rule}
 use Rattle.rule.specs.Meaning.{AllLawful, fits}
 use Rattle.band.specs.declared.Band.{Band}
 use Rattle.bits.specs.declared.Fixed.{Fixed}
-use Rattle.rows.specs.OfRules.{OfLawful}
+use Rattle.rows.specs.route.OfRules.{OfLawful}
 use Rattle.verdict.specs.Kept.{kept}
 use Rattle.verdict.proofs.Right.{kept-right}
 use Rattle.chain.specs.declared.Link.{Link}
 use Rattle.chain.specs.Links.{goOn, numbersOf, linkAt, links, linksFrom}
-use Rattle.chain.specs.OnBands.{linkOn}
+use Rattle.chain.specs.route.OnBands.{linkOn}
 use Rattle.chain.proofs.Bound.{chain-bound}
 use Rattle.chain.proofs.Lists.{Next, next-of, paste-on}
 use Rattle.chain.proofs.OnBands.{link-law}

@@ -3,4 +3,4 @@ pub mod Cases
 pub mod Chain
 pub mod Findings
 pub mod Links
-pub mod OnBands
+pub mod route

@@ -18,7 +18,7 @@ use Rattle.chain.specs.Links.{link, numbersOf}
 use Rattle.chain.proofs.Walk.{numbers-length}
 use Rattle.sheet.specs.declared.Sheet.{Sheet}
 use Rattle.page.specs.Page.{MARKS}
-use Rattle.sheet.specs.Shape.{isSheet}
+use Rattle.sheet.specs.route.Shape.{isSheet}
 use Rattle.sheet.proofs.Tested.{passes-sheet, sheet-passes}
 use Rattle.checker.specs.Accepted.{Accepted, ShownBy, linkNo}
 use Rattle.covering.specs.Check.{inOrder, largestEnd, linksIn, noGap, rightReason, shown, shownBy}

@@ -11,24 +11,24 @@ use lib.Dec.{eqb}
 use lib.ListN.{length, take}
 use Rattle.word.specs.Word.{IsWidth, top}
 use Rattle.rule.specs.declared.Rule.{Rule}
-use Rattle.band.specs.Band.{AllLaid}
-use Rattle.bits.specs.Fixed.{Tidy}
+use Rattle.band.specs.route.Band.{AllLaid}
+use Rattle.bits.specs.route.Fixed.{Tidy}
 use Rattle.bits.proofs.Joined.{fixed-tidy}
 use Rattle.rows.proofs.Passes.{bands-laid}
 use Rattle.sheet.specs.declared.Sheet.{Sheet}
-use Rattle.sheet.specs.Shape.{isSheet}
-use Rattle.sheet.specs.Stands.{Standing}
+use Rattle.sheet.specs.route.Shape.{isSheet}
+use Rattle.sheet.specs.route.Stands.{Standing}
 use Rattle.page.proofs.Lawful.{reached-lawful}
 use Rattle.slate.proofs.Holding.{bands-places, first-drawn}
 use Rattle.sheet.proofs.Holding.{marks-length, packed-told, rules-length}
 use Rattle.sheet.proofs.Stands.{has-page, has-width, known, rules-lawful, width-of}
 use Rattle.sheet.proofs.Tested.{passes-sheet}
-use Rattle.rows.specs.Bands.{Lie}
-use Rattle.rows.specs.OfRules.{OfLawful}
-use Rattle.rows.specs.Rows.{bandsIn, rulesIn}
+use Rattle.rows.specs.route.Bands.{Lie}
+use Rattle.rows.specs.route.OfRules.{OfLawful}
+use Rattle.rows.specs.route.Rows.{bandsIn, rulesIn}
 use Rattle.slate.specs.declared.Head.{Head}
-use Rattle.slate.specs.Held.{Held}
-use Rattle.sheet.specs.Held.{packed}
+use Rattle.slate.specs.route.Held.{Held}
+use Rattle.sheet.specs.route.Held.{packed}
 use Rattle.checker.specs.Accepted.{Accepted}
 use Rattle.covering.specs.Check.{linksIn, shown, shownBy}
 use Rattle.checker.specs.Check.{accepts}

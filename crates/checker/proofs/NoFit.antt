@@ -12,7 +12,7 @@ use Rattle.word.proofs.Tests.{both-pass}
 use Rattle.rule.specs.Meaning.{fits}
 use Rattle.chain.proofs.Cover.{covers-no-fit}
 use Rattle.sheet.specs.declared.Sheet.{Sheet}
-use Rattle.sheet.specs.Shape.{isSheet}
+use Rattle.sheet.specs.route.Shape.{isSheet}
 use Rattle.covering.specs.Check.{linksIn, shown, shownBy}
 use Rattle.checker.specs.Check.{accepts}
 use Rattle.covering.proofs.Covering.{shown-covers}

@@ -12,9 +12,9 @@ use Rattle.accept.specs.Grounds.{firstThatApplies}
 use Rattle.verdict.specs.Kept.{kept, verdictOf}
 use Rattle.sheet.specs.Record.{fresh}
 use Rattle.page.specs.Page.{marksOn, restored, rulesOn}
-use Rattle.slate.specs.Shape.{inForce, sameKept, standsSo, wellShaped}
-use Rattle.sheet.specs.Shape.{isSheet}
-use Rattle.page.specs.Shape.{marksShaped, rising, rulesShaped}
+use Rattle.slate.specs.route.Shape.{inForce, sameKept, standsSo, wellShaped}
+use Rattle.sheet.specs.route.Shape.{isSheet}
+use Rattle.page.specs.route.Shape.{marksShaped, rising, rulesShaped}
 use Rattle.covering.specs.Check.{allOf, everyWord, inOrder, largestEnd, linksIn, namesBits, namesRule, noGap, rightReason, shown, shownBy}
 use Rattle.checker.specs.Check.{accepts}
 use Rattle.checker.specs.Examples.{Example, examples}

@@ -5,7 +5,7 @@ use Prim.Native.Nat.{ℕ}
 use lib.Dec.{eqb}
 use lib.ListN.{take}
 use Rattle.sheet.specs.declared.Sheet.{Sheet}
-use Rattle.sheet.specs.Shape.{isSheet}
+use Rattle.sheet.specs.route.Shape.{isSheet}
 use Rattle.covering.specs.Check.{shownBy}
 
 -- "The blank sheet gets no, and so does a record that is no sheet." The rules in force are the first of the record's.

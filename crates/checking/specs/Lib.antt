@@ -1,2 +1,2 @@
 pub mod Checked
-pub mod Room
+pub mod route

@@ -6,7 +6,7 @@ ghost use Rattle.io.specs.Counts.{Counts};
 ghost use Rattle.finding.specs.Clauses.{isYes};
 ghost use Rattle.checker.specs.Check.{accepts};
 ghost use Rattle.clause.specs.Finding.{finding};
-ghost use Rattle.checking.specs.Room.{chainOf, roomOf};
+ghost use Rattle.checking.specs.route.Room.{chainOf, roomOf};
 use chain::Link;
 use clause::Finding;
 use gathering::LENT;

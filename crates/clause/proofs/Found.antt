@@ -11,11 +11,11 @@ use lib.ListN.{length, length-map, take}
 use lib.Seq.{length-take-le}
 use Rattle.word.proofs.Widths.{half-pos, halves}
 use Rattle.slate.specs.declared.Head.{Head}
-use Rattle.slate.specs.Held.{Held}
+use Rattle.slate.specs.route.Held.{Held}
 use Rattle.sheet.specs.declared.Sheet.{Sheet}
-use Rattle.sheet.specs.Held.{packed}
+use Rattle.sheet.specs.route.Held.{packed}
 use Rattle.sheet.proofs.Holding.{packed-told}
-use Rattle.rows.specs.Rows.{ruleIn, rulesIn}
+use Rattle.rows.specs.route.Rows.{ruleIn, rulesIn}
 use Rattle.covering.specs.Check.{linksIn, shown, shownBy}
 use Rattle.checker.specs.Check.{accepts}
 use Rattle.checker.proofs.Held.{blank-no, empty-no, lie-so, no-sheet-no, shown-so, width-so}

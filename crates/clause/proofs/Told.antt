@@ -14,11 +14,11 @@ use Rattle.accept.specs.Accept.{acceptable, badConstant, badForm, badSense, eve
 use Rattle.accept.specs.Grounds.{firstThatApplies}
 use Rattle.verdict.specs.Kept.{kept, verdictOf}
 use Rattle.page.specs.Page.{marksOn, restored, rulesOn}
-use Rattle.page.specs.Shape.{marksShaped, rising, rulesShaped}
-use Rattle.slate.specs.Shape.{inForce, sameKept, standsSo, wellShaped}
+use Rattle.page.specs.route.Shape.{marksShaped, rising, rulesShaped}
+use Rattle.slate.specs.route.Shape.{inForce, sameKept, standsSo, wellShaped}
 use Rattle.sheet.specs.declared.Sheet.{Sheet}
 use Rattle.sheet.specs.Record.{fresh}
-use Rattle.sheet.specs.Shape.{isSheet}
+use Rattle.sheet.specs.route.Shape.{isSheet}
 use Rattle.covering.specs.Check.{allOf, everyWord, linksIn}
 use Rattle.finding.specs.declared.Finding.{Finding}
 use Rattle.finding.specs.Clauses.{firstBroken, isYes, lieClauses, listClauses, reasonClauses, smallest, theWord}

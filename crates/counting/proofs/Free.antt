@@ -8,7 +8,7 @@ use Rattle.word.specs.Search.{count}
 use Rattle.rule.specs.Meaning.{fits}
 use Rattle.fitting.specs.Words.{howMany}
 use Rattle.counting.specs.declared.Share.{Share}
-use Rattle.tally.specs.Total.{UNIT}
+use Rattle.tally.specs.route.Total.{UNIT}
 use Rattle.counting.specs.Share.{shares, together}
 
 pub together-shares : (n h : ℕ) → together (shares n h) ≡ h

@@ -18,7 +18,7 @@ use Rattle.chain.specs.Chain.{Covers, Shows}
 use Rattle.chain.specs.Chain.Covers.{end, on}
 use Rattle.chain.specs.Links.{linkFrom}
 use Rattle.covering.specs.Check.{linksIn, rightReason, shown, shownBy}
-use Rattle.covering.specs.Route.{covered}
+use Rattle.covering.specs.route.Route.{covered}
 use Rattle.covering.proofs.Covering.{covers-shown, shown-covers, shows-is, shows-order, shows-reason}
 
 -- ---- how many words are covered

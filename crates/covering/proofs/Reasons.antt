@@ -14,12 +14,12 @@ use Rattle.word.specs.Word.{top}
 use Rattle.rule.specs.declared.Rule.{Rule}
 use Rattle.rule.specs.Meaning.{AllLawful, Lawful, meets, meets7}
 use Rattle.band.specs.declared.Band.{Band}
-use Rattle.band.specs.Band.{bandOf, holds}
+use Rattle.band.specs.route.Band.{bandOf, holds}
 use Rattle.band.proofs.Law.{band-law, bit-band}
-use Rattle.bits.specs.Fixed.{fixedBits, hasBits}
+use Rattle.bits.specs.route.Fixed.{fixedBits, hasBits}
 use Rattle.bits.proofs.Joined.{fixed-bits}
 use Rattle.chain.specs.Links.{BITS, link, nth}
-use Rattle.rows.specs.Bands.{Lie}
+use Rattle.rows.specs.route.Bands.{Lie}
 use Rattle.covering.specs.Check.{namesBits, namesRule, rightReason}
 use Rattle.covering.proofs.EveryWord.{every-same, first-passes, misses}
 

@@ -1,2 +1,2 @@
 pub mod Check
-pub mod Route
+pub mod route

@@ -4,10 +4,10 @@ ghost use mathlib.Core.Path.{_≡_};
 ghost use lib.ListN.{take};
 ghost use Rattle.word.specs.Word.{IsWidth, top};
 ghost use Rattle.rule.specs.declared.Rule.{Rule as RuleOf};
-ghost use Rattle.bits.specs.Fixed.{Tidy};
-ghost use Rattle.rows.specs.Bands.{Lie};
-ghost use Rattle.rows.specs.OfRules.{OfLawful};
-ghost use Rattle.rows.specs.Rows.{bandsIn};
+ghost use Rattle.bits.specs.route.Fixed.{Tidy};
+ghost use Rattle.rows.specs.route.Bands.{Lie};
+ghost use Rattle.rows.specs.route.OfRules.{OfLawful};
+ghost use Rattle.rows.specs.route.Rows.{bandsIn};
 ghost use Rattle.covering.specs.Check.{shownBy};
 
 mod link;

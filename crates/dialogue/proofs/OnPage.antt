@@ -17,7 +17,7 @@ use Rattle.sheet.specs.declared.Answer.{Answer}
 use Rattle.sheet.specs.declared.Reply.{Reply}
 use Rattle.sheet.specs.declared.Sheet.{Sheet}
 use Rattle.sheet.specs.Record.{fresh}
-use Rattle.sheet.specs.Stands.{Stands, blank-sheet, no-sheet, on-page}
+use Rattle.sheet.specs.route.Stands.{Stands, blank-sheet, no-sheet, on-page}
 use Rattle.sheet.specs.Statements.{reply}
 use Rattle.sheet.proofs.OnePage.{one-page}
 use Rattle.demands.proofs.Demand.{outcome-on}

@@ -12,15 +12,15 @@ use lib.Dec.{ltb}
 use lib.ListN.{length, take}
 use Rattle.word.specs.Search.{climb}
 use Rattle.band.specs.declared.Band.{Band}
-use Rattle.band.specs.Band.{holds}
-use Rattle.rows.specs.Bands.{blankBand}
+use Rattle.band.specs.route.Band.{holds}
+use Rattle.rows.specs.route.Bands.{blankBand}
 use Rattle.chain.specs.declared.Far.{Far}
 use Rattle.chain.specs.declared.Far.the-variants.{To, Nowhere}
 use Rattle.chain.specs.Links.{further}
-use Rattle.chain.specs.OnBands.{furtherBand, furthestBand, furthestBandOf}
+use Rattle.chain.specs.route.OnBands.{furtherBand, furthestBand, furthestBandOf}
 use Rattle.chain.proofs.OnBands.{far-kept, far-new, furthest-suc}
-use Rattle.order.specs.Order.{bandAt}
-use Rattle.due.specs.Due.{better}
+use Rattle.order.specs.route.Order.{bandAt}
+use Rattle.due.specs.route.Due.{better}
 
 -- to q with number i is at least as good as to r with number j
 abbrev pub AsGood : (q i r j : ℕ) → Type 0

@@ -13,11 +13,11 @@ use Rattle.word.specs.Search.{sink}
 use Rattle.word.proofs.Climb.{climb-is, no-further}
 use Rattle.word.proofs.Sink.{sink-is}
 use Rattle.band.specs.declared.Band.{Band}
-use Rattle.band.specs.Band.{Laid, holds}
+use Rattle.band.specs.route.Band.{Laid, holds}
 use Rattle.band.proofs.Runs.{inside-from, inside-zero, outside-from, outside-zero}
 use Rattle.chain.specs.declared.Far.{Far}
 use Rattle.chain.specs.declared.Far.the-variants.{To, Nowhere}
-use Rattle.order.specs.Order.{bandAt, eve}
+use Rattle.order.specs.route.Order.{bandAt, eve}
 use Rattle.due.proofs.Best.{Held, reachOf}
 
 module _ (t p : ℕ) (b : Band) (laid : Laid t b) (word : p ≤ t) (fails : holds b p ≡ false) where

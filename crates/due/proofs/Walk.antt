@@ -10,14 +10,14 @@ use native.Mathlib.Decide.{decLe, decLt}
 use native.Mathlib.Omega.{arith}
 use lib.ListN.{getD, length, take}
 use Rattle.band.specs.declared.Band.{Band}
-use Rattle.band.specs.Band.{holds}
-use Rattle.rows.specs.Bands.{Lie, blankBand}
+use Rattle.band.specs.route.Band.{holds}
+use Rattle.rows.specs.route.Bands.{Lie, blankBand}
 use Rattle.rows.proofs.Reading.{laid-take}
 use Rattle.rule.specs.Meaning.{RULES}
 use Rattle.chain.specs.declared.Far.{Far}
-use Rattle.chain.specs.OnBands.{furthestBand}
-use Rattle.order.specs.Order.{InOrder, bandAt, eve, placedBand}
-use Rattle.due.specs.Due.{Begun, Passed, Ready}
+use Rattle.chain.specs.route.OnBands.{furthestBand}
+use Rattle.order.specs.route.Order.{InOrder, bandAt, eve, placedBand}
+use Rattle.due.specs.route.Due.{Begun, Passed, Ready}
 use Rattle.due.proofs.Best.{Fails, Held, More, among, furthest-best, unique}
 use Rattle.due.proofs.Starts.{Ends, started}
 

@@ -1,1 +1,1 @@
-pub mod Due
+pub mod route

@@ -3,11 +3,11 @@
 ghost use mathlib.Core.Path.{_≡_};
 ghost use Prim.Native.Nat.{_≤_};
 ghost use lib.ListN.{take};
-ghost use Rattle.rows.specs.Bands.{Lie};
-ghost use Rattle.rows.specs.Rows.{bandsIn};
-ghost use Rattle.chain.specs.OnBands.{furthestBand};
-ghost use Rattle.order.specs.Order.{InOrder};
-ghost use Rattle.due.specs.Due.{Passed, Ready, better};
+ghost use Rattle.rows.specs.route.Bands.{Lie};
+ghost use Rattle.rows.specs.route.Rows.{bandsIn};
+ghost use Rattle.chain.specs.route.OnBands.{furthestBand};
+ghost use Rattle.order.specs.route.Order.{InOrder};
+ghost use Rattle.due.specs.route.Due.{Passed, Ready, better};
 use chain::Far;
 use rule::Rule;
 

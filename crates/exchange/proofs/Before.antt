@@ -30,10 +30,10 @@ use Rattle.frame.specs.Frames.{bare, byDigits, codeEdition, frameOf, numbered, 
 use Rattle.frame.specs.Pages.{answerTo, pageAfter}
 use Rattle.frame.proofs.Rows.{too-short}
 use Rattle.exchange.specs.Before.{OldLine, OldLines, answerBefore, answersBefore, chainBefore, exchangeBefore, frameBefore, groundsBefore, pageBefore, refusalBefore}
-use Rattle.exchange.specs.Begun.{none as no-line}
-use Rattle.exchange.specs.Desk.{Desk, desk}
+use Rattle.exchange.specs.route.Begun.{none as no-line}
+use Rattle.exchange.specs.route.Desk.{Desk, desk}
 use Rattle.exchange.specs.Exchange.{answersTo, exchange, lines}
-use Rattle.exchange.specs.Statements.{Finished, Talk}
+use Rattle.exchange.specs.route.Statements.{Finished, Talk}
 use Rattle.hex.specs.Text.{bytesOf}
 use Rattle.exchange.proofs.Whole.{any-cut}
 use Rattle.sheet.specs.Record.{blank}

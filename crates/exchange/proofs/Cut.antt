@@ -10,10 +10,10 @@ use Rattle.sheet.specs.declared.Sheet.{Sheet}
 use Rattle.fields.specs.Answers.{answerBytes}
 use Rattle.fields.specs.Fields.{Line}
 use Rattle.frame.proofs.Unique.{put-unique, said-unique}
-use Rattle.exchange.specs.Begun.{none}
-use Rattle.exchange.specs.Desk.{Desk, Fed, desk, fed}
+use Rattle.exchange.specs.route.Begun.{none}
+use Rattle.exchange.specs.route.Desk.{Desk, Fed, desk, fed}
 use Rattle.exchange.specs.Lines.{withEnd}
-use Rattle.exchange.specs.Statements.{Ends, FedSo, Feeds, Finished, Takes, a-line, all-used, ends-line, goes-on, last-line, no-line, no-room, nothing}
+use Rattle.exchange.specs.route.Statements.{Ends, FedSo, Feeds, Finished, Takes, a-line, all-used, ends-line, goes-on, last-line, no-line, no-room, nothing}
 use Rattle.exchange.proofs.Taking.{end-prefix}
 pub use Rattle.exchange.proofs.Taking.{takes-on}
 

@@ -5,9 +5,9 @@ use Prim.Native.Nat.{ℕ, _≤_}
 use native.Mathlib.Omega.{arith}
 use lib.ListN.{drop, length}
 use Rattle.fields.specs.Answers.{NEWLINE, ROOM, answerBytes}
-use Rattle.exchange.specs.Desk.{Desk, Fed}
+use Rattle.exchange.specs.route.Desk.{Desk, Fed}
 use Rattle.exchange.specs.Lines.{lineOf, withEnd}
-use Rattle.exchange.specs.Statements.{Ends, FedSo, Feeds, Finished, Takes, a-line, all-used, ends-line, goes-on, last-line, no-room, nothing}
+use Rattle.exchange.specs.route.Statements.{Ends, FedSo, Feeds, Finished, Takes, a-line, all-used, ends-line, goes-on, last-line, no-room, nothing}
 
 nothing-taken : {d e : Desk} {bs o : List ℕ} → Takes d bs e o → bs ≡ [] → o ≡ []
 nothing-taken nothing z = refl

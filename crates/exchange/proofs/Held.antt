@@ -14,7 +14,7 @@ use Rattle.frame.specs.Calls.{callOf, lineCall}
 use Rattle.frame.specs.Frames.{frameOf}
 use Rattle.frame.proofs.Rows.{too-long}
 use Rattle.exchange.specs.declared.Begun.{Begun}
-use Rattle.exchange.specs.Begun.{HELD, begins, begunLine, joined, put}
+use Rattle.exchange.specs.route.Begun.{HELD, begins, begunLine, joined, put}
 
 pub put-more : (g : Begun) (b : ℕ) → g .len < HELD → put g b ≡ begins (set (g .bytes) (g .len) b) (suc (g .len))
 unfolding put

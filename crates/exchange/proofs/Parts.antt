@@ -12,10 +12,10 @@ use Rattle.frame.specs.Statements.{Answered}
 use Rattle.fields.specs.Put.{PutAt}
 use Rattle.fields.proofs.Lines.{put-none, put-on}
 use Rattle.exchange.specs.declared.Begun.{Begun}
-use Rattle.exchange.specs.Begun.{begunLine, joined, none}
-use Rattle.exchange.specs.Desk.{Desk, Fed, desk}
+use Rattle.exchange.specs.route.Begun.{begunLine, joined, none}
+use Rattle.exchange.specs.route.Desk.{Desk, Fed, desk}
 use Rattle.exchange.specs.Lines.{lineOf, withEnd}
-use Rattle.exchange.specs.Statements.{FedSo, Feeds, Takes, a-line, all-used, no-room}
+use Rattle.exchange.specs.route.Statements.{FedSo, Feeds, Takes, a-line, all-used, no-room}
 use Rattle.exchange.proofs.Taking.{end-fits, end-none, end-some, end-there, ended, line-fits, unended}
 
 -- ---- the next line of a part

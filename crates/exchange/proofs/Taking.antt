@@ -11,10 +11,10 @@ use lib.Seq.{drop-cons, take-all}
 use Rattle.sheet.specs.declared.Sheet.{Sheet}
 use Rattle.fields.specs.Answers.{NEWLINE, answerBytes}
 use Rattle.fields.specs.Fields.{Line}
-use Rattle.exchange.specs.Begun.{joined, none, put}
-use Rattle.exchange.specs.Desk.{Desk, desk}
+use Rattle.exchange.specs.route.Begun.{joined, none, put}
+use Rattle.exchange.specs.route.Desk.{Desk, desk}
 use Rattle.exchange.specs.Lines.{lineOf, withEnd}
-use Rattle.exchange.specs.Statements.{LineSaid, Takes, ends-line, goes-on, nothing}
+use Rattle.exchange.specs.route.Statements.{LineSaid, Takes, ends-line, goes-on, nothing}
 
 -- ---- the bytes of a line
 

@@ -1,7 +1,7 @@
 // A line that was begun in one part of the input and goes on in the next.
 ghost use mathlib.Core.Path.{_≡_};
 ghost use Rattle.frame.specs.Frames.{frameOf};
-ghost use Rattle.exchange.specs.Begun.{begunLine, joined, none};
+ghost use Rattle.exchange.specs.route.Begun.{begunLine, joined, none};
 use crate::Begun;
 use frame::Frame;
 

@@ -10,7 +10,7 @@ use Rattle.interval.specs.declared.Op.the-variants.{And, Not, Or, Xor}
 use Rattle.interval.specs.Interval.{Words, interval, turned}
 use Rattle.interval.specs.Op.{result, second}
 use Rattle.extent.specs.Span.{smallest, span}
-use Rattle.extent.specs.Route.{ends}
+use Rattle.extent.specs.route.Route.{ends}
 use Rattle.extent.proofs.Turn.{and-largest, not-largest, not-smallest, or-largest, xor-largest}
 
 -- an operation on two words reads y

@@ -10,7 +10,7 @@ use Rattle.word.proofs.Widths.{halves, top-suc}
 use Rattle.interval.specs.declared.Interval.{Interval}
 use Rattle.interval.specs.Interval.{Least, Words}
 use Rattle.extent.specs.Span.{smallest}
-use Rattle.steps.specs.Step.{Opens}
+use Rattle.steps.specs.route.Step.{Opens}
 use Rattle.steps.proofs.Bitwise.{Bitwise}
 use Rattle.extent.proofs.Searched.{smallest-is}
 use Rattle.steps.proofs.Settled.{nothing-left}

@@ -1,2 +1,2 @@
-pub mod Route
 pub mod Span
+pub mod route

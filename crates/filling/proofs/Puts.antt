@@ -6,7 +6,7 @@ use native.Mathlib.Omega.{arith}
 use lib.ListN.{drop, getD, length, length-append, length-drop, set, take}
 use lib.Seq.{drop-append-add, drop-cons, drop-drop, length-take-le, set-at, take-at}
 use Rattle.fitting.specs.Words.{atStart}
-use Rattle.filling.specs.Put.{putAt}
+use Rattle.filling.specs.route.Put.{putAt}
 
 -- a list taken in two parts
 pub take-more : {A : Type 0} (m : ℕ) (u v : List A) → take m (u ++ v) ≡ take m u ++ take (m - length (take m u)) v

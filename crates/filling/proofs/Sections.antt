@@ -13,13 +13,13 @@ use Rattle.word.proofs.Searched.{First}
 use Rattle.band.specs.declared.Band.{Band}
 use Rattle.bits.specs.declared.Fixed.{Fixed}
 use Rattle.bits.specs.declared.Fixed.the-variants.{Bits, Clash}
-use Rattle.bits.specs.Fixed.{Tidy, hasBits}
-use Rattle.rows.specs.Bands.{passes}
+use Rattle.bits.specs.route.Fixed.{Tidy, hasBits}
+use Rattle.rows.specs.route.Bands.{passes}
 use Rattle.section.specs.declared.Section.{Section}
 use Rattle.section.proofs.Alike.{Alike, failing-passes, held-passes}
 use Rattle.fitting.specs.Words.{atStart}
 use Rattle.fitting.proofs.Passing.{first-passing, none-passing, passing-same, passing-split}
-use Rattle.filling.specs.Put.{isFree, putAt, runWords, sectionWords}
+use Rattle.filling.specs.route.Put.{isFree, putAt, runWords, sectionWords}
 use Rattle.filling.proofs.Puts.{put-after, take-more}
 
 module _ (f : ℕ → Bool) where

@@ -16,7 +16,7 @@ use Rattle.gate.specs.declared.Gate.the-variants.{AtLeast, AtMost, Withi
 use Rattle.gate.specs.declared.Turned.the-variants.{NotANumber, Rules}
 use Rattle.gate.specs.Gate.{four, fourOf, meetsGate, notNumbers, over, through, turned, under, worth}
 use Rattle.gate.specs.Paper.{Single}
-use Rattle.gate.specs.Route.{IsLimit, betweenRules, highOf, lowOf, runOf}
+use Rattle.gate.specs.route.Route.{IsLimit, betweenRules, highOf, lowOf, runOf}
 use Rattle.gate.specs.Value.{Value, finite, infinity, leV, exponent, fraction, notANumber, sign, value}
 use Rattle.gate.proofs.Halves.{over-is, under-is}
 use Rattle.gate.proofs.Limits.{inSpan, lower-runs, no-order, upper-runs}

@@ -9,7 +9,7 @@ use Rattle.gate.specs.declared.Turned.the-variants.{NotANumber, Rules}
 use Rattle.gate.specs.Examples.{AllRight, examples}
 use Rattle.gate.specs.Gate.{failing, notNumbers, turned}
 use Rattle.gate.specs.Paper.{Single}
-use Rattle.gate.specs.Route.{betweenRules, fromOf, highOf, lowOf, pastOf, runOf}
+use Rattle.gate.specs.route.Route.{betweenRules, fromOf, highOf, lowOf, pastOf, runOf}
 use Rattle.gate.proofs.Closed.{as-none, as-rules}
 
 of : (g : Gate) (r : Four) → Single g → notNumbers g ≡ false → r ≡ betweenRules (lowOf g) (highOf g) → turned g ≡ Rules r

@@ -11,7 +11,7 @@ use borrow.Author.Tests.{eq-eqb, le-leb, le-ltb, leb-true, lt-leb, lt-ltb, ltb-t
 use Rattle.word.specs.Word.{half, plus, top}
 use Rattle.word.proofs.Sums.{plus-cases, plus-word}
 use Rattle.word.proofs.Tests.{same-test}
-use Rattle.gate.specs.Route.{IsLimit, fromOf, pastOf, runOf}
+use Rattle.gate.specs.route.Route.{IsLimit, fromOf, pastOf, runOf}
 use Rattle.gate.specs.Value.{Value, finite, infinity, leV, notANumber, sign, value}
 use Rattle.gate.proofs.Halves.{Runs}
 use Rattle.gate.proofs.Order.{turn-order}

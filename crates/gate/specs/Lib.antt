@@ -1,5 +1,5 @@
 pub mod Examples
 pub mod Gate
 pub mod Paper
-pub mod Route
 pub mod Value
+pub mod route

@@ -3,7 +3,7 @@ ghost use mathlib.Core.Path.{_≡_};
 ghost use Prim.Native.Nat.{_+_, _≤_};
 ghost use Rattle.word.specs.Word.{top};
 ghost use Rattle.gate.specs.Gate.{failing, turned};
-ghost use Rattle.gate.specs.Route.{IsLimit, betweenRules, fromOf, pastOf, runOf};
+ghost use Rattle.gate.specs.route.Route.{IsLimit, betweenRules, fromOf, pastOf, runOf};
 use rule::Rule;
 use word::Width;
 

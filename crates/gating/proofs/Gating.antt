@@ -17,12 +17,12 @@ use Rattle.page.proofs.Replayed.{Leads}
 use Rattle.sheet.specs.declared.Answer.{Answer}
 use Rattle.sheet.specs.declared.Sheet.{Sheet}
 use Rattle.sheet.specs.Record.{fresh}
-use Rattle.sheet.specs.Stands.{Standing, Stands}
+use Rattle.sheet.specs.route.Stands.{Standing, Stands}
 use Rattle.sheet.specs.Statements.{AllAccepted, IsSheet, Outcome, Reads, Sequence, answers, calls, done}
 use Rattle.sheet.proofs.Stands.{has-page, has-width, is-blank, known, refused-standing}
 use Rattle.sheet.proofs.Ways.{accepted-reads, refused-reads}
 use Rattle.demands.proofs.Demand.{sequence-accepted, sequence-clerk}
-use Rattle.gating.specs.Seen.{GateSeen, before-table, by-table}
+use Rattle.gating.specs.route.Seen.{GateSeen, before-table, by-table}
 
 module _ (s : Sheet) (g : Gate) where
   pub seen-none : (IsSheet s → ⊥) → GateSeen s g 17

@@ -1,7 +1,7 @@
 // Setting a power gate on a sheet: its four rules are added, or none is.
 ghost use Rattle.page.specs.Calls.{set-gate};
 ghost use Rattle.sheet.specs.Statements.{Outcome};
-ghost use Rattle.gating.specs.Seen.{AddedFor, SeenFor};
+ghost use Rattle.gating.specs.route.Seen.{AddedFor, SeenFor};
 use gate::Four;
 use gate::Gate;
 use gate::Turned;

@@ -25,7 +25,7 @@ use Rattle.sheet.proofs.Fresh.{given}
 use Rattle.sheet.proofs.Tested.{sheet-dec}
 use Rattle.handing.specs.Handed.{editionOf}
 use Rattle.keeping.specs.Numbers.{HEAD, IsKept, NUMBERS, RULES-AT, flat, numberOf, numbersOf}
-use Rattle.keeping.specs.Reading.{marksIn, rulesFrom, rulesIn, sheetIn}
+use Rattle.keeping.specs.route.Reading.{marksIn, rulesFrom, rulesIn, sheetIn}
 
 -- ---- rules, four numbers each
 

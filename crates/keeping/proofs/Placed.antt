@@ -13,7 +13,7 @@ use Rattle.page.specs.Page.{MARKS}
 use Rattle.sheet.specs.declared.Sheet.{Sheet}
 use Rattle.handing.specs.Handed.{ruleIn}
 use Rattle.keeping.specs.Numbers.{HEAD, NUMBERS, RULES-AT, flat, headOf, numbersOf}
-use Rattle.keeping.specs.Reading.{marksIn, rulesFrom, rulesIn}
+use Rattle.keeping.specs.route.Reading.{marksIn, rulesFrom, rulesIn}
 use Rattle.keeping.proofs.Kept.{flat-length}
 
 -- ---- read

@@ -1,2 +1,2 @@
 pub mod Numbers
-pub mod Reading
+pub mod route

@@ -5,7 +5,7 @@ ghost use mathlib.Core.Bool.{cond};
 ghost use lib.Dec.{eqb};
 ghost use lib.ListN.{length};
 ghost use Rattle.keeping.specs.Numbers.{NUMBERS, numbersOf};
-ghost use Rattle.keeping.specs.Reading.{openingIn, sheetIn};
+ghost use Rattle.keeping.specs.route.Reading.{openingIn, sheetIn};
 
 mod reading;
 mod writing;

@@ -5,7 +5,7 @@ ghost use lib.ListN.{getD, length};
 ghost use Rattle.rule.specs.Meaning.{RULES};
 ghost use Rattle.accept.specs.Accept.{noRule};
 ghost use Rattle.keeping.specs.Numbers.{NUMBERS};
-ghost use Rattle.keeping.specs.Reading.{marksIn, rulesIn};
+ghost use Rattle.keeping.specs.route.Reading.{marksIn, rulesIn};
 use crate::HEAD;
 use crate::NUMBERS;
 use crate::RULES_AT;

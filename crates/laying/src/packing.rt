@@ -4,7 +4,7 @@ ghost use mathlib.Core.List.{map, _++_};
 ghost use Prim.Native.Nat.{_-_, _≤_};
 ghost use lib.ListN.{drop, length, replicate, take};
 ghost use Rattle.rule.specs.Meaning.{RULES};
-ghost use Rattle.rows.specs.Rows.{bareRow, noRow, rulesIn};
+ghost use Rattle.rows.specs.route.Rows.{bareRow, noRow, rulesIn};
 use band::Band;
 use rule::Rule;
 

@@ -5,7 +5,7 @@ ghost use lib.ListN.{drop, length, take};
 ghost use Rattle.word.specs.Word.{IsWidth};
 ghost use Rattle.rule.specs.Meaning.{RULES};
 ghost use Rattle.accept.specs.Accept.{acceptable, every, isNoRule};
-ghost use Rattle.rows.specs.Rows.{rulesIn};
+ghost use Rattle.rows.specs.route.Rows.{rulesIn};
 use rule::Rule;
 use word::Width;
 

@@ -14,11 +14,11 @@ use Rattle.word.proofs.Search.{first-at, first-none}
 use Rattle.word.proofs.Climb.{all-miss, climb-is}
 use Rattle.word.proofs.Searched.{First, first-nothing}
 use Rattle.band.specs.declared.Band.{Band}
-use Rattle.band.specs.Band.{allHold, holds}
+use Rattle.band.specs.route.Band.{allHold, holds}
 use Rattle.bits.specs.declared.Fixed.{Fixed}
-use Rattle.bits.specs.Fixed.{hasBits}
-use Rattle.rows.specs.Bands.{passes}
-use Rattle.leap.specs.Leapt.{Leapt, NoneFrom}
+use Rattle.bits.specs.route.Fixed.{hasBits}
+use Rattle.rows.specs.route.Bands.{passes}
+use Rattle.leap.specs.route.Leapt.{Leapt, NoneFrom}
 
 hold-more : (bs cs : List Band) (x : ℕ) → allHold (bs ++ cs) x ≡ (allHold bs x && allHold cs x)
 unfolding allHold

@@ -1,1 +1,1 @@
-pub mod Leapt
+pub mod route

@@ -3,10 +3,10 @@
 ghost use Prim.Native.Nat.{_≤_};
 ghost use lib.ListN.{take};
 ghost use Rattle.word.specs.Word.{IsWidth, top};
-ghost use Rattle.bits.specs.Fixed.{Tidy};
-ghost use Rattle.rows.specs.Bands.{Lie, allSeen};
-ghost use Rattle.rows.specs.Rows.{bandsIn};
-ghost use Rattle.leap.specs.Leapt.{Leapt};
+ghost use Rattle.bits.specs.route.Fixed.{Tidy};
+ghost use Rattle.rows.specs.route.Bands.{Lie, allSeen};
+ghost use Rattle.rows.specs.route.Rows.{bandsIn};
+ghost use Rattle.leap.specs.route.Leapt.{Leapt};
 use rows::InForce;
 use rule::Rule;
 use word::Found;

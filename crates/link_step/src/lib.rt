@@ -2,10 +2,10 @@
 ghost use mathlib.Core.Path.{_≡_};
 ghost use Prim.Native.Nat.{_≤_};
 ghost use Rattle.word.specs.Word.{IsWidth, top};
-ghost use Rattle.bits.specs.Fixed.{Tidy};
-ghost use Rattle.rows.specs.Rows.{bandsIn};
-ghost use Rattle.chain.specs.OnBands.{gapOn};
-ghost use Rattle.link_step.specs.Step.{Reached, linkTo};
+ghost use Rattle.bits.specs.route.Fixed.{Tidy};
+ghost use Rattle.rows.specs.route.Rows.{bandsIn};
+ghost use Rattle.chain.specs.route.OnBands.{gapOn};
+ghost use Rattle.link_step.specs.route.Step.{Reached, linkTo};
 use bits::Fixed;
 use chain::Far;
 use chain::Link;

@@ -8,18 +8,18 @@ use lib.ListN.{getD, take}
 use lib.Seq.{getD-take}
 use Rattle.word.specs.Search.{sink}
 use Rattle.band.specs.declared.Band.{Band}
-use Rattle.band.specs.Band.{holds}
+use Rattle.band.specs.route.Band.{holds}
 use Rattle.bits.specs.declared.Fixed.{Fixed}
-use Rattle.rows.specs.Bands.{Lie, blankBand}
+use Rattle.rows.specs.route.Bands.{Lie, blankBand}
 use Rattle.rows.proofs.Reading.{laid-take}
 use Rattle.chain.specs.declared.Far.{Far}
 use Rattle.chain.specs.declared.Far.the-variants.{To, Nowhere}
 use Rattle.chain.specs.declared.Link.{Link}
 use Rattle.chain.specs.Links.{link, linkBy}
-use Rattle.chain.specs.OnBands.{furthestBand, gapOn, linkOn}
+use Rattle.chain.specs.route.OnBands.{furthestBand, gapOn, linkOn}
 use Rattle.chain.proofs.OnBands.{Failing, furthest-fails}
 use Rattle.due.proofs.Starts.{Ends}
-use Rattle.link_step.specs.Step.{Reached, linkTo}
+use Rattle.link_step.specs.route.Step.{Reached, linkTo}
 
 module _ (t p n : ℕ) (bs : List Band) (lie : Lie t n bs) where
   failing : (far : Far) → far ≡ furthestBand (take n bs) t p → Failing t p bs n far

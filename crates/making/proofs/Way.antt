@@ -21,7 +21,7 @@ use Rattle.page.proofs.Refusals.{after-refused}
 use Rattle.demands.proofs.Demand.{after-reached, outcome-on}
 use Rattle.making.specs.declared.Made.{Made}
 use Rattle.making.specs.Made.{adding, given, makes, making}
-use Rattle.making.specs.Way.{Under}
+use Rattle.making.specs.route.Way.{Under}
 
 abbrev pub madeOf : (number place : ℕ) → Sheet → Made
 madeOf k i s = record { number = k; place = i; sheet = s }

@@ -5,7 +5,7 @@ ghost use Prim.Native.Nat.{_-_, _≤_};
 ghost use lib.ListN.{drop, length, replicate, take};
 ghost use Rattle.accept.specs.Accept.{every};
 ghost use Rattle.page.specs.Page.{MARKS};
-ghost use Rattle.page.specs.Shape.{isZero, marksShaped, rising};
+ghost use Rattle.page.specs.route.Shape.{isZero, marksShaped, rising};
 use page::MARKS;
 
 // Whether m marks rise up to n, with zeros after them.

@@ -12,7 +12,7 @@ use Rattle.net.specs.declared.Ended.the-variants.{Empty, Spent, Steady}
 use Rattle.net_step.specs.declared.Join.{Join}
 use Rattle.net_step.specs.declared.Stepped.{Stepped}
 use Rattle.net.specs.Net.{turn}
-use Rattle.net.specs.Run.{Stand, Stop, goes, next, stand, start, steady, stop}
+use Rattle.net.specs.route.Run.{Stand, Stop, goes, next, stand, start, steady, stop}
 use Rattle.net_step.specs.Step.{stepped}
 
 met : (b : Bool) (x y : Stop) → b ≡ true → cond b x y ≡ x

@@ -13,7 +13,7 @@ use Rattle.net_step.specs.declared.Join.{Join}
 use Rattle.net.specs.Demand.{Still}
 use Rattle.net_tests.specs.Fits.{joinAt}
 use Rattle.net.specs.Net.{turn}
-use Rattle.net.specs.Run.{Stand, next, stand, start}
+use Rattle.net.specs.route.Run.{Stand, next, stand, start}
 use Rattle.net_step.specs.Step.{after, emptied, left, stepped, unchanged}
 use Rattle.net.proofs.Reached.{told}
 use Rattle.net_step.proofs.Unchanged.{unchanged-equal}

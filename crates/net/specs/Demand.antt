@@ -18,7 +18,7 @@ use Rattle.net_step.specs.declared.Join.{Join}
 use Rattle.net.specs.declared.Net.{Net}
 use Rattle.net_tests.specs.Fits.{joinAt}
 use Rattle.net_step.specs.Named.{third, wordAt}
-use Rattle.net.specs.Run.{Stop, goes}
+use Rattle.net.specs.route.Run.{Stop, goes}
 use Rattle.net_step.specs.Step.{after, emptied}
 
 -- an assignment, a word for each place, gives words of the first n intervals

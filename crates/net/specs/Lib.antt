@@ -2,4 +2,4 @@ pub mod Cases
 pub mod Demand
 pub mod Net
 pub mod Plain
-pub mod Run
+pub mod route

@@ -6,7 +6,7 @@ use native.Mathlib.Omega.{arith}
 use lib.ListN.{getD, set}
 use Rattle.bits.specs.declared.Fixed.{Fixed}
 use Rattle.verdict.specs.declared.Kept.{Kept}
-use Rattle.noting.specs.Note.{noteAt, noteIn, noting, withNote}
+use Rattle.noting.specs.route.Note.{noteAt, noteIn, noting, withNote}
 
 -- the note on some rules is in the last one's row, and is written there
 pub note-in : (w : ℕ) (rows : List (List ℕ)) (n : ℕ) → (n ≡ 0 → ⊥) → noteIn (getD rows (n - 1) []) ≡ noteAt w rows n

@@ -4,7 +4,7 @@ ghost use mathlib.Core.List.{[]};
 ghost use Prim.Native.Nat.{_≤_};
 ghost use Rattle.word.specs.Word.{IsWidth};
 ghost use Rattle.rule.specs.Meaning.{RULES};
-ghost use Rattle.noting.specs.Note.{fixedIn, fixedOut, noteAt, noting};
+ghost use Rattle.noting.specs.route.Note.{fixedIn, fixedOut, noteAt, noting};
 use bits::Fixed;
 use rows::NUMBERS;
 use rule::Rule;

@@ -15,7 +15,7 @@ use Rattle.counting.specs.Counted.{Counted as CountedOf}
 use Rattle.listing.specs.declared.Listing.{Listing}
 use Rattle.listing.specs.Listed.{Listed as ListedOf}
 use Rattle.keeping.specs.Numbers.{IsKept, NUMBERS, numbersOf}
-use Rattle.keeping.specs.Reading.{sheetIn}
+use Rattle.keeping.specs.route.Reading.{sheetIn}
 use Rattle.keeping.proofs.Kept.{kept-read, sheet-kept}
 use Rattle.on_kept.specs.Told.{Asked, Counted, Listed, Replied, Shared}
 

@@ -19,7 +19,7 @@ use Rattle.sheet.specs.declared.Sheet.{Sheet}
 use Rattle.sheet.specs.Record.{fresh}
 use Rattle.sheet.specs.Statements.{Reads, opened}
 use Rattle.keeping.specs.Numbers.{IsKept, NUMBERS, numbersOf}
-use Rattle.keeping.specs.Reading.{sheetIn}
+use Rattle.keeping.specs.route.Reading.{sheetIn}
 use Rattle.keeping.proofs.Kept.{kept-read, sheet-kept}
 use Rattle.on_sheets.specs.Changed.{Changed, Opened}
 

@@ -3,9 +3,9 @@ ghost use mathlib.Core.Path.{_≡_};
 ghost use mathlib.Core.Bool.{true};
 ghost use Prim.Native.Nat.{_≤_};
 ghost use Rattle.rule.specs.Meaning.{RULES};
-ghost use Rattle.rows.specs.Bands.{Lie};
-ghost use Rattle.rows.specs.Rows.{bandsIn};
-ghost use Rattle.order.specs.Order.{AllPlaced, InOrder, Rising};
+ghost use Rattle.rows.specs.route.Bands.{Lie};
+ghost use Rattle.rows.specs.route.Rows.{bandsIn};
+ghost use Rattle.order.specs.route.Order.{AllPlaced, InOrder, Rising};
 use crate::eve;
 use rule::Rule;
 

@@ -14,7 +14,7 @@ use lib.Seq.{append-snoc, length-take-le}
 use Rattle.word.proofs.Tests.{both-pass}
 use Rattle.rule.specs.declared.Rule.{Rule}
 use Rattle.page.specs.Page.{Entry, a-mark, a-rule, marksOn, rulesOn}
-use Rattle.page.specs.Shape.{rising}
+use Rattle.page.specs.route.Shape.{rising}
 
 rising-order : (low : ℕ) (ms : List ℕ) (high : ℕ) → rising low ms high ≡ true → low ≤ high
 unfolding rising

@@ -2,4 +2,4 @@ pub mod Calls
 pub mod Lowest
 pub mod Page
 pub mod Reached
-pub mod Shape
+pub mod route

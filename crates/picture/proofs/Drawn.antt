@@ -12,21 +12,21 @@ use Rattle.word.specs.Word.{top}
 use Rattle.rule.specs.declared.Rule.{Rule}
 use Rattle.rule.specs.Meaning.{AllLawful, Lawful, RULES, fits, meets}
 use Rattle.band.specs.declared.Band.{Band}
-use Rattle.band.specs.Band.{AllLaid, bandOf}
+use Rattle.band.specs.route.Band.{AllLaid, bandOf}
 use Rattle.bits.specs.declared.Fixed.{Fixed}
 use Rattle.bits.specs.declared.Fixed.the-variants.{Bits}
-use Rattle.bits.specs.Fixed.{Tidy, fixedBits, fixedFrom, joined}
+use Rattle.bits.specs.route.Fixed.{Tidy, fixedBits, fixedFrom, joined}
 use Rattle.bits.proofs.Joined.{fixed-tidy}
-use Rattle.rows.specs.Bands.{Lie, passes}
-use Rattle.rows.specs.OfRules.{OfLawful}
-use Rattle.rows.specs.Rows.{bandIn, bandsIn, rowOf, rulesIn}
+use Rattle.rows.specs.route.Bands.{Lie, passes}
+use Rattle.rows.specs.route.OfRules.{OfLawful}
+use Rattle.rows.specs.route.Rows.{bandIn, bandsIn, rowOf, rulesIn}
 use Rattle.rows.proofs.Reading.{bands-put}
 use Rattle.rows.proofs.Passes.{bands-laid, passes-fits}
 use Rattle.chain.specs.Links.{nth}
 use Rattle.slate.specs.declared.Head.{Head}
-use Rattle.slate.specs.Held.{Held}
+use Rattle.slate.specs.route.Held.{Held}
 use Rattle.sheet.specs.declared.Sheet.{Sheet}
-use Rattle.sheet.specs.Held.{packed}
+use Rattle.sheet.specs.route.Held.{packed}
 use Rattle.sheet.proofs.Holding.{packed-told}
 use Rattle.covering.proofs.EveryWord.{every-same}
 use Rattle.shade.specs.declared.Cell.the-variants.{Fails, Meets, Nowhere, Partly}

@@ -6,7 +6,7 @@ use lib.ListN.{take}
 use Rattle.rule.specs.Meaning.{fits, meets}
 use Rattle.chain.specs.Links.{nth}
 use Rattle.sheet.specs.declared.Sheet.{Sheet}
-use Rattle.sheet.specs.Shape.{isSheet}
+use Rattle.sheet.specs.route.Shape.{isSheet}
 use Rattle.shade.specs.declared.Cell.{Cell}
 use Rattle.shade.specs.declared.Cell.the-variants.{Nowhere}
 use Rattle.shade.specs.Cell.{cellOf}

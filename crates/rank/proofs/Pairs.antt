@@ -11,7 +11,7 @@ use lib.Bits.{bitAnd, and-step}
 use lib.Dec.{eqb}
 use Rattle.word.specs.Search.{count}
 use Rattle.bits.specs.declared.Fixed.the-variants.{Bits, Clash}
-use Rattle.bits.specs.Fixed.{hasBits}
+use Rattle.bits.specs.route.Fixed.{hasBits}
 
 -- a word that passes counts for one
 one : Bool → ℕ

@@ -1,7 +1,7 @@
 // How many words have the bits that rules of form 7 fix.
 ghost use mathlib.Core.Path.{_≡_};
 ghost use Rattle.word.specs.Search.{count};
-ghost use Rattle.bits.specs.Fixed.{hasBits, Tidy};
+ghost use Rattle.bits.specs.route.Fixed.{hasBits, Tidy};
 use bits::Fixed;
 
 // How many words below p have the bits: by pairs of words that differ in the lowest bit alone.

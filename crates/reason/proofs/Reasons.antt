@@ -15,9 +15,9 @@ use Rattle.word.specs.Search.{first}
 use Rattle.word.proofs.Search.{first-same}
 use Rattle.rule.specs.declared.Rule.{Rule}
 use Rattle.rule.specs.Meaning.{AllLawful, meets, meets7}
-use Rattle.band.specs.Band.{bandOf, holds}
+use Rattle.band.specs.route.Band.{bandOf, holds}
 use Rattle.band.proofs.Law.{band-law}
-use Rattle.bits.specs.Fixed.{fixedBits, hasBits}
+use Rattle.bits.specs.route.Fixed.{fixedBits, hasBits}
 use Rattle.bits.proofs.Joined.{fixed-bits}
 use Rattle.chain.specs.declared.Link.{Link}
 use Rattle.chain.specs.Links.{BITS, nth}

@@ -4,8 +4,8 @@ use mathlib.Core.Path.{_≡_, refl, ap, ap₂}
 use mathlib.Core.List.{List, [], _∷_, map}
 use Prim.Native.Nat.{ℕ, zero, suc}
 use lib.ListN.{length, take}
-use Rattle.band.specs.Band.{bandOf}
-use Rattle.rows.specs.Rows.{bandsIn, drawn, drawnRow, ruleIn, rulesIn}
+use Rattle.band.specs.route.Band.{bandOf}
+use Rattle.rows.specs.route.Rows.{bandsIn, drawn, drawnRow, ruleIn, rulesIn}
 use Rattle.rows.proofs.Reading.{band-of, rule-of}
 
 module _ (w : ℕ) where

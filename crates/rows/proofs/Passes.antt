@@ -11,14 +11,14 @@ use Rattle.word.specs.Word.{top}
 use Rattle.rule.specs.declared.Rule.{Rule}
 use Rattle.rule.specs.Meaning.{AllLawful, Lawful, fits, meets, meets7}
 use Rattle.band.specs.declared.Band.{Band}
-use Rattle.band.specs.Band.{AllLaid, allHold, bandOf, holds, turnedBand}
+use Rattle.band.specs.route.Band.{AllLaid, allHold, bandOf, holds, turnedBand}
 use Rattle.band.proofs.Law as law
 use Rattle.band.proofs.Turn.{turned-holds}
 use Rattle.bits.specs.declared.Fixed.{Fixed}
-use Rattle.bits.specs.Fixed.{Tidy, Within, fixedBits, turnedBits}
+use Rattle.bits.specs.route.Fixed.{Tidy, Within, fixedBits, turnedBits}
 use Rattle.bits.proofs.Joined.{fixed-bits}
 use Rattle.bits.proofs.Turn.{turned-bits}
-use Rattle.rows.specs.Bands.{passes}
+use Rattle.rows.specs.route.Bands.{passes}
 
 -- the bands of rules are laid
 pub bands-laid : (w : ℕ) → 1 ≤ w → (rs : List Rule) → AllLawful w rs → AllLaid (top w) (map (bandOf w) rs)

@@ -11,10 +11,10 @@ use lib.Seq.{getD-take, length-take-le}
 use Rattle.rule.specs.declared.Rule.{Rule}
 use Rattle.accept.specs.Accept.{noRule}
 use Rattle.band.specs.declared.Band.{Band}
-use Rattle.band.specs.Band.{AllLaid, Laid, turnedBand}
+use Rattle.band.specs.route.Band.{AllLaid, Laid, turnedBand}
 use Rattle.band.proofs.Turn.{turned-laid}
-use Rattle.rows.specs.Bands.{allSeen, blankBand, seen}
-use Rattle.rows.specs.Rows.{bandIn, bandsIn, rowOf, ruleIn, rulesIn}
+use Rattle.rows.specs.route.Bands.{allSeen, blankBand, seen}
+use Rattle.rows.specs.route.Rows.{bandIn, bandsIn, rowOf, ruleIn, rulesIn}
 
 pub rule-in : (rows : List (List ℕ)) (i : ℕ) → getD (rulesIn rows) i noRule ≡ ruleIn (getD rows i [])
 unfolding ruleIn

@@ -1,3 +1,1 @@
-pub mod Bands
-pub mod OfRules
-pub mod Rows
+pub mod route

@@ -10,7 +10,7 @@ use Rattle.page.specs.Page.{at-width}
 use Rattle.sheet.specs.declared.Answer.{Answer}
 use Rattle.sheet.specs.declared.Reply.{Reply}
 use Rattle.sheet.specs.declared.Sheet.{Sheet}
-use Rattle.sheet.specs.Stands.{Stands, blank-sheet, no-sheet, on-page}
+use Rattle.sheet.specs.route.Stands.{Stands, blank-sheet, no-sheet, on-page}
 use Rattle.sheet.proofs.OnePage.{one-page}
 use Rattle.demands.proofs.Unique.{asked-unique, outcome-unique}
 use Rattle.counting.specs.declared.Share.{Share}

@@ -13,7 +13,7 @@ use Rattle.page.specs.Page.{at-width}
 use Rattle.sheet.specs.declared.Answer.{Answer}
 use Rattle.sheet.specs.declared.Reply.{Reply}
 use Rattle.sheet.specs.declared.Sheet.{Sheet}
-use Rattle.sheet.specs.Stands.{Stands}
+use Rattle.sheet.specs.route.Stands.{Stands}
 use Rattle.sheet.specs.Statements.{Asked, Outcome}
 use Rattle.counting.specs.declared.Share.{Share}
 use Rattle.counting.specs.Counted.{Counted}

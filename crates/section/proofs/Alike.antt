@@ -9,13 +9,13 @@ use borrow.Author.Tests.{not-false}
 use Rattle.word.specs.Search.{climb}
 use Rattle.word.proofs.Climb.{Climbed, all-miss, climb-is}
 use Rattle.band.specs.declared.Band.{Band}
-use Rattle.band.specs.Band.{allHold, holds}
+use Rattle.band.specs.route.Band.{allHold, holds}
 use Rattle.bits.specs.declared.Fixed.{Fixed}
-use Rattle.bits.specs.Fixed.{hasBits}
-use Rattle.rows.specs.Bands.{passes}
+use Rattle.bits.specs.route.Fixed.{hasBits}
+use Rattle.rows.specs.route.Bands.{passes}
 use Rattle.section.specs.declared.Section.{Section}
-use Rattle.section.specs.Section.{section, sectionAt}
-use Rattle.section.specs.Sides.{firstFailing, someFails}
+use Rattle.section.specs.route.Section.{section, sectionAt}
+use Rattle.section.specs.route.Sides.{firstFailing, someFails}
 
 pub first-fails : (bs : List Band) (x : ℕ) → allHold bs x ≡ false → holds (firstFailing bs x) x ≡ false
 unfolding allHold firstFailing

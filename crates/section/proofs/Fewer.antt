@@ -17,13 +17,13 @@ use Rattle.word.proofs.Count.{count-later, count-past}
 use Rattle.word.proofs.Search.{count-two}
 use Rattle.word.proofs.Tests.{both-pass}
 use Rattle.band.specs.declared.Band.{Band}
-use Rattle.band.specs.Band.{AllLaid, Laid, allHold, holds, otherSide}
+use Rattle.band.specs.route.Band.{AllLaid, Laid, allHold, holds, otherSide}
 use Rattle.band.proofs.Runs.{edge, run-ends}
-use Rattle.rows.specs.Bands.{Lie}
+use Rattle.rows.specs.route.Bands.{Lie}
 use Rattle.section.specs.declared.Section.{Section}
-use Rattle.section.specs.Section.{sectionAt}
-use Rattle.section.specs.Sides.{fails, firstFailing, someFails}
-use Rattle.section.specs.Turns.{mostSections, sectionEnds, turns, turnsFrom}
+use Rattle.section.specs.route.Section.{sectionAt}
+use Rattle.section.specs.route.Sides.{fails, firstFailing, someFails}
+use Rattle.section.specs.route.Turns.{mostSections, sectionEnds, turns, turnsFrom}
 use Rattle.section.proofs.Alike.{fail-section, first-fails, held-section, section-alike}
 use Rattle.section.proofs.Scan.{other-holds}
 

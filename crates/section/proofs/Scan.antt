@@ -10,10 +10,10 @@ use Rattle.word.specs.Search.{climb}
 use Rattle.word.proofs.Climb.{climb-is}
 use Rattle.word.proofs.Search.{climb-same, climb-to}
 use Rattle.band.specs.declared.Band.{Band}
-use Rattle.band.specs.Band.{allHold, holds, otherSide, within}
+use Rattle.band.specs.route.Band.{allHold, holds, otherSide, within}
 use Rattle.section.specs.declared.Section.{Section}
-use Rattle.section.specs.Section.{section, sectionAt}
-use Rattle.section.specs.Sides.{fails, firstFailing, someFails}
+use Rattle.section.specs.route.Section.{section, sectionAt}
+use Rattle.section.specs.route.Sides.{fails, firstFailing, someFails}
 
 -- the band whose other side fails
 pub other-holds : (b : Band) (x : ℕ) → holds (otherSide b) x ≡ fails b x

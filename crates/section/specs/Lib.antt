@@ -1,3 +1,1 @@
-pub mod Section
-pub mod Sides
-pub mod Turns
+pub mod route

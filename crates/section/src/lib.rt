@@ -5,12 +5,12 @@ ghost use Prim.Native.Nat.{_*_, _-_, _≤_};
 ghost use lib.ListN.{take};
 ghost use Rattle.rule.specs.Meaning.{RULES};
 ghost use Rattle.word.specs.Search.{climb};
-ghost use Rattle.band.specs.Band.{Laid, holds};
-ghost use Rattle.rows.specs.Bands.{Lie};
-ghost use Rattle.rows.specs.Rows.{bandsIn};
-ghost use Rattle.section.specs.Section.{sectionAt};
-ghost use Rattle.section.specs.Turns.{mostSections};
-ghost use Rattle.section.specs.Sides.{fails};
+ghost use Rattle.band.specs.route.Band.{Laid, holds};
+ghost use Rattle.rows.specs.route.Bands.{Lie};
+ghost use Rattle.rows.specs.route.Rows.{bandsIn};
+ghost use Rattle.section.specs.route.Section.{sectionAt};
+ghost use Rattle.section.specs.route.Turns.{mostSections};
+ghost use Rattle.section.specs.route.Sides.{fails};
 use band::Band;
 use rule::Rule;
 

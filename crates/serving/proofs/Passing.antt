@@ -4,8 +4,8 @@ use mathlib.Core.List.{List, _++_}
 use Prim.Native.Nat.{ℕ, _+_, _-_}
 use lib.ListN.{drop, length, take}
 use lib.Seq.{take-add}
-use Rattle.exchange.specs.Desk.{Desk}
-use Rattle.exchange.specs.Statements.{Feeds, Takes}
+use Rattle.exchange.specs.route.Desk.{Desk}
+use Rattle.exchange.specs.route.Statements.{Feeds, Takes}
 use Rattle.exchange.proofs.Cut.{feeds-takes, takes-on}
 use Rattle.coming.proofs.Rest.{rest}
 use Rattle.serving.specs.Passed.{Passed}

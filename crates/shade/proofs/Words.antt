@@ -13,13 +13,13 @@ use Rattle.word.specs.Search.{climb, first}
 use Rattle.word.proofs.Climb.{climb-is}
 use Rattle.word.proofs.Tests.{both-pass, same-test}
 use Rattle.band.specs.declared.Band.{Band}
-use Rattle.band.specs.Band.{allHold}
+use Rattle.band.specs.route.Band.{allHold}
 use Rattle.bits.specs.declared.Fixed.{Fixed}
-use Rattle.bits.specs.Fixed.{hasBits}
-use Rattle.rows.specs.Bands.{passes}
+use Rattle.bits.specs.route.Fixed.{hasBits}
+use Rattle.rows.specs.route.Bands.{passes}
 use Rattle.section.specs.declared.Section.{Section}
-use Rattle.section.specs.Section.{sectionAt}
-use Rattle.section.specs.Sides.{someFails}
+use Rattle.section.specs.route.Section.{sectionAt}
+use Rattle.section.specs.route.Sides.{someFails}
 use Rattle.section.proofs.Alike.{held-passes, held-section, section-alike}
 use Rattle.covering.specs.Check.{everyWord}
 use Rattle.covering.proofs.EveryWord.{every-each, every-same, misses, next-after, none-after}

@@ -13,17 +13,17 @@ use Rattle.page.specs.Calls.{add, changed, refusal, written}
 use Rattle.page.specs.Page.{page}
 use Rattle.page.proofs.Lawful.{reached-page}
 use Rattle.page.proofs.Refusals.{added-rule}
-use Rattle.rows.specs.Rows.{rulesIn}
+use Rattle.rows.specs.route.Rows.{rulesIn}
 use Rattle.slate.specs.declared.Head.{Head}
-use Rattle.slate.specs.Held.{Beside, Held, bareMarks}
-use Rattle.slate.specs.Numbers.{ruleNumber}
+use Rattle.slate.specs.route.Held.{Beside, Held, bareMarks}
+use Rattle.slate.specs.route.Numbers.{ruleNumber}
 use Rattle.slate.proofs.Numbers.{number-zero}
-use Rattle.slate_calls.specs.Done.{Adds, bareRules, withOne}
-use Rattle.slate_calls.specs.Done.Adds.{added, refused}
+use Rattle.slate_calls.specs.route.Done.{Adds, bareRules, withOne}
+use Rattle.slate_calls.specs.route.Done.Adds.{added, refused}
 use Rattle.slate_calls.proofs.Bare.{room-added}
-use Rattle.sheet.specs.Held.{packed}
-use Rattle.sheet.specs.Laid.{After}
-use Rattle.sheet.specs.Stands.{RuleSeen, Standing}
+use Rattle.sheet.specs.route.Held.{packed}
+use Rattle.sheet.specs.route.Laid.{After}
+use Rattle.sheet.specs.route.Stands.{RuleSeen, Standing}
 use Rattle.sheet.specs.Statements.{Outcome}
 use Rattle.sheet.proofs.Fresh.{after-add, cleared, withRule}
 use Rattle.sheet.proofs.Holding.{rule-so, still-held}

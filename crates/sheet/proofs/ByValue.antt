@@ -6,19 +6,19 @@ use Prim.Native.Nat.{ℕ}
 use lib.ListN.{replicate}
 use Rattle.rule.specs.declared.Rule.{Rule}
 use Rattle.rule.specs.Meaning.{RULES}
-use Rattle.rows.specs.Bands.{blankBand}
-use Rattle.rows.specs.Rows.{bareRow, noRow, rulesIn}
+use Rattle.rows.specs.route.Bands.{blankBand}
+use Rattle.rows.specs.route.Rows.{bareRow, noRow, rulesIn}
 use Rattle.rows.proofs.Reading.{rule-of}
 use Rattle.sheet.specs.declared.Answer.{Answer}
 use Rattle.slate.specs.declared.Head.{Head}
 use Rattle.sheet.specs.declared.Reply.{Reply}
 use Rattle.sheet.specs.declared.Sheet.{Sheet}
 use Rattle.page.specs.Calls.{Call, open-at, refusal}
-use Rattle.slate.specs.Held.{Room, foundTo}
-use Rattle.sheet.specs.Held.{packed}
-use Rattle.sheet.specs.Shape.{untested}
+use Rattle.slate.specs.route.Held.{Room, foundTo}
+use Rattle.sheet.specs.route.Held.{packed}
+use Rattle.sheet.specs.route.Shape.{untested}
 use Rattle.sheet.specs.declared.Call.{Call as Made}
-use Rattle.sheet.specs.Laid.{After, callOf}
+use Rattle.sheet.specs.route.Laid.{After, callOf}
 use Rattle.page.specs.declared.Opening.{Opening}
 use Rattle.page.specs.Page.{MARKS, no-page}
 use Rattle.sheet.specs.Statements.{Asked, Outcome, answers, opened}

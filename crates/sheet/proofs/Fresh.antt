@@ -14,7 +14,7 @@ use Rattle.verdict.specs.Kept.{kept}
 use Rattle.sheet.specs.declared.Sheet.{Sheet}
 use Rattle.page.specs.Page.{Entry, MARKS, OpenPage, a-mark, a-rule, laidAside, marksOn, padded, page, restored, rulesOn, stretch, struck, takenUp, withEntries, withPile}
 use Rattle.sheet.specs.Record.{fresh}
-use Rattle.slate.specs.Shape.{inForce}
+use Rattle.slate.specs.route.Shape.{inForce}
 use Rattle.slate.proofs.Shaped.{none-waits, some-wait}
 use Rattle.page.proofs.Lawful.{LawfulPile}
 use Rattle.page.proofs.Stretches.{Stretches, marks-more, restored-marked, restored-marks, restored-rules, stretch-struck, waitingMarks, waitingRules}

@@ -14,23 +14,23 @@ use Rattle.rule.specs.declared.Rule.{Rule}
 use Rattle.rule.specs.Meaning.{RULES}
 use Rattle.accept.specs.Accept.{refusalOf}
 use Rattle.bits.specs.declared.Fixed.the-variants.{Bits}
-use Rattle.rows.specs.Rows.{rulesIn}
+use Rattle.rows.specs.route.Rows.{rulesIn}
 use Rattle.page.specs.Calls.{Call, add, refusal}
 use Rattle.page.specs.Page.{MARKS, OpenPage, no-page, page, rulesOn}
 use Rattle.page.proofs.Refusals.{add-bad, add-fits, add-full, add-other}
 use Rattle.slate.specs.declared.Head.{Head}
-use Rattle.slate.specs.Held.{Beside, Held, Room}
-use Rattle.slate.specs.Numbers.{before, ruleNumber}
-use Rattle.slate.specs.Shape.{standsSo}
+use Rattle.slate.specs.route.Held.{Beside, Held, Room}
+use Rattle.slate.specs.route.Numbers.{before, ruleNumber}
+use Rattle.slate.specs.route.Shape.{standsSo}
 use Rattle.slate.proofs.Holding.{rules-places}
 use Rattle.slate.proofs.Numbers.{number-before, number-full, number-none, number-other, number-own}
 use Rattle.slate.proofs.Told.{unread}
-use Rattle.stepping.specs.Steps.{Refused}
-use Rattle.stepping.specs.Steps.Refused.{before-first, own-ground}
+use Rattle.stepping.specs.route.Steps.{Refused}
+use Rattle.stepping.specs.route.Steps.Refused.{before-first, own-ground}
 use Rattle.sheet.specs.declared.Sheet.{Sheet}
-use Rattle.sheet.specs.Held.{packed}
-use Rattle.sheet.specs.Shape.{isSheet}
-use Rattle.sheet.specs.Stands.{RuleSeen, Standing, Stands, before-table, by-table, no-sheet}
+use Rattle.sheet.specs.route.Held.{packed}
+use Rattle.sheet.specs.route.Shape.{isSheet}
+use Rattle.sheet.specs.route.Stands.{RuleSeen, Standing, Stands, before-table, by-table, no-sheet}
 use Rattle.sheet.specs.Statements.{IsSheet, Reads, answers}
 use Rattle.sheet.proofs.Stands.{has-page, has-width, is-blank, known, refused-standing}
 use Rattle.sheet.proofs.Tested.{passes-sheet, sheet-passes}

@@ -10,16 +10,16 @@ use Rattle.page.specs.Page.{MARKS, a-mark, marksOn, withEntries}
 use Rattle.page.specs.Reached.{step}
 use Rattle.page.proofs.Lawful.{reached-page}
 use Rattle.page.proofs.Refusals.{blank-mark, mark-fits, mark-full}
-use Rattle.rows.specs.Rows.{rulesIn}
+use Rattle.rows.specs.route.Rows.{rulesIn}
 use Rattle.slate.specs.declared.Head.{Head}
-use Rattle.slate.specs.Held.{Beside, Held, bareMarks}
-use Rattle.slate.specs.Numbers.{before}
-use Rattle.slate_calls.specs.Done.{Marks, bareRules, markedHead}
-use Rattle.slate_calls.specs.Done.Marks.{marked, unmarked}
+use Rattle.slate.specs.route.Held.{Beside, Held, bareMarks}
+use Rattle.slate.specs.route.Numbers.{before}
+use Rattle.slate_calls.specs.route.Done.{Marks, bareRules, markedHead}
+use Rattle.slate_calls.specs.route.Done.Marks.{marked, unmarked}
 use Rattle.slate_calls.proofs.Bare.{room-marked}
-use Rattle.sheet.specs.Held.{packed}
-use Rattle.sheet.specs.Laid.{After}
-use Rattle.sheet.specs.Stands.{Standing}
+use Rattle.sheet.specs.route.Held.{packed}
+use Rattle.sheet.specs.route.Laid.{After}
+use Rattle.sheet.specs.route.Stands.{Standing}
 use Rattle.sheet.specs.Statements.{Outcome}
 use Rattle.sheet.proofs.Fresh.{after-mark, cleared, withMark}
 use Rattle.sheet.proofs.Holding.{on-sheet, refused-after, still-held}

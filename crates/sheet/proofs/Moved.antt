@@ -7,12 +7,12 @@ use lib.ListN.{take}
 use Rattle.bits.specs.declared.Fixed.{Fixed}
 use Rattle.verdict.specs.declared.Kept.{Kept}
 use Rattle.verdict.specs.Kept.{kept}
-use Rattle.rows.specs.Rows.{rulesIn}
+use Rattle.rows.specs.route.Rows.{rulesIn}
 use Rattle.slate.specs.declared.Head.{Head}
-use Rattle.slate.specs.Held.{Beside, Held}
-use Rattle.stepping.specs.Steps.{movedHead}
-use Rattle.sheet.specs.Held.{packed}
-use Rattle.sheet.specs.Stands.{Standing}
+use Rattle.slate.specs.route.Held.{Beside, Held}
+use Rattle.stepping.specs.route.Steps.{movedHead}
+use Rattle.sheet.specs.route.Held.{packed}
+use Rattle.sheet.specs.route.Stands.{Standing}
 use Rattle.sheet.proofs.Fresh.{moved}
 use Rattle.sheet.proofs.Holding.{still-held}
 

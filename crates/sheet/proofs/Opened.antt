@@ -14,14 +14,14 @@ use Rattle.page.specs.declared.Opening.{Opening}
 use Rattle.page.specs.Page.{MARKS, marksOn, newPage, no-page, page, restored, rulesOn}
 use Rattle.page.specs.Reached.{start, step}
 use Rattle.page.proofs.Refusals.{open-fits, open-narrow, open-wide}
-use Rattle.rows.specs.Rows.{rulesIn}
+use Rattle.rows.specs.route.Rows.{rulesIn}
 use Rattle.slate.specs.declared.Head.{Head}
-use Rattle.slate.specs.Held.{Beside, Held}
-use Rattle.slate_calls.specs.Done.{Opens, newHead}
-use Rattle.slate_calls.specs.Done.Opens.{narrow, opened, wide}
+use Rattle.slate.specs.route.Held.{Beside, Held}
+use Rattle.slate_calls.specs.route.Done.{Opens, newHead}
+use Rattle.slate_calls.specs.route.Done.Opens.{narrow, opened, wide}
 use Rattle.slate_calls.proofs.Bare.{room-opened}
-use Rattle.sheet.specs.Held.{packed}
-use Rattle.sheet.specs.Laid.{After}
+use Rattle.sheet.specs.route.Held.{packed}
+use Rattle.sheet.specs.route.Laid.{After}
 use Rattle.sheet.specs.Record.{fresh}
 use Rattle.sheet.specs.Statements.{Outcome, answers}
 use Rattle.sheet.proofs.Holding.{still-held}

@@ -17,10 +17,10 @@ use Rattle.accept.proofs.Every.{every-even}
 use Rattle.verdict.specs.declared.Kept.{Kept}
 use Rattle.sheet.specs.declared.Sheet.{Sheet}
 use Rattle.page.specs.Page.{MARKS, padded}
-use Rattle.page.specs.Shape.{isZero, marksShaped, rising, rulesShaped}
-use Rattle.slate.specs.Shape.{inForce, wellShaped}
+use Rattle.page.specs.route.Shape.{isZero, marksShaped, rising, rulesShaped}
+use Rattle.slate.specs.route.Shape.{inForce, wellShaped}
 use Rattle.slate.proofs.Shaped.{shaped-so}
-use Rattle.sheet.specs.Shape.{untested}
+use Rattle.sheet.specs.route.Shape.{untested}
 
 -- the record with these rules and marks, and zeros in the other places; so many of both are in force, and so many marks wait
 abbrev pub filled : (w : ℕ) → List Rule → List ℕ → (count marked waiting : ℕ) → Kept → Edition → Sheet

@@ -13,7 +13,7 @@ use Rattle.sheet.specs.declared.Sheet.{Sheet}
 use Rattle.page.specs.Calls.{Call, add, back, changed, forward, refusal, written}
 use Rattle.page.specs.Page.{Page, a-rule, laidAside, marksOn, no-page, page, takenUp, withEntries}
 use Rattle.sheet.specs.Record.{fresh}
-use Rattle.sheet.specs.Stands.{RuleSeen, Standing, Stands, before-table, blank-sheet, by-table, no-sheet, on-page}
+use Rattle.sheet.specs.route.Stands.{RuleSeen, Standing, Stands, before-table, blank-sheet, by-table, no-sheet, on-page}
 use Rattle.sheet.specs.Statements.{IsSheet, Reads, answers}
 use Rattle.page.specs.Reached.{Reached, start, step}
 use Rattle.sheet.proofs.Fresh.{Given, after-add, after-back, after-forward, cleared, given, steppedBack, steppedForward, withRule}

@@ -11,15 +11,15 @@ use Rattle.page.specs.Calls.{back, changed, written}
 use Rattle.page.specs.Page.{marksOn}
 use Rattle.page.proofs.Lawful.{reached-page}
 use Rattle.page.proofs.Refusals.{back-fits, back-none, blank-back}
-use Rattle.rows.specs.Rows.{rulesIn}
+use Rattle.rows.specs.route.Rows.{rulesIn}
 use Rattle.slate.specs.declared.Head.{Head}
-use Rattle.slate.specs.Held.{Beside, Held}
-use Rattle.slate.specs.Numbers.{before}
-use Rattle.stepping.specs.Steps.{Backs, backHead, leaves}
-use Rattle.stepping.specs.Steps.Backs.{goes-back, stays}
-use Rattle.sheet.specs.Held.{packed}
-use Rattle.sheet.specs.Laid.{After}
-use Rattle.sheet.specs.Stands.{Standing}
+use Rattle.slate.specs.route.Held.{Beside, Held}
+use Rattle.slate.specs.route.Numbers.{before}
+use Rattle.stepping.specs.route.Steps.{Backs, backHead, leaves}
+use Rattle.stepping.specs.route.Steps.Backs.{goes-back, stays}
+use Rattle.sheet.specs.route.Held.{packed}
+use Rattle.sheet.specs.route.Laid.{After}
+use Rattle.sheet.specs.route.Stands.{Standing}
 use Rattle.sheet.specs.Statements.{Outcome}
 use Rattle.sheet.proofs.Fresh.{after-back, moved}
 use Rattle.sheet.proofs.Holding.{on-sheet, refused-after}

@@ -10,15 +10,15 @@ use Rattle.verdict.specs.Kept.{kept}
 use Rattle.page.specs.Calls.{changed, forward, written}
 use Rattle.page.proofs.Lawful.{reached-page}
 use Rattle.page.proofs.Refusals.{blank-forward, forward-fits, forward-none}
-use Rattle.rows.specs.Rows.{rulesIn}
+use Rattle.rows.specs.route.Rows.{rulesIn}
 use Rattle.slate.specs.declared.Head.{Head}
-use Rattle.slate.specs.Held.{Beside, Held}
-use Rattle.slate.specs.Numbers.{before}
-use Rattle.stepping.specs.Steps.{Forwards, brings, forwardHead}
-use Rattle.stepping.specs.Steps.Forwards.{goes-on, remains}
-use Rattle.sheet.specs.Held.{packed}
-use Rattle.sheet.specs.Laid.{After}
-use Rattle.sheet.specs.Stands.{Standing}
+use Rattle.slate.specs.route.Held.{Beside, Held}
+use Rattle.slate.specs.route.Numbers.{before}
+use Rattle.stepping.specs.route.Steps.{Forwards, brings, forwardHead}
+use Rattle.stepping.specs.route.Steps.Forwards.{goes-on, remains}
+use Rattle.sheet.specs.route.Held.{packed}
+use Rattle.sheet.specs.route.Laid.{After}
+use Rattle.sheet.specs.route.Stands.{Standing}
 use Rattle.sheet.specs.Statements.{Outcome}
 use Rattle.sheet.proofs.Fresh.{after-forward, moved}
 use Rattle.sheet.proofs.Holding.{on-sheet, refused-after}

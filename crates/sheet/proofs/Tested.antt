@@ -20,10 +20,10 @@ use Rattle.verdict.specs.Kept.{keeps, kept}
 use Rattle.sheet.specs.declared.Sheet.{Sheet}
 use Rattle.page.specs.Page.{Entry, MARKS, OpenPage, Page, at-width, marksOn, newPage, no-page, padded, page, restored, rulesOn, withPile}
 use Rattle.sheet.specs.Record.{fresh}
-use Rattle.slate.specs.Shape.{inForce, sameKept, standsSo, wellShaped}
+use Rattle.slate.specs.route.Shape.{inForce, sameKept, standsSo, wellShaped}
 use Rattle.slate.proofs.Shaped.{none-waits, passes-same, same-passes}
-use Rattle.sheet.specs.Shape.{isSheet}
-use Rattle.page.specs.Shape.{marksShaped, rising, rulesShaped}
+use Rattle.sheet.specs.route.Shape.{isSheet}
+use Rattle.page.specs.route.Shape.{marksShaped, rising, rulesShaped}
 use Rattle.sheet.specs.Statements.{IsSheet}
 use Rattle.page.specs.Reached.Reached.{start}
 use Rattle.sheet.proofs.Fresh.{given, in-force}

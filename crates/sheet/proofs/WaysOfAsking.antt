@@ -18,7 +18,7 @@ use Rattle.sheet.specs.declared.Sheet.{Sheet}
 use Rattle.page.specs.Calls.{ask, refusal, rulesOf}
 use Rattle.page.specs.Page.{Page, entriesOf, no-page, rulesOn, widthOf}
 use Rattle.sheet.specs.Record.{fresh}
-use Rattle.sheet.specs.Stands.{Standing, Stands, blank-sheet, no-sheet, on-page}
+use Rattle.sheet.specs.route.Stands.{Standing, Stands, blank-sheet, no-sheet, on-page}
 use Rattle.sheet.specs.Statements.{Asked, chainOn, overlaid, refuses, replies, reply}
 use Rattle.page.specs.Reached.{Reached, start}
 use Rattle.sheet.proofs.OnePage.{one-page}

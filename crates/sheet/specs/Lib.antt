@@ -1,6 +1,3 @@
-pub mod Held
-pub mod Laid
 pub mod Record
-pub mod Shape
-pub mod Stands
 pub mod Statements
+pub mod route

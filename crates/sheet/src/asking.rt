@@ -1,7 +1,7 @@
 // Asking.
 ghost use mathlib.Core.Path.{_≡_};
-ghost use Rattle.slate.specs.Held.{Held};
-ghost use Rattle.sheet.specs.Held.{packed};
+ghost use Rattle.slate.specs.route.Held.{Held};
+ghost use Rattle.sheet.specs.route.Held.{packed};
 ghost use Rattle.sheet.specs.Statements.{Asked, refuses};
 use crate::Reply;
 use crate::Sheet;

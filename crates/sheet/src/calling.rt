@@ -1,8 +1,8 @@
 // The calls that change a sheet, each by value: the record is laid out on a slate, the call is made there, and the record is packed again.
 ghost use Rattle.page.specs.Calls.{add, back, forward, mark, open-at};
-ghost use Rattle.slate.specs.Held.{Held};
-ghost use Rattle.sheet.specs.Held.{packed};
-ghost use Rattle.sheet.specs.Laid.{After, callOf};
+ghost use Rattle.slate.specs.route.Held.{Held};
+ghost use Rattle.sheet.specs.route.Held.{packed};
+ghost use Rattle.sheet.specs.route.Laid.{After, callOf};
 ghost use Rattle.sheet.specs.Statements.{Outcome};
 use crate::Answer;
 use crate::Call;

@@ -8,7 +8,7 @@ use native.Mathlib.Omega.{arith}
 use lib.ListN.{drop, drop-of-length-le, length, replicate, replicate-append-replicate, take}
 use Rattle.rule.specs.declared.Rule.{Rule}
 use Rattle.accept.specs.Accept.{noRule}
-use Rattle.rows.specs.Rows.{noRow, ruleIn, rulesIn}
+use Rattle.rows.specs.route.Rows.{noRow, ruleIn, rulesIn}
 use Rattle.rows.proofs.OneMore.{map-append}
 
 pub take-map : {A B : Type 0} (f : A → B) (n : ℕ) (l : List A) → take n (map f l) ≡ map f (take n l)

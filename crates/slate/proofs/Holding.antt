@@ -15,21 +15,21 @@ use Rattle.word.proofs.Tests.{both-pass}
 use Rattle.rule.specs.declared.Rule.{Rule}
 use Rattle.rule.specs.Meaning.{AllLawful, RULES}
 use Rattle.band.specs.declared.Band.{Band}
-use Rattle.band.specs.Band.{AllLaid, bandOf}
+use Rattle.band.specs.route.Band.{AllLaid, bandOf}
 use Rattle.bits.specs.declared.Fixed.{Fixed}
-use Rattle.bits.specs.Fixed.{Tidy, Within, fixedBits}
+use Rattle.bits.specs.route.Fixed.{Tidy, Within, fixedBits}
 use Rattle.bits.proofs.Joined.{fixed-tidy, fixed-within}
-use Rattle.rows.specs.Bands.{Lie}
+use Rattle.rows.specs.route.Bands.{Lie}
 use Rattle.rows.proofs.Passes.{bands-laid}
 use Rattle.verdict.specs.declared.Kept.{Kept}
 use Rattle.verdict.specs.Kept.{kept}
-use Rattle.verdict.specs.OnBands.{Bounds, keptBy}
+use Rattle.verdict.specs.route.OnBands.{Bounds, keptBy}
 use Rattle.verdict.proofs.Rules.{kept-bounds, kept-is}
-use Rattle.rows.specs.Rows.{bandIn, bandsIn, ruleIn, rulesIn}
+use Rattle.rows.specs.route.Rows.{bandIn, bandsIn, ruleIn, rulesIn}
 use Rattle.slate.specs.declared.Head.{Head}
-use Rattle.slate.specs.Held.{Beside, Drawn, Held, Room, Waits}
-use Rattle.slate.specs.Numbers.{before}
-use Rattle.slate.specs.Shape.{sameKept, standsSo, wellShaped}
+use Rattle.slate.specs.route.Held.{Beside, Drawn, Held, Room, Waits}
+use Rattle.slate.specs.route.Numbers.{before}
+use Rattle.slate.specs.route.Shape.{sameKept, standsSo, wellShaped}
 use Rattle.slate.proofs.Cleared.{take-map}
 use Rattle.slate.proofs.Shaped.{Shaped, count-low, first-lawful, passes-same, shaped-so}
 use Rattle.slate.proofs.Told.{shape, told}

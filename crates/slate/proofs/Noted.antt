@@ -12,15 +12,15 @@ use Rattle.rule.specs.declared.Rule.{Rule}
 use Rattle.band.specs.declared.Band.{Band}
 use Rattle.bits.specs.declared.Fixed.{Fixed}
 use Rattle.bits.specs.declared.Fixed.the-variants.{Bits, Clash}
-use Rattle.bits.specs.Fixed.{fixedBits, fixedFrom}
-use Rattle.rows.specs.Rows.{bandIn, bandsIn, drawn, drawnRow, rowOf, ruleIn, rulesIn}
+use Rattle.bits.specs.route.Fixed.{fixedBits, fixedFrom}
+use Rattle.rows.specs.route.Rows.{bandIn, bandsIn, drawn, drawnRow, rowOf, ruleIn, rulesIn}
 use Rattle.verdict.specs.declared.Kept.{Kept}
 use Rattle.verdict.specs.Kept.{kept}
 use Rattle.verdict.proofs.NoRules.{kept-none}
 use Rattle.accept.proofs.Choices.{never}
 use Rattle.noting.specs.declared.Note.{Note}
-use Rattle.noting.specs.Note.{fixedIn, fixedOut, noteAt, noteIn, noting, withNote}
-use Rattle.slate.specs.Notes.{Noted, Notes}
+use Rattle.noting.specs.route.Note.{fixedIn, fixedOut, noteAt, noteIn, noting, withNote}
+use Rattle.slate.specs.route.Notes.{Noted, Notes}
 use Rattle.slate.proofs.Cleared.{take-map}
 
 -- ---- a note that is written

@@ -11,7 +11,7 @@ use Rattle.rule.specs.declared.Rule.{Rule}
 use Rattle.rule.specs.Meaning.{RULES}
 use Rattle.accept.specs.Accept.{refusalOf}
 use Rattle.slate.specs.declared.Head.{Head}
-use Rattle.slate.specs.Numbers.{before, ruleNumber}
+use Rattle.slate.specs.route.Numbers.{before, ruleNumber}
 
 module _ (h : Head) (d : Edition) (u : Rule) where
   abbrev first : ℕ

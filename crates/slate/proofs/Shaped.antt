@@ -19,9 +19,9 @@ use Rattle.accept.proofs.Accepted.{all-lawful}
 use Rattle.accept.proofs.Every.{even-every, every-append}
 use Rattle.verdict.specs.declared.Kept.{Kept}
 use Rattle.page.specs.Page.{MARKS}
-use Rattle.page.specs.Shape.{isZero, marksShaped, rising, rulesShaped}
+use Rattle.page.specs.route.Shape.{isZero, marksShaped, rising, rulesShaped}
 use Rattle.slate.specs.declared.Head.{Head}
-use Rattle.slate.specs.Shape.{inForce, sameKept, wellShaped}
+use Rattle.slate.specs.route.Shape.{inForce, sameKept, wellShaped}
 
 pub same-passes : (k : Kept) → sameKept k k ≡ true
 unfolding sameKept

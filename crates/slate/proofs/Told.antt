@@ -13,10 +13,10 @@ use Rattle.rule.specs.declared.Rule.{Rule}
 use Rattle.accept.specs.Accept.{every, isNoRule}
 use Rattle.bits.specs.declared.Fixed.{Fixed}
 use Rattle.verdict.specs.Kept.{keeps, kept}
-use Rattle.page.specs.Shape.{isZero, marksShaped, rising, rulesShaped}
+use Rattle.page.specs.route.Shape.{isZero, marksShaped, rising, rulesShaped}
 use Rattle.slate.specs.declared.Head.{Head}
-use Rattle.slate.specs.Held.{foundTo}
-use Rattle.slate.specs.Shape.{inForce, sameKept, standsSo, wellShaped}
+use Rattle.slate.specs.route.Held.{foundTo}
+use Rattle.slate.specs.route.Shape.{inForce, sameKept, standsSo, wellShaped}
 
 module _ (h : Head) (rs : List Rule) (ms : List ℕ) where
   -- the test reads neither the head's own word nor the bits

@@ -1,4 +1,1 @@
-pub mod Held
-pub mod Notes
-pub mod Numbers
-pub mod Shape
+pub mod route

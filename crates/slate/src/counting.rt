@@ -3,7 +3,7 @@ ghost use mathlib.Core.Path.{_≡_};
 ghost use Prim.Native.Nat.{_+_, _≤_};
 ghost use lib.ListN.{length};
 ghost use Rattle.page.specs.Page.{MARKS};
-ghost use Rattle.slate.specs.Shape.{inForce};
+ghost use Rattle.slate.specs.route.Shape.{inForce};
 use page::MARKS;
 
 // How many rules are in force: all that were given where nothing waits, else as many as the mark next to come back notes.

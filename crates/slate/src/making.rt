@@ -1,6 +1,6 @@
 // A head made, and changed.
 ghost use mathlib.Core.Path.{_≡_};
-ghost use Rattle.slate.specs.Held.{foundTo, headOf};
+ghost use Rattle.slate.specs.route.Held.{foundTo, headOf};
 use crate::Counts;
 use crate::Head;
 use bits::Fixed;

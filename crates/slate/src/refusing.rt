@@ -1,7 +1,7 @@
 // The numbers that a call finds from the head before it does anything.
 ghost use mathlib.Core.Path.{_≡_};
 ghost use Rattle.word.specs.Word.{IsWidth};
-ghost use Rattle.slate.specs.Numbers.{before, ruleNumber};
+ghost use Rattle.slate.specs.route.Numbers.{before, ruleNumber};
 use crate::Head;
 use rule::Rule;
 use word::Edition;

@@ -19,28 +19,28 @@ use Rattle.accept.proofs.Accepted.{all-lawful}
 use Rattle.accept.proofs.Choices.{never}
 use Rattle.accept.proofs.Every.{every-append}
 use Rattle.band.specs.declared.Band.{Band}
-use Rattle.band.specs.Band.{bandOf, holds}
+use Rattle.band.specs.route.Band.{bandOf, holds}
 use Rattle.bits.specs.declared.Fixed.{Fixed}
-use Rattle.bits.specs.Fixed.{fixedBits, fixedFrom, hasBits, joined}
-use Rattle.rows.specs.Rows.{bandIn, bandsIn, rowOf, rulesIn}
+use Rattle.bits.specs.route.Fixed.{fixedBits, fixedFrom, hasBits, joined}
+use Rattle.rows.specs.route.Rows.{bandIn, bandsIn, rowOf, rulesIn}
 use Rattle.rows.proofs.OneMore.{map-append}
 use Rattle.rows.proofs.Reading.{bands-put, rules-put}
 use Rattle.verdict.specs.declared.Kept.{Kept}
 use Rattle.verdict.specs.Kept.{kept}
-use Rattle.verdict.specs.OnBands.{keptBy}
+use Rattle.verdict.specs.route.OnBands.{keptBy}
 use Rattle.verdict.proofs.Rules.{kept-is}
 use Rattle.verdict.proofs.Unmoved.{unmoved}
 use Rattle.slate.specs.declared.Head.{Head}
-use Rattle.slate.specs.Held.{Beside, Drawn, Held, bareRows}
-use Rattle.slate.specs.Notes.{Notes, noteIn, noting}
-use Rattle.slate.specs.Numbers.{before, ruleNumber}
+use Rattle.slate.specs.route.Held.{Beside, Drawn, Held, bareRows}
+use Rattle.slate.specs.route.Notes.{Notes, noteIn, noting}
+use Rattle.slate.specs.route.Numbers.{before, ruleNumber}
 use Rattle.slate.proofs.Holding.{bounds-so, kept-found, kept-so, low-so, rules-places, shape-so, swept, width-so}
 use Rattle.slate.proofs.Noted.{bands-stay, first-noted, one-noted, one-unknown, put-unknown, rules-stay}
 use Rattle.slate.proofs.Numbers.{number-clear, number-zero}
 use Rattle.slate.proofs.Shaped.{first-good}
-use Rattle.slate_calls.specs.Done.{bareRules, withOne}
+use Rattle.slate_calls.specs.route.Done.{bareRules, withOne}
 use Rattle.slate_calls.proofs.Bare.{bare-drawn, bare-long, bare-noted, bare-places, bare-rules, rules-first}
-use Rattle.slate_add.specs.Narrows.{Narrows, staysSo}
+use Rattle.slate_add.specs.route.Narrows.{Narrows, staysSo}
 
 joined-last : (f : Fixed) (rs : List Rule) (u : Rule) → fixedFrom f (rs ++ u ∷ []) ≡ joined (fixedFrom f rs) u
 unfolding fixedFrom

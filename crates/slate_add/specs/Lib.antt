@@ -1,1 +1,1 @@
-pub mod Narrows
+pub mod route

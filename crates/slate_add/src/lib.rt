@@ -1,6 +1,6 @@
 // Adding a rule to a slate.
-ghost use Rattle.slate.specs.Held.{Held};
-ghost use Rattle.slate_calls.specs.Done.{Adds};
+ghost use Rattle.slate.specs.route.Held.{Held};
+ghost use Rattle.slate_calls.specs.route.Done.{Adds};
 
 mod narrowing;
 

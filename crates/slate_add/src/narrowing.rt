@@ -1,9 +1,9 @@
 // What is kept with one rule more: the new rule is looked at first, at the old ends.
 ghost use mathlib.Core.Path.{_≡_};
 ghost use lib.ListN.{take};
-ghost use Rattle.rows.specs.Rows.{bandsIn};
-ghost use Rattle.verdict.specs.OnBands.{keptBy};
-ghost use Rattle.slate_add.specs.Narrows.{Narrows, staysSo};
+ghost use Rattle.rows.specs.route.Rows.{bandsIn};
+ghost use Rattle.verdict.specs.route.OnBands.{keptBy};
+ghost use Rattle.slate_add.specs.route.Narrows.{Narrows, staysSo};
 use band::Band;
 use bits::Fixed;
 use rows::InForce;

@@ -9,18 +9,18 @@ use lib.Seq.{length-take-le, take-at}
 use Rattle.rule.specs.declared.Rule.{Rule}
 use Rattle.rule.specs.Meaning.{RULES}
 use Rattle.accept.specs.Accept.{noRule}
-use Rattle.band.specs.Band.{bandOf}
-use Rattle.bits.specs.Fixed.{fixedBits}
-use Rattle.rows.specs.Rows.{bandIn, bandsIn, noRow, ruleIn, rulesIn}
+use Rattle.band.specs.route.Band.{bandOf}
+use Rattle.bits.specs.route.Fixed.{fixedBits}
+use Rattle.rows.specs.route.Rows.{bandIn, bandsIn, noRow, ruleIn, rulesIn}
 use Rattle.page.specs.Page.{MARKS}
 use Rattle.slate.specs.declared.Head.{Head}
-use Rattle.slate.specs.Held.{Drawn, Held, Room, bareMarks, bareRows}
-use Rattle.slate.specs.Notes.{Notes}
-use Rattle.slate.specs.Numbers.{before}
+use Rattle.slate.specs.route.Held.{Drawn, Held, Room, bareMarks, bareRows}
+use Rattle.slate.specs.route.Notes.{Notes}
+use Rattle.slate.specs.route.Numbers.{before}
 use Rattle.slate.proofs.Cleared.{emptied, rules-cleared, take-map}
 use Rattle.slate.proofs.Holding.{beside-so, drawn-so, low-so, waits-so, width-so}
 use Rattle.slate.proofs.Noted.{first-noted}
-use Rattle.slate_calls.specs.Done.{bareRules}
+use Rattle.slate_calls.specs.route.Done.{bareRules}
 
 -- as many rows as rules
 rows-long : (rows : List (List ℕ)) (rs : List Rule) → rulesIn rows ≡ rs → length rs ≡ RULES → length rows ≡ RULES

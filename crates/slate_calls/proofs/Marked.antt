@@ -5,18 +5,18 @@ use Prim.Native.Nat.{ℕ}
 use native.Mathlib.Omega.{arith}
 use lib.ListN.{take}
 use Rattle.rule.specs.declared.Rule.{Rule}
-use Rattle.band.specs.Band.{bandOf}
-use Rattle.bits.specs.Fixed.{fixedBits}
-use Rattle.rows.specs.Rows.{bandsIn, rulesIn}
+use Rattle.band.specs.route.Band.{bandOf}
+use Rattle.bits.specs.route.Fixed.{fixedBits}
+use Rattle.rows.specs.route.Rows.{bandsIn, rulesIn}
 use Rattle.verdict.specs.Kept.{kept}
 use Rattle.slate.specs.declared.Head.{Head}
-use Rattle.slate.specs.Held.{Beside, Held, bareRows}
-use Rattle.noting.specs.Note.{noting}
-use Rattle.slate.specs.Notes.{Notes}
-use Rattle.slate.specs.Numbers.{before}
+use Rattle.slate.specs.route.Held.{Beside, Held, bareRows}
+use Rattle.noting.specs.route.Note.{noting}
+use Rattle.slate.specs.route.Notes.{Notes}
+use Rattle.slate.specs.route.Numbers.{before}
 use Rattle.slate.proofs.Holding.{kept-so, waits-so, width-so}
 use Rattle.slate.proofs.Noted.{bands-stay, one-noted, rules-stay}
-use Rattle.slate_calls.specs.Done.{bareRules, markedHead}
+use Rattle.slate_calls.specs.route.Done.{bareRules, markedHead}
 use Rattle.slate_calls.proofs.Bare.{bare-drawn, bare-long, bare-noted, bare-rules, rules-first}
 
 module _ {h : Head} {rows : List (List ℕ)} {marks : List ℕ} (held : Held h rows marks) (e : before (h .stands) (h .opening .width) ≡ 0) (rows₁ rows₂ : List (List ℕ))

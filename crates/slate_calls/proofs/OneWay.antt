@@ -7,25 +7,25 @@ use native.Mathlib.Omega.{arith}
 use lib.ListN.{take}
 use Rattle.word.specs.declared.Edition.{Edition}
 use Rattle.rule.specs.declared.Rule.{Rule}
-use Rattle.band.specs.Band.{bandOf}
+use Rattle.band.specs.route.Band.{bandOf}
 use Rattle.bits.specs.declared.Fixed.{Fixed}
-use Rattle.bits.specs.Fixed.{fixedBits}
+use Rattle.bits.specs.route.Fixed.{fixedBits}
 use Rattle.verdict.specs.declared.Kept.{Kept}
 use Rattle.verdict.specs.Kept.{kept}
 use Rattle.page.specs.declared.Opening.{Opening}
-use Rattle.rows.specs.Rows.{bandsIn, rulesIn}
+use Rattle.rows.specs.route.Rows.{bandsIn, rulesIn}
 use Rattle.slate.specs.declared.Counts.{Counts}
 use Rattle.slate.specs.declared.Head.{Head}
-use Rattle.slate.specs.Held.{Beside, headOf}
-use Rattle.slate.specs.Numbers.{before}
-use Rattle.stepping.specs.Steps.{Backs, Forwards, Refused, backHead, forwardHead}
-use Rattle.slate_calls.specs.Done.{Adds, Marks, Opens, newHead, withOne}
-use Rattle.slate_calls.specs.Done.Adds.{added, refused}
-use Rattle.stepping.specs.Steps.Backs.{goes-back, stays}
-use Rattle.stepping.specs.Steps.Forwards.{goes-on, remains}
-use Rattle.slate_calls.specs.Done.Marks.{marked, unmarked}
-use Rattle.slate_calls.specs.Done.Opens.{narrow, opened, wide}
-use Rattle.stepping.specs.Steps.Refused.{before-first, own-ground}
+use Rattle.slate.specs.route.Held.{Beside, headOf}
+use Rattle.slate.specs.route.Numbers.{before}
+use Rattle.stepping.specs.route.Steps.{Backs, Forwards, Refused, backHead, forwardHead}
+use Rattle.slate_calls.specs.route.Done.{Adds, Marks, Opens, newHead, withOne}
+use Rattle.slate_calls.specs.route.Done.Adds.{added, refused}
+use Rattle.stepping.specs.route.Steps.Backs.{goes-back, stays}
+use Rattle.stepping.specs.route.Steps.Forwards.{goes-on, remains}
+use Rattle.slate_calls.specs.route.Done.Marks.{marked, unmarked}
+use Rattle.slate_calls.specs.route.Done.Opens.{narrow, opened, wide}
+use Rattle.stepping.specs.route.Steps.Refused.{before-first, own-ground}
 
 -- what two outcomes share: the number, the head, the rules and the marks, and the bands of the rules given
 pub record Alike (n m : ℕ) (h k : Head) (rows rows′ : List (List ℕ)) (marks marks′ : List ℕ) : Type 0 where

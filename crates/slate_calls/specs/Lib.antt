@@ -1,1 +1,1 @@
-pub mod Done
+pub mod route

@@ -1,6 +1,6 @@
 // Setting a mark.
-ghost use Rattle.slate.specs.Held.{Held};
-ghost use Rattle.slate_calls.specs.Done.{Marks};
+ghost use Rattle.slate.specs.route.Held.{Held};
+ghost use Rattle.slate_calls.specs.route.Done.{Marks};
 use page::MARKS;
 use rows::NUMBERS;
 use rule::Rule;

@@ -1,6 +1,6 @@
 // Opening.
-ghost use Rattle.slate.specs.Held.{Held};
-ghost use Rattle.slate_calls.specs.Done.{Opens};
+ghost use Rattle.slate.specs.route.Held.{Held};
+ghost use Rattle.slate_calls.specs.route.Done.{Opens};
 use page::MARKS;
 use page::Opening;
 use rows::NUMBERS;

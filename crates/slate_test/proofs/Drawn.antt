@@ -8,18 +8,18 @@ use native.Mathlib.Omega.{arith}
 use lib.ListN.{length, length-map, take}
 use Rattle.rule.specs.declared.Rule.{Rule}
 use Rattle.rule.specs.Meaning.{AllLawful, RULES}
-use Rattle.band.specs.Band.{bandOf}
+use Rattle.band.specs.route.Band.{bandOf}
 use Rattle.bits.specs.declared.Fixed.{Fixed}
-use Rattle.bits.specs.Fixed.{fixedBits}
-use Rattle.rows.specs.Rows.{bandIn, bandsIn, drawn, rulesIn}
+use Rattle.bits.specs.route.Fixed.{fixedBits}
+use Rattle.rows.specs.route.Rows.{bandIn, bandsIn, drawn, rulesIn}
 use Rattle.rows.proofs.Drawn.{drawn-bands, drawn-length, drawn-rules}
 use Rattle.verdict.specs.declared.Kept.{Kept}
 use Rattle.verdict.specs.Kept.{kept}
-use Rattle.verdict.specs.OnBands.{keptBy}
+use Rattle.verdict.specs.route.OnBands.{keptBy}
 use Rattle.slate.specs.declared.Head.{Head}
-use Rattle.slate.specs.Held.{Beside, Drawn, Room, foundTo}
-use Rattle.noting.specs.Note.{noting}
-use Rattle.slate.specs.Notes.{Notes}
+use Rattle.slate.specs.route.Held.{Beside, Drawn, Room, foundTo}
+use Rattle.noting.specs.route.Note.{noting}
+use Rattle.slate.specs.route.Notes.{Notes}
 use Rattle.slate.proofs.Holding.{Swept, first-drawn, kept-found, swept}
 use Rattle.slate.proofs.Noted.{bands-stay, drawn-unknown, one-noted, rows-stay, rules-stay}
 

@@ -1,7 +1,7 @@
 // The test whether a slate is a sheet at all: head, rows and marks tested, and the bands of the rules drawn.
 ghost use mathlib.Core.Path.{_≡_};
-ghost use Rattle.rows.specs.Rows.{rulesIn};
-ghost use Rattle.slate.specs.Held.{Held, Room, foundTo};
+ghost use Rattle.rows.specs.route.Rows.{rulesIn};
+ghost use Rattle.slate.specs.route.Held.{Held, Room, foundTo};
 use band::Run;
 use page::MARKS;
 use rows::InForce;

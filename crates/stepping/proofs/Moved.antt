@@ -7,17 +7,17 @@ use native.Mathlib.Omega.{arith}
 use lib.ListN.{take}
 use Rattle.rule.specs.Meaning.{AllLawful}
 use Rattle.bits.specs.declared.Fixed.{Fixed}
-use Rattle.bits.specs.Fixed.{fixedBits}
-use Rattle.rows.specs.Rows.{bandsIn, rulesIn}
+use Rattle.bits.specs.route.Fixed.{fixedBits}
+use Rattle.rows.specs.route.Rows.{bandsIn, rulesIn}
 use Rattle.verdict.specs.declared.Kept.{Kept}
-use Rattle.verdict.specs.OnBands.{Bounds}
+use Rattle.verdict.specs.route.OnBands.{Bounds}
 use Rattle.slate.specs.declared.Head.{Head}
-use Rattle.slate.specs.Held.{Beside, Drawn, Held}
-use Rattle.slate.specs.Numbers.{before}
+use Rattle.slate.specs.route.Held.{Beside, Drawn, Held}
+use Rattle.slate.specs.route.Numbers.{before}
 use Rattle.slate.proofs.Holding.{beside-so, first-drawn, rules-places, shape-so, width-so}
 use Rattle.slate.proofs.Shaped.{first-lawful}
-use Rattle.stepping.specs.Steps.{movedHead}
-use Rattle.stepping.specs.Found.{Sought}
+use Rattle.stepping.specs.route.Steps.{movedHead}
+use Rattle.stepping.specs.route.Found.{Sought}
 
 module _ {h : Head} {rows : List (List ℕ)} {marks : List ℕ} (held : Held h rows marks) (e : before (h .stands) (h .opening .width) ≡ 0) (n : ℕ)
     (low : n ≤ h .counts .given) where

@@ -6,21 +6,21 @@ use native.Mathlib.Omega.{arith}
 use lib.ListN.{take}
 use Rattle.word.specs.Word.{top}
 use Rattle.band.specs.declared.Band.{Band}
-use Rattle.bits.specs.Fixed.{fixedBits}
+use Rattle.bits.specs.route.Fixed.{fixedBits}
 use Rattle.page.specs.Page.{MARKS}
-use Rattle.rows.specs.Rows.{rulesIn}
+use Rattle.rows.specs.route.Rows.{rulesIn}
 use Rattle.verdict.specs.declared.Kept.{Kept}
 use Rattle.verdict.specs.Kept.{keeps}
-use Rattle.verdict.specs.OnBands.{Bounds}
+use Rattle.verdict.specs.route.OnBands.{Bounds}
 use Rattle.verdict.proofs.NoRules.{kept-none}
 use Rattle.verdict.proofs.Rules.{kept-bounds}
 use Rattle.slate.specs.declared.Head.{Head}
-use Rattle.slate.specs.Held.{Held}
-use Rattle.slate.specs.Numbers.{before}
+use Rattle.slate.specs.route.Held.{Held}
+use Rattle.slate.specs.route.Numbers.{before}
 use Rattle.slate.proofs.Holding.{rules-places, shape-so, width-so}
 use Rattle.slate.proofs.Shaped.{mark-low}
-use Rattle.stepping.specs.Steps.{leaves}
-use Rattle.stepping.specs.Found.{Sought}
+use Rattle.stepping.specs.route.Steps.{leaves}
+use Rattle.stepping.specs.route.Found.{Sought}
 use Rattle.stepping.proofs.Moved.{moved-drawn, moved-lawful, moved-sought}
 
 module _ {h : Head} {rows : List (List ℕ)} {marks : List ℕ} (held : Held h rows marks) (e : before (h .stands) (h .opening .width) ≡ 0)

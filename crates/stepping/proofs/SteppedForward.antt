@@ -9,16 +9,16 @@ use native.Mathlib.Omega.{arith}
 use lib.ListN.{drop, getD, take, take-append-drop}
 use lib.Seq.{take-take}
 use Rattle.rule.specs.declared.Rule.{Rule}
-use Rattle.bits.specs.Fixed.{fixedBits}
+use Rattle.bits.specs.route.Fixed.{fixedBits}
 use Rattle.page.specs.Page.{MARKS}
-use Rattle.rows.specs.Rows.{bandsIn, rulesIn}
+use Rattle.rows.specs.route.Rows.{bandsIn, rulesIn}
 use Rattle.slate.specs.declared.Head.{Head}
-use Rattle.slate.specs.Held.{Held}
-use Rattle.slate.specs.Numbers.{before}
+use Rattle.slate.specs.route.Held.{Held}
+use Rattle.slate.specs.route.Numbers.{before}
 use Rattle.slate.proofs.Holding.{bounds-so, low-so, rules-places, shape-so}
 use Rattle.slate.proofs.Shaped.{mark-low, mark-rise, none-waits, some-wait}
-use Rattle.stepping.specs.Steps.{brings}
-use Rattle.stepping.specs.Found.{Sought}
+use Rattle.stepping.specs.route.Steps.{brings}
+use Rattle.stepping.specs.route.Found.{Sought}
 use Rattle.stepping.proofs.Moved.{moved-drawn, moved-lawful, moved-sought}
 
 module _ {h : Head} {rows : List (List ℕ)} {marks : List ℕ} (held : Held h rows marks) (e : before (h .stands) (h .opening .width) ≡ 0)

@@ -1,7 +1,7 @@
 // What is kept of the first rules in the rows: as it is noted, or found anew.
-ghost use Rattle.rows.specs.Rows.{rulesIn};
-ghost use Rattle.slate.specs.Notes.{Noted};
-ghost use Rattle.stepping.specs.Found.{Sought};
+ghost use Rattle.rows.specs.route.Rows.{rulesIn};
+ghost use Rattle.slate.specs.route.Notes.{Noted};
+ghost use Rattle.stepping.specs.route.Found.{Sought};
 use rows::InForce;
 use rows::NUMBERS;
 use rule::Rule;

@@ -1,6 +1,6 @@
 // Going back to the newest mark.
-ghost use Rattle.slate.specs.Held.{Held};
-ghost use Rattle.stepping.specs.Steps.{Backs};
+ghost use Rattle.slate.specs.route.Held.{Held};
+ghost use Rattle.stepping.specs.route.Steps.{Backs};
 use crate::finding;
 use page::MARKS;
 use rows::NUMBERS;

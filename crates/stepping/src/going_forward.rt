@@ -1,6 +1,6 @@
 // Going forward again after a step back.
-ghost use Rattle.slate.specs.Held.{Held};
-ghost use Rattle.stepping.specs.Steps.{Forwards};
+ghost use Rattle.slate.specs.route.Held.{Held};
+ghost use Rattle.stepping.specs.route.Steps.{Forwards};
 use crate::finding;
 use page::MARKS;
 use rows::NUMBERS;

@@ -4,7 +4,7 @@ use Prim.Native.Nat.{ℕ, _+_, _*_, _^_, _<_}
 use lib.Bits.{and-block, and-lt, bitAnd, bitOr, bitXor, or-block, or-lt, xor-block, xor-lt}
 use Rattle.steps.specs.declared.Pair.{Pair}
 use Rattle.steps.specs.declared.Pair.the-variants.{And, Or, Xor}
-use Rattle.steps.specs.Step.{both}
+use Rattle.steps.specs.route.Step.{both}
 
 -- the operation works on the k low bits and on those above apart
 pub record Bitwise (f : ℕ → ℕ → ℕ) : Type 0 where

@@ -11,7 +11,7 @@ use Rattle.word.specs.Word.{IsWidth, half, top}
 use Rattle.word.proofs.Widths.{halves, top-suc}
 use Rattle.interval.specs.declared.Interval.{Interval}
 use Rattle.interval.specs.Interval.{In, Least, Words, lower, upper}
-use Rattle.steps.specs.Step.{Opens}
+use Rattle.steps.specs.route.Step.{Opens}
 use Rattle.steps.proofs.Bitwise.{Bitwise}
 
 pub data Side : Type 0 where

@@ -3,7 +3,7 @@
 ghost use lib.Bits.{bitAnd, bitOr, bitXor};
 ghost use Rattle.word.specs.Word.{IsWidth};
 ghost use Rattle.interval.specs.Interval.{Words};
-ghost use Rattle.steps.specs.Step.{Right, both};
+ghost use Rattle.steps.specs.route.Step.{Right, both};
 use interval::Interval;
 use word::Width;
 

@@ -10,12 +10,12 @@ use Rattle.word.proofs.Search.{first-at, first-none}
 use Rattle.word.proofs.Searched.{first-is, first-nothing}
 use Rattle.band.specs.declared.Band.{Band}
 use Rattle.bits.specs.declared.Fixed.{Fixed}
-use Rattle.rows.specs.Bands.{passes}
-use Rattle.leap.specs.Leapt.{NoneFrom}
+use Rattle.rows.specs.route.Bands.{passes}
+use Rattle.leap.specs.route.Leapt.{NoneFrom}
 use Rattle.leap.proofs.Steps.{further}
 use Rattle.sweep.specs.declared.Walked.{Walked}
 use Rattle.sweep.specs.declared.Walked.the-variants.{At, Nothing, Tired}
-use Rattle.sweep.specs.Walked.{Walks}
+use Rattle.sweep.specs.route.Walked.{Walks}
 
 at-same : (x y : ℕ) → At x ≡ At y → x ≡ y
 at-same x y e = cc

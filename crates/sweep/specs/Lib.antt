@@ -1,1 +1,1 @@
-pub mod Walked
+pub mod route

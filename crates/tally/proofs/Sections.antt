@@ -9,8 +9,8 @@ use lib.ListN.{length}
 use Rattle.word.specs.Search.{count}
 use Rattle.band.specs.declared.Band.{Band}
 use Rattle.bits.specs.declared.Fixed.{Fixed}
-use Rattle.bits.specs.Fixed.{hasBits}
-use Rattle.rows.specs.Bands.{passes}
+use Rattle.bits.specs.route.Fixed.{hasBits}
+use Rattle.rows.specs.route.Bands.{passes}
 use Rattle.section.specs.declared.Section.{Section}
 use Rattle.section.proofs.Alike.{Alike, failing-passes, held-passes}
 use Rattle.fitting.proofs.Passing.{count-same, none-passing, passing-length}

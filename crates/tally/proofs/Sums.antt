@@ -7,7 +7,7 @@ use native.Mathlib.Omega.{arith}
 use Rattle.word.specs.Search.{count}
 use Rattle.fitting.proofs.Passing.{count-split}
 use Rattle.tally.specs.declared.Total.{Total}
-use Rattle.tally.specs.Total.{Carries, UNIT, totals, whole}
+use Rattle.tally.specs.route.Total.{Carries, UNIT, totals, whole}
 
 pub whole-totals : (h : ℕ) → whole (totals h) ≡ h
 whole-totals h = omega arith

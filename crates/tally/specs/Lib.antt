@@ -1,1 +1,1 @@
-pub mod Total
+pub mod route

@@ -2,8 +2,8 @@
 ghost use mathlib.Core.Path.{_≡_};
 ghost use Prim.Native.Nat.{suc, _+_, _-_, _≤_};
 ghost use Rattle.word.specs.Search.{count};
-ghost use Rattle.bits.specs.Fixed.{Tidy, hasBits};
-ghost use Rattle.tally.specs.Total.{Carries, totals, whole};
+ghost use Rattle.bits.specs.route.Fixed.{Tidy, hasBits};
+ghost use Rattle.tally.specs.route.Total.{Carries, totals, whole};
 use crate::Total;
 use bits::Fixed;
 

@@ -7,9 +7,9 @@ use lib.IntN.{ℤ}
 use lib.ListN.{length, take}
 use Rattle.io.specs.Counts.{clamped}
 use Rattle.sheet.specs.Record.{blank}
-use Rattle.exchange.specs.Begun.{none}
-use Rattle.exchange.specs.Desk.{Desk, desk}
-use Rattle.feed.specs.Statements.{deskOf}
+use Rattle.exchange.specs.route.Begun.{none}
+use Rattle.exchange.specs.route.Desk.{Desk, desk}
+use Rattle.feed.specs.route.Statements.{deskOf}
 use Rattle.coming.specs.declared.Came.{Came}
 use Rattle.coming.specs.declared.Came.the-variants.{Interrupted}
 use Rattle.coming.specs.Calls.{cameTo, goesOn}

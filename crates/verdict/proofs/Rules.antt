@@ -16,13 +16,13 @@ use Rattle.word.proofs.Widths.{top-suc}
 use Rattle.rule.specs.declared.Rule.{Rule}
 use Rattle.rule.specs.Meaning.{AllLawful, fits, meets}
 use Rattle.band.specs.declared.Band.{Band}
-use Rattle.band.specs.Band.{bandOf}
+use Rattle.band.specs.route.Band.{bandOf}
 use Rattle.bits.specs.declared.Fixed.{Fixed}
-use Rattle.bits.specs.Fixed.{fixedBits}
-use Rattle.rows.specs.Bands.{passes}
+use Rattle.bits.specs.route.Fixed.{fixedBits}
+use Rattle.rows.specs.route.Bands.{passes}
 use Rattle.rows.proofs.Passes.{passes-fits}
 use Rattle.verdict.specs.Kept.{kept, verdictOf}
-use Rattle.verdict.specs.OnBands.{Bounds, Ends, keptBy}
+use Rattle.verdict.specs.route.OnBands.{Bounds, Ends, keptBy}
 
 last-same : (f g : ℕ → Bool) (k : ℕ) → ((y : ℕ) → y < k → f y ≡ g y) → last f k ≡ last g k
 unfolding last

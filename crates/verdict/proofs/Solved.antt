@@ -15,13 +15,13 @@ use Rattle.word.proofs.Search.{first-at, first-none}
 use Rattle.word.proofs.Searched.{first-is, first-nothing}
 use Rattle.word.proofs.Turn.{back, turned-back}
 use Rattle.band.specs.declared.Band.{Band}
-use Rattle.band.specs.Band.{AllLaid, turnedBand}
+use Rattle.band.specs.route.Band.{AllLaid, turnedBand}
 use Rattle.bits.specs.declared.Fixed.{Fixed}
-use Rattle.bits.specs.Fixed.{Tidy, Within, turnedBits}
-use Rattle.rows.specs.Bands.{passes}
+use Rattle.bits.specs.route.Fixed.{Tidy, Within, turnedBits}
+use Rattle.rows.specs.route.Bands.{passes}
 use Rattle.rows.proofs.Passes.{passes-turned}
 use Rattle.verdict.specs.Kept.{keeps, verdictOf}
-use Rattle.verdict.specs.OnBands.{Ends, keptBy}
+use Rattle.verdict.specs.route.OnBands.{Ends, keptBy}
 
 -- a word is on one side of a place or on the other
 either : {A : Type 0} (x p : ℕ) → (x < p → A) → (p ≤ x → A) → A

@@ -17,15 +17,15 @@ use Rattle.word.proofs.Widths.{top-suc}
 use Rattle.rule.specs.declared.Rule.{Rule}
 use Rattle.rule.specs.Meaning.{AllLawful, fits}
 use Rattle.band.specs.declared.Band.{Band}
-use Rattle.band.specs.Band.{allHold, bandOf, holds}
+use Rattle.band.specs.route.Band.{allHold, bandOf, holds}
 use Rattle.bits.specs.declared.Fixed.{Fixed}
-use Rattle.bits.specs.Fixed.{fixedBits, hasBits}
-use Rattle.rows.specs.Bands.{passes}
+use Rattle.bits.specs.route.Fixed.{fixedBits, hasBits}
+use Rattle.rows.specs.route.Bands.{passes}
 use Rattle.rows.proofs.OneMore.{map-append}
 use Rattle.rows.proofs.Passes.{passes-fits}
 use Rattle.verdict.specs.declared.Kept.{Kept}
 use Rattle.verdict.specs.Kept.{keeps, kept, verdictOf}
-use Rattle.verdict.specs.OnBands.{Bounds, keptBy}
+use Rattle.verdict.specs.route.OnBands.{Bounds, keptBy}
 use Rattle.verdict.proofs.Rules.{kept-bounds, kept-is}
 
 -- where any word fits, both ends do, and they say whether it is one

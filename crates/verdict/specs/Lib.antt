@@ -1,3 +1,3 @@
 pub mod Demand
 pub mod Kept
-pub mod OnBands
+pub mod route

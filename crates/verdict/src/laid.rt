@@ -2,11 +2,11 @@
 ghost use mathlib.Core.Path.{_≡_};
 ghost use lib.ListN.{take};
 ghost use Rattle.word.specs.Word.{IsWidth, top};
-ghost use Rattle.bits.specs.Fixed.{Tidy, Within};
-ghost use Rattle.rows.specs.Bands.{Lie};
-ghost use Rattle.rows.specs.Rows.{bandsIn};
+ghost use Rattle.bits.specs.route.Fixed.{Tidy, Within};
+ghost use Rattle.rows.specs.route.Bands.{Lie};
+ghost use Rattle.rows.specs.route.Rows.{bandsIn};
 ghost use Rattle.verdict.specs.Kept.{keeps};
-ghost use Rattle.verdict.specs.OnBands.{Bounds, Ends, keptBy};
+ghost use Rattle.verdict.specs.route.OnBands.{Bounds, Ends, keptBy};
 use crate::Kept;
 use band::Run;
 use rows::InForce;

@@ -1,4 +1,4 @@
 pub mod Examples
 pub mod Nearest
-pub mod Route
 pub mod Watts
+pub mod route

@@ -4,7 +4,7 @@ ghost use mathlib.Core.Path.{_≡_};
 ghost use Prim.Native.Nat.{_^_, _*_, _≤_, _<_};
 ghost use Rattle.numeral.specs.Numeral.{PLACES};
 ghost use Rattle.watts.specs.Watts.{limitOf, nearer, pattern, withSign};
-ghost use Rattle.watts.specs.Route.{IsGrain, IsParts};
+ghost use Rattle.watts.specs.route.Route.{IsGrain, IsParts};
 use numeral::Numeral;
 
 // The bits of a limit in watts, or that it has more digits after the point than are read.

@@ -1,6 +1,6 @@
 -- `answer` meets its contract: what the call comes to is written, and fits the room. Assumes nothing.
 use borrow.Author.Needs.{needs}
-use Rattle.answer.specs.Told.{toldLines}
+use Rattle.answer.specs.route.Told.{toldLines}
 use Rattle.answer.proofs.Coming.{told-fits}
 use Rattle.answer.proofs.answer.Statement.{statement}
 use Rattle.answer.proofs.answer.Tie as tie

@@ -59,7 +59,7 @@ use Rattle.page.proofs.Opening as O
 use Rattle.page.proofs.Opening.Laws as O′
 use Rattle.batch.specs.declared.Batch.{Batch}
 use Rattle.batch.specs.Batch.{Gives, MOST}
-use Rattle.batch.specs.Route.{batchAt, few}
+use Rattle.batch.specs.route.Route.{batchAt, few}
 use Rattle.batch.proofs.Cut.{few-high, few-low, one-more, read-so}
 use Rattle.batch.proofs.Batch as B
 use Rattle.batch.proofs.Batch.Laws as B′

@@ -10,8 +10,8 @@ use borrow.Author.Tests.{not-false, not-true}
 use Rattle.rule.specs.Meaning.{RULES}
 use Rattle.page.proofs.Lawful.{reached-lawful}
 use Rattle.sheet.specs.declared.Sheet.{Sheet}
-use Rattle.sheet.specs.Shape.{isSheet}
-use Rattle.sheet.specs.Stands.{Standing, no-sheet}
+use Rattle.sheet.specs.route.Shape.{isSheet}
+use Rattle.sheet.specs.route.Stands.{Standing, no-sheet}
 use Rattle.sheet.specs.Statements.{IsSheet}
 use Rattle.sheet.proofs.Stands.{has-page, has-width, is-blank, known, rules-lawful, width-of}
 use Rattle.blaming.specs.Blamed.{Blamed}

@@ -13,7 +13,7 @@ use lib.ListN.{length, take}
 use Rattle.word.specs.Word.{top}
 use Rattle.rule.specs.declared.Rule.{Rule}
 use Rattle.accept.proofs.Choices.{failed, passed}
-use Rattle.rows.specs.Rows.{rulesIn}
+use Rattle.rows.specs.route.Rows.{rulesIn}
 use Rattle.chain.specs.declared.Link.{Link}
 use Rattle.chain.specs.Links.{linkFrom}
 use Rattle.finding.specs.Clauses.{firstBroken, isYes, lieClauses, reasonClauses}

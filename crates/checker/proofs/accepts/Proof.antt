@@ -3,7 +3,7 @@
 use mathlib.Core.Path.{_≡_, _∙_, subst}
 use mathlib.Core.Bool.{Bool}
 use Rattle.sheet.specs.declared.Sheet.{Sheet}
-use Rattle.sheet.specs.Held.{packed}
+use Rattle.sheet.specs.route.Held.{packed}
 use Rattle.sheet.proofs.ByValue.{empty-room}
 use Rattle.checker.specs.Check.{accepts}
 use Rattle.checker.proofs.Held.{Says, blank-no, empty-no, lie-so, no-sheet-no, own-rules, says, says-no, shown-so, tidy-so, width-so}

@@ -2,10 +2,10 @@
 use mathlib.Core.Path.{_≡_, sym, ap, subst}
 use native.Mathlib.Omega.{arith}
 use borrow.Author.Needs.{needs}
-use Rattle.slate.specs.Numbers.{before}
+use Rattle.slate.specs.route.Numbers.{before}
 use Rattle.slate.proofs.Holding.{width-so}
 use Rattle.sheet.specs.declared.Sheet.{Sheet}
-use Rattle.sheet.specs.Stands.{Stands}
+use Rattle.sheet.specs.route.Stands.{Stands}
 use Rattle.sheet.proofs.ByValue.{empty-room}
 use Rattle.sheet.proofs.Holding.{stands-so}
 use Rattle.tally.specs.declared.Total.{Total}

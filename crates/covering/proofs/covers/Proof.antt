@@ -14,12 +14,12 @@ use Rattle.word.specs.Word.{top}
 use Rattle.word.proofs.Widths.{half-pos, halves}
 use Rattle.rule.specs.declared.Rule.{Rule}
 use Rattle.accept.proofs.Choices.{failed, passed}
-use Rattle.rows.specs.Rows.{bandsIn}
-use Rattle.rows.specs.OfRules.{OfLawful}
+use Rattle.rows.specs.route.Rows.{bandsIn}
+use Rattle.rows.specs.route.OfRules.{OfLawful}
 use Rattle.chain.specs.declared.Link.{Link}
 use Rattle.chain.specs.Links.{linkFrom}
 use Rattle.covering.specs.Check.{rightReason}
-use Rattle.covering.specs.Route.{covered}
+use Rattle.covering.specs.route.Route.{covered}
 use Rattle.covering.proofs.Midway.{Midway, at-first, at-gap, at-last, at-next, no-threes, out-of-order, wrong-reason}
 use Rattle.covering.proofs.covers.Statement.{statement}
 use Rattle.covering.proofs.covers.Tie as tie

@@ -1,7 +1,7 @@
 -- `better` meets its contract: each way out is a case of the definition. Assumes nothing.
 use borrow.Author.Needs.{needs}
 use borrow.Author.Tests.{le-ltb, lt-ltb}
-use Rattle.due.specs.Due.{better}
+use Rattle.due.specs.route.Due.{better}
 use Rattle.due.proofs.better.Statement.{statement}
 use Rattle.due.proofs.better.Tie as tie
 

@@ -10,14 +10,14 @@ use borrow.Author.Needs.{needs}
 use borrow.Author.Tests.{not-false, not-true}
 use lib.ListN.{getD, take}
 use Rattle.word.specs.Search.{climb}
-use Rattle.band.specs.Band.{Laid, holds}
+use Rattle.band.specs.route.Band.{Laid, holds}
 use Rattle.band.specs.declared.Band.{Band}
-use Rattle.rows.specs.Bands.{Lie, blankBand, seen}
-use Rattle.rows.specs.Rows.{bandsIn}
+use Rattle.rows.specs.route.Bands.{Lie, blankBand, seen}
+use Rattle.rows.specs.route.Rows.{bandsIn}
 use Rattle.rows.proofs.Reading.{laid-take}
-use Rattle.chain.specs.OnBands.{furthestBand}
-use Rattle.order.specs.Order.{InOrder, bandAt, eve, placedBand}
-use Rattle.due.specs.Due.{Passed, better}
+use Rattle.chain.specs.route.OnBands.{furthestBand}
+use Rattle.order.specs.route.Order.{InOrder, bandAt, eve, placedBand}
+use Rattle.due.specs.route.Due.{Passed, better}
 use Rattle.due.proofs.Best.{Held, More, kept, taken}
 use Rattle.due.proofs.Walk.{Seen, complete, seen-more}
 use Rattle.due.proofs.furthest.Statement.{statement}

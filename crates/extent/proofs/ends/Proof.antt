@@ -3,8 +3,8 @@ use mathlib.Core.Path.{ap₂}
 use Prim.Native.Nat.{_-_}
 use native.Mathlib.Omega.{arith}
 use Rattle.interval.specs.Interval.{interval}
-use Rattle.steps.specs.Step.{both}
-use Rattle.extent.specs.Route.{ends}
+use Rattle.steps.specs.route.Step.{both}
+use Rattle.extent.specs.route.Route.{ends}
 use Rattle.extent.proofs.Searched.{smallest-word}
 use borrow.Author.Needs.{needs}
 use Rattle.extent.proofs.ends.Statement.{statement}

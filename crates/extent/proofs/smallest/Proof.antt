@@ -6,7 +6,7 @@ use borrow.Author.Needs.{needs}
 use lib.Pow.{pow-mono}
 use Rattle.word.proofs.Widths.{top-suc}
 use Rattle.interval.specs.Interval.{Least}
-use Rattle.steps.specs.Step.{Right, both}
+use Rattle.steps.specs.route.Step.{Right, both}
 use Rattle.steps.proofs.Bitwise.{pair-bitwise}
 use Rattle.extent.proofs.Way.{Way, fits, is-smallest, way-end, way-on, way-start}
 use Rattle.extent.proofs.smallest.Statement.{statement}

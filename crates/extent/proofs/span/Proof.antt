@@ -2,7 +2,7 @@
 use mathlib.Core.Path.{refl}
 use native.Mathlib.Omega.{arith}
 use Rattle.interval.specs.Op.{second}
-use Rattle.steps.specs.Step.{both}
+use Rattle.steps.specs.route.Step.{both}
 use Rattle.extent.proofs.Spans.{and-span, not-span, or-span, read, xor-span}
 use Rattle.extent.proofs.Turn.{turned-are}
 use borrow.Author.Needs.{needs}

@@ -3,7 +3,7 @@ use mathlib.Core.List.{[]}
 use native.Mathlib.Omega.{arith}
 use borrow.Author.Needs.{needs}
 use Rattle.fields.proofs.Lines.{put-none}
-use Rattle.exchange.specs.Statements.{no-line}
+use Rattle.exchange.specs.route.Statements.{no-line}
 use Rattle.exchange.proofs.Finishing.{fed-finished}
 use Rattle.feed.proofs.finish.Statement.{statement}
 use Rattle.feed.proofs.finish.Tie as tie

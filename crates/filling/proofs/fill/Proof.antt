@@ -11,9 +11,9 @@ use lib.ListN.{length, take}
 use lib.Seq.{take-nil}
 use Rattle.word.specs.Word.{top}
 use Rattle.band.specs.declared.Band.{Band}
-use Rattle.rows.specs.Bands.{Lie, passes}
-use Rattle.rows.specs.Rows.{bandsIn}
-use Rattle.section.specs.Turns.{turnsFrom}
+use Rattle.rows.specs.route.Bands.{Lie, passes}
+use Rattle.rows.specs.route.Rows.{bandsIn}
+use Rattle.section.specs.route.Turns.{turnsFrom}
 use Rattle.section.proofs.Alike.{Alike, section-alike}
 use Rattle.section.proofs.Fewer.{few-turns, fewer-turns}
 use Rattle.fitting.specs.Words.{atStart}

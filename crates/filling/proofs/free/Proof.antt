@@ -1,7 +1,7 @@
 -- `free` meets its contract: no bit is fixed where the mask is 0. Assumes nothing.
 use mathlib.Core.Path.{sym, ap}
 use borrow.Author.Needs.{needs}
-use Rattle.filling.specs.Put.{isFree}
+use Rattle.filling.specs.route.Put.{isFree}
 use Rattle.filling.proofs.free.Statement.{statement}
 use Rattle.filling.proofs.free.Tie as tie
 

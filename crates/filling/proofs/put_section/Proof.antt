@@ -13,8 +13,8 @@ use Rattle.word.specs.Search.{passing}
 use Rattle.word.specs.Word.{top}
 use Rattle.word.proofs.Searched.{First, first-is, first-nothing}
 use Rattle.word.proofs.Widths.{top-suc}
-use Rattle.bits.specs.Fixed.{hasBits}
-use Rattle.filling.specs.Put.{putAt, runWords, sectionWords}
+use Rattle.bits.specs.route.Fixed.{hasBits}
+use Rattle.filling.specs.route.Put.{putAt, runWords, sectionWords}
 use Rattle.filling.proofs.Puts.{put-length, put-more, put-none}
 use Rattle.filling.proofs.Sections.{free-words, held-words, no-words, passing-found, passing-none, passing-on, passing-over}
 use Rattle.filling.proofs.put_section.Statement.{statement}

@@ -8,7 +8,7 @@ use Rattle.rule.specs.declared.Rule.{Rule}
 use Rattle.gate.specs.declared.Four.{Four}
 use Rattle.gate.specs.declared.Run.{Run}
 use Rattle.gate.specs.Gate.{failing}
-use Rattle.gate.specs.Route.{IsLimit, betweenRules, runOf}
+use Rattle.gate.specs.route.Route.{IsLimit, betweenRules, runOf}
 use Rattle.gate.proofs.Limits.{halved, run-ends, turned-limit, whole}
 use Rattle.gate.proofs.between.Statement.{statement}
 use Rattle.gate.proofs.between.Tie as tie

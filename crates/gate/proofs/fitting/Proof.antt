@@ -7,7 +7,7 @@ use borrow.Author.Tests.{le-ltb, lt-ltb}
 use lib.Dec.{ltb}
 use Rattle.word.specs.Word.{half}
 use Rattle.gate.specs.declared.Run.{Run}
-use Rattle.gate.specs.Route.{fromOf, pastOf, runOf}
+use Rattle.gate.specs.route.Route.{fromOf, pastOf, runOf}
 use Rattle.gate.proofs.fitting.Statement.{statement}
 use Rattle.gate.proofs.fitting.Tie as tie
 

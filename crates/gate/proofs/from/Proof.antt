@@ -7,7 +7,7 @@ use borrow.Author.Needs.{needs}
 use borrow.Author.Tests.{le-ltb, lt-ltb}
 use lib.Dec.{ltb}
 use Rattle.word.specs.Word.{half}
-use Rattle.gate.specs.Route.{fromOf}
+use Rattle.gate.specs.route.Route.{fromOf}
 use Rattle.gate.proofs.from.Statement.{statement}
 use Rattle.gate.proofs.from.Tie as tie
 

@@ -7,7 +7,7 @@ use borrow.Author.Needs.{needs}
 use borrow.Author.Tests.{eq-eqb, le-ltb, lt-ltb, ne-eqb}
 use lib.Dec.{eqb, ltb}
 use Rattle.word.specs.Word.{half}
-use Rattle.gate.specs.Route.{pastOf}
+use Rattle.gate.specs.route.Route.{pastOf}
 use Rattle.gate.proofs.past.Statement.{statement}
 use Rattle.gate.proofs.past.Tie as tie
 

@@ -2,7 +2,7 @@
 use mathlib.Core.Path.{subst}
 use borrow.Author.Needs.{needs}
 use Rattle.sheet.specs.Statements.{Outcome}
-use Rattle.gating.specs.Seen.{AddedFor, GateSeen, SeenFor}
+use Rattle.gating.specs.route.Seen.{AddedFor, GateSeen, SeenFor}
 use Rattle.gating.proofs.Gating.{four-added, refused-gate}
 use Rattle.gating.proofs.added.Statement.{statement}
 use Rattle.gating.proofs.added.Tie as tie

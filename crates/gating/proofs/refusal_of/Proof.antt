@@ -5,9 +5,9 @@ use mathlib.Core.Logic.{_↔_}
 use borrow.Author.Needs.{needs}
 use borrow.Author.Tests.{eqb-false, eqb-true, ltb-false, ltb-true, not-false, not-true}
 use Rattle.sheet.specs.declared.Sheet.{Sheet}
-use Rattle.sheet.specs.Shape.{isSheet}
+use Rattle.sheet.specs.route.Shape.{isSheet}
 use Rattle.sheet.specs.Statements.{IsSheet}
-use Rattle.gating.specs.Seen.{SeenFor}
+use Rattle.gating.specs.route.Seen.{SeenFor}
 use Rattle.gating.proofs.Gating.{seen-blank, seen-fits, seen-full, seen-limit, seen-none, seen-other}
 use Rattle.gating.proofs.refusal_of.Statement.{statement}
 use Rattle.gating.proofs.refusal_of.Tie as tie

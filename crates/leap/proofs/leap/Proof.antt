@@ -8,9 +8,9 @@ use borrow.Author.Needs.{needs}
 use lib.ListN.{take}
 use Rattle.word.specs.Word.{top}
 use Rattle.band.specs.declared.Band.{Band}
-use Rattle.rows.specs.Bands.{Lie, allSeen}
-use Rattle.rows.specs.Rows.{bandsIn}
-use Rattle.leap.specs.Leapt.{NoneFrom}
+use Rattle.rows.specs.route.Bands.{Lie, allSeen}
+use Rattle.rows.specs.route.Rows.{bandsIn}
+use Rattle.leap.specs.route.Leapt.{NoneFrom}
 use Rattle.leap.proofs.Steps.{further, leapt-out, leapt-to}
 use Rattle.leap.proofs.leap.Statement.{statement}
 use Rattle.leap.proofs.leap.Tie as tie

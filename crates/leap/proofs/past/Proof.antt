@@ -11,12 +11,12 @@ use Rattle.word.specs.Word.{top}
 use Rattle.word.specs.Search.{climb}
 use Rattle.word.proofs.Searched.{First, first-is}
 use Rattle.band.specs.declared.Band.{Band}
-use Rattle.band.specs.Band.{Laid, holds}
-use Rattle.bits.specs.Fixed.{hasBits}
-use Rattle.rows.specs.Bands.{allSeen, blankBand, seen}
-use Rattle.rows.specs.Rows.{bandsIn}
+use Rattle.band.specs.route.Band.{Laid, holds}
+use Rattle.bits.specs.route.Fixed.{hasBits}
+use Rattle.rows.specs.route.Bands.{allSeen, blankBand, seen}
+use Rattle.rows.specs.route.Rows.{bandsIn}
 use Rattle.rows.proofs.Reading.{laid-take, seen-at, seen-laid, seen-length}
-use Rattle.leap.specs.Leapt.{NoneFrom}
+use Rattle.leap.specs.route.Leapt.{NoneFrom}
 use Rattle.leap.proofs.Steps.{leapt-out, leapt-to, past-all, past-next, past-run, run-range}
 use Rattle.leap.proofs.past.Statement.{statement}
 use Rattle.leap.proofs.past.Tie as tie

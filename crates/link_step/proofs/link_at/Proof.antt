@@ -8,14 +8,14 @@ use borrow.Author.Needs.{needs}
 use lib.ListN.{getD}
 use Rattle.word.specs.Word.{top}
 use Rattle.word.specs.Search.{sink}
-use Rattle.band.specs.Band.{Laid, holds}
+use Rattle.band.specs.route.Band.{Laid, holds}
 use Rattle.band.specs.declared.Band.{Band}
-use Rattle.rows.specs.Bands.{blankBand, seen}
-use Rattle.rows.specs.Rows.{bandsIn}
+use Rattle.rows.specs.route.Bands.{blankBand, seen}
+use Rattle.rows.specs.route.Rows.{bandsIn}
 use Rattle.chain.specs.declared.Far.the-variants.{To}
 use Rattle.chain.specs.Links.{link, linkBy}
-use Rattle.chain.specs.OnBands.{gapOn}
-use Rattle.link_step.specs.Step.{Reached, linkTo}
+use Rattle.chain.specs.route.OnBands.{gapOn}
+use Rattle.link_step.specs.route.Step.{Reached, linkTo}
 use Rattle.link_step.proofs.link_at.Statement.{statement}
 use Rattle.link_step.proofs.link_at.Tie as tie
 

@@ -13,18 +13,18 @@ use lib.Seq.{length-take-le}
 use Rattle.word.specs.Word.{top}
 use Rattle.rule.specs.declared.Rule.{Rule}
 use Rattle.band.specs.declared.Band.{Band}
-use Rattle.band.specs.Band.{bandOf}
-use Rattle.bits.specs.Fixed.{Tidy}
+use Rattle.band.specs.route.Band.{bandOf}
+use Rattle.bits.specs.route.Fixed.{Tidy}
 use Rattle.bits.proofs.Joined.{fixed-tidy}
-use Rattle.rows.specs.Bands.{Lie}
+use Rattle.rows.specs.route.Bands.{Lie}
 use Rattle.chain.specs.Links.{linkAt}
-use Rattle.chain.specs.OnBands.{furthestBand}
+use Rattle.chain.specs.route.OnBands.{furthestBand}
 use Rattle.chain.proofs.Walk.{Walked, link-order, none-fits, own-link, walk-end, walk-on, walk-room, walk-start}
-use Rattle.rows.specs.Rows.{bandsIn}
-use Rattle.rows.specs.OfRules.{OfLawful}
+use Rattle.rows.specs.route.Rows.{bandsIn}
+use Rattle.rows.specs.route.OfRules.{OfLawful}
 use Rattle.verdict.specs.Kept.{kept}
-use Rattle.order.specs.Order.{InOrder}
-use Rattle.due.specs.Due.{Begun, Ready}
+use Rattle.order.specs.route.Order.{InOrder}
+use Rattle.due.specs.route.Due.{Begun, Ready}
 use Rattle.due.proofs.Walk.{begun-on, ready-on}
 use Rattle.linking.proofs.Found.{found-link, link-ends, reached}
 use Rattle.linking.proofs.write.Statement.{statement}

@@ -4,11 +4,11 @@ use Prim.Native.Nat.{ℕ, _≤_}
 use native.Mathlib.Omega.{arith}
 use borrow.Author.Needs.{needs}
 use Rattle.word.specs.Word.{top}
-use Rattle.slate.specs.Numbers.{before}
+use Rattle.slate.specs.route.Numbers.{before}
 use Rattle.slate.proofs.Holding.{width-so}
 use Rattle.sheet.specs.declared.Sheet.{Sheet}
-use Rattle.sheet.specs.Held.{packed}
-use Rattle.sheet.specs.Stands.{Stands}
+use Rattle.sheet.specs.route.Held.{packed}
+use Rattle.sheet.specs.route.Stands.{Stands}
 use Rattle.sheet.proofs.ByValue.{empty-room}
 use Rattle.sheet.proofs.Holding.{stands-so}
 use Rattle.counting.proofs.Held.{swept-so}

@@ -11,7 +11,7 @@ use Rattle.sheet.specs.Statements.{Outcome}
 use Rattle.handing.specs.Handed.{rulesIn}
 use Rattle.handing.proofs.Rows.{as-many, rule-of-row}
 use Rattle.making.specs.Made.{given, makes}
-use Rattle.making.specs.Way.{Under}
+use Rattle.making.specs.route.Way.{Under}
 use Rattle.making.proofs.Way.{added, all-added, madeOf, opened, refused-opening, refused-rule}
 use Rattle.making.proofs.make.Statement.{statement}
 use Rattle.making.proofs.make.Tie as tie

@@ -9,7 +9,7 @@ use borrow.Author.Tests.{eq-eqb, ne-eqb}
 use Rattle.accept.specs.Accept.{every}
 use Rattle.accept.proofs.Every.{ends, every-opens, goes, stops}
 use Rattle.page.specs.Page.{MARKS}
-use Rattle.page.specs.Shape.{isZero}
+use Rattle.page.specs.route.Shape.{isZero}
 use Rattle.marks.proofs.all_zero.Statement.{statement}
 use Rattle.marks.proofs.all_zero.Tie as tie
 

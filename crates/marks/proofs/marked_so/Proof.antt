@@ -1,7 +1,7 @@
 -- `marked_so` meets its contract. Assumes nothing.
 use borrow.Author.Needs.{needs}
 use Rattle.accept.proofs.Choices.{failed, passed}
-use Rattle.page.specs.Shape.{marksShaped, rising}
+use Rattle.page.specs.route.Shape.{marksShaped, rising}
 use Rattle.marks.proofs.marked_so.Statement.{statement}
 use Rattle.marks.proofs.marked_so.Tie as tie
 

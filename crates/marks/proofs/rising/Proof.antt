@@ -8,7 +8,7 @@ use lib.ListN.{drop, take}
 use borrow.Author.Tests.{le-leb, lt-leb}
 use lib.Dec.{leb}
 use Rattle.accept.proofs.Every.{Opens, front-ends, front-goes, front-stops}
-use Rattle.page.specs.Shape.{rising}
+use Rattle.page.specs.route.Shape.{rising}
 use Rattle.marks.proofs.rising.Statement.{statement}
 use Rattle.marks.proofs.rising.Tie as tie
 

@@ -1,6 +1,6 @@
 -- `fixed_in` meets its contract. Assumes nothing.
 use borrow.Author.Tests.{eq-eqb, ne-eqb}
-use Rattle.noting.specs.Note.{fixedIn}
+use Rattle.noting.specs.route.Note.{fixedIn}
 use Rattle.noting.proofs.fixed_in.Statement.{statement}
 use Rattle.noting.proofs.fixed_in.Tie as tie
 

@@ -1,7 +1,7 @@
 -- `fixed_out` meets its contract. Assumes nothing.
 use mathlib.Core.Path.{sym, ap}
 use borrow.Author.Needs.{needs}
-use Rattle.noting.specs.Note.{fixedOut}
+use Rattle.noting.specs.route.Note.{fixedOut}
 use Rattle.noting.proofs.fixed_out.Statement.{statement}
 use Rattle.noting.proofs.fixed_out.Tie as tie
 

@@ -3,7 +3,7 @@ use mathlib.Core.Bool.{true}
 use borrow.Author.Needs.{needs}
 use Rattle.bits.specs.declared.Fixed.the-variants.{Bits}
 use Rattle.verdict.specs.Kept.{keeps}
-use Rattle.noting.specs.Note.{noteAt}
+use Rattle.noting.specs.route.Note.{noteAt}
 use Rattle.noting.proofs.no_rules.Statement.{statement}
 use Rattle.noting.proofs.no_rules.Tie as tie
 

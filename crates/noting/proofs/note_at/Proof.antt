@@ -6,7 +6,7 @@ use borrow.Author.Needs.{needs}
 use lib.Dec.{eqb}
 use lib.ListN.{getD}
 use Rattle.verdict.specs.Kept.{keeps}
-use Rattle.noting.specs.Note.{noteAt, noteIn}
+use Rattle.noting.specs.route.Note.{noteAt, noteIn}
 use Rattle.noting.proofs.InRow.{note-in}
 use Rattle.noting.proofs.note_at.Statement.{statement}
 use Rattle.noting.proofs.note_at.Tie as tie

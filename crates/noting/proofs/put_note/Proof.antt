@@ -6,7 +6,7 @@ use borrow.Author.Needs.{needs}
 use lib.ListN.{getD, set}
 use Rattle.bits.specs.declared.Fixed.{Fixed}
 use Rattle.bits.specs.declared.Fixed.the-variants.{Bits, Clash}
-use Rattle.noting.specs.Note.{fixedOut, noting, withNote}
+use Rattle.noting.specs.route.Note.{fixedOut, noting, withNote}
 use Rattle.noting.proofs.InRow.{noting-in}
 use Rattle.noting.proofs.put_note.Statement.{statement}
 use Rattle.noting.proofs.put_note.Tie as tie

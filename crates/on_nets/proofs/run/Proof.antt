@@ -1,7 +1,7 @@
 -- `run` meets its contract: the net that the rows are is run, and its words are put where it is not refused. Assumes nothing.
 use mathlib.Core.Path.{_≡_, _∙_, subst}
 use lib.ListN.{length}
-use Rattle.net.specs.Run.{ran}
+use Rattle.net.specs.route.Run.{ran}
 use Rattle.on_nets.specs.Nets.{Ran, netIn}
 use Rattle.on_nets.proofs.Answered.{ended, refused}
 use borrow.Author.Needs.{needs}

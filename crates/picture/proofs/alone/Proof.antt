@@ -6,11 +6,11 @@ use borrow.Author.Needs.{needs}
 use lib.ListN.{replicate, set, take}
 use Rattle.rule.specs.Meaning.{RULES}
 use Rattle.band.specs.declared.Band.{Band}
-use Rattle.band.specs.Band.{bandOf}
+use Rattle.band.specs.route.Band.{bandOf}
 use Rattle.bits.specs.declared.Fixed.{Fixed}
-use Rattle.bits.specs.Fixed.{Tidy}
-use Rattle.rows.specs.Bands.{passes}
-use Rattle.rows.specs.Rows.{bandsIn, noRow, rowOf}
+use Rattle.bits.specs.route.Fixed.{Tidy}
+use Rattle.rows.specs.route.Bands.{passes}
+use Rattle.rows.specs.route.Rows.{bandsIn, noRow, rowOf}
 use Rattle.shade.specs.Cell.{cellOf}
 use Rattle.picture.proofs.Drawn.{alone-lies, alone-of, alone-tidy, by-fits, by-meets}
 use Rattle.picture.proofs.alone.Statement.{statement}

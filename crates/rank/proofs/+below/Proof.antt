@@ -9,7 +9,7 @@ use borrow.Fn.Kinds.{In}
 use borrow.Fn.PlainCycle.{Measures, is, falls, and}
 use lib.Bits.{bitAnd}
 use Rattle.word.specs.Search.{count}
-use Rattle.bits.specs.Fixed.{Tidy}
+use Rattle.bits.specs.route.Fixed.{Tidy}
 use Rattle.bits.proofs.Next.{tidy-value}
 use Rattle.rank.proofs.Pairs.{halved-tidy, short, room, even-words, last-misses, last-hits, none-clash}
 use Rattle.rank.proofs.below.Reads as reads

@@ -5,11 +5,11 @@ use Prim.Native.Nat.{ℕ}
 use native.Mathlib.Omega.{arith}
 use borrow.Author.Needs.{needs}
 use lib.ListN.{take}
-use Rattle.rows.specs.Bands.{Lie}
-use Rattle.rows.specs.Rows.{bandsIn}
-use Rattle.chain.specs.OnBands.{furthestBand}
-use Rattle.order.specs.Order.{InOrder}
-use Rattle.due.specs.Due.{Passed, Ready}
+use Rattle.rows.specs.route.Bands.{Lie}
+use Rattle.rows.specs.route.Rows.{bandsIn}
+use Rattle.chain.specs.route.OnBands.{furthestBand}
+use Rattle.order.specs.route.Order.{InOrder}
+use Rattle.due.specs.route.Due.{Passed, Ready}
 use Rattle.reach.proofs.find.Statement.{statement}
 use Rattle.reach.proofs.find.Tie as tie
 

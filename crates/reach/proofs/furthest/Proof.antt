@@ -9,15 +9,15 @@ use native.Mathlib.Omega.{arith}
 use borrow.Author.Needs.{needs}
 use borrow.Author.Tests.{not-false, not-true}
 use lib.ListN.{getD, length, take}
-use Rattle.band.specs.Band.{Laid}
+use Rattle.band.specs.route.Band.{Laid}
 use Rattle.band.specs.declared.Band.{Band}
 use Rattle.rows.proofs.Reading.{laid-take}
-use Rattle.rows.specs.Bands.{blankBand, seen}
+use Rattle.rows.specs.route.Bands.{blankBand, seen}
 use Rattle.chain.specs.declared.Far.{Far}
 use Rattle.chain.specs.Links.{further}
-use Rattle.chain.specs.OnBands.{furtherBand, furthestBand, furthestBandOf}
+use Rattle.chain.specs.route.OnBands.{furtherBand, furthestBand, furthestBandOf}
 use Rattle.chain.proofs.OnBands.{far-kept, far-new, furthest-suc}
-use Rattle.rows.specs.Rows.{bandsIn}
+use Rattle.rows.specs.route.Rows.{bandsIn}
 use Rattle.rule.specs.Meaning.{RULES}
 use Rattle.reach.proofs.furthest.Statement.{statement}
 use Rattle.reach.proofs.furthest.Tie as tie

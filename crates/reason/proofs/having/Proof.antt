@@ -3,7 +3,7 @@ use mathlib.Core.Path.{sym, _∙_}
 use native.Mathlib.Omega.{arith}
 use borrow.Author.Needs.{needs}
 use Rattle.word.specs.Word.{top}
-use Rattle.bits.specs.Fixed.{hasBits}
+use Rattle.bits.specs.route.Fixed.{hasBits}
 use Rattle.reason.proofs.Meeting.{next-past, next-within, no-next}
 use Rattle.reason.proofs.having.Statement.{statement}
 use Rattle.reason.proofs.having.Tie as tie

@@ -4,7 +4,7 @@ use native.Mathlib.Omega.{arith}
 use Prim.Native.Nat.{ℕ, _+_}
 use borrow.Author.Needs.{needs}
 use Rattle.word.specs.declared.Found.the-variants.{At}
-use Rattle.band.specs.Band.{holds}
+use Rattle.band.specs.route.Band.{holds}
 use Rattle.reason.proofs.Meeting.{after-run, at-once, run-covers}
 use Rattle.reason.proofs.held.Statement.{statement}
 use Rattle.reason.proofs.held.Tie as tie

@@ -15,13 +15,13 @@ use Rattle.word.specs.Search.{first}
 use Rattle.rule.specs.declared.Rule.{Rule}
 use Rattle.rule.specs.Meaning.{meets, meets7, rule}
 use Rattle.band.specs.declared.Band.{Band}
-use Rattle.band.specs.Band.{Laid, holds}
+use Rattle.band.specs.route.Band.{Laid, holds}
 use Rattle.bits.specs.declared.Fixed.{Fixed}
-use Rattle.bits.specs.Fixed.{hasBits}
+use Rattle.bits.specs.route.Fixed.{hasBits}
 use Rattle.chain.specs.Links.{BITS, nth}
-use Rattle.rows.specs.Bands.{blankBand, seen}
+use Rattle.rows.specs.route.Bands.{blankBand, seen}
 use Rattle.rows.proofs.Reading.{laid-take}
-use Rattle.rows.specs.Rows.{bandsIn, rulesIn}
+use Rattle.rows.specs.route.Rows.{bandsIn, rulesIn}
 use Rattle.covering.proofs.Reasons.{band-of, rules-count}
 use Rattle.reason.proofs.Reasons.{bit-rule, bits-met, bits-missed, by-band, by-bits, no-rule, rule-met, rule-missed}
 use Rattle.reason.proofs.shows.Statement.{statement}

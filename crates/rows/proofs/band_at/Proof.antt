@@ -1,7 +1,7 @@
 -- `band_at` meets its contract: the three numbers read are the band's. Assumes nothing.
 use mathlib.Core.Path.{sym, ap, _∙_, subst}
-use Rattle.band.specs.Band.{Laid, turnedBand}
-use Rattle.rows.specs.Rows.{bandIn}
+use Rattle.band.specs.route.Band.{Laid, turnedBand}
+use Rattle.rows.specs.route.Rows.{bandIn}
 use Rattle.rows.proofs.Reading.{band-in, seen-plain, seen-turned}
 use borrow.Author.Needs.{needs}
 use Rattle.rows.proofs.band_at.Statement.{statement}

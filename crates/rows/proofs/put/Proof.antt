@@ -7,7 +7,7 @@ use lib.ListN.{set}
 use mir.Val.{boolByte}
 use Rattle.rule.specs.declared.Rule.{Rule}
 use Rattle.band.specs.declared.Band.{Band}
-use Rattle.rows.specs.Rows.{rowOf}
+use Rattle.rows.specs.route.Rows.{rowOf}
 use borrow.Author.Needs.{needs}
 use Rattle.rows.proofs.put.Statement.{statement}
 use Rattle.rows.proofs.put.Tie as tie

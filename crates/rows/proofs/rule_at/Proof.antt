@@ -1,6 +1,6 @@
 -- `rule_at` meets its contract: the four numbers read are the rule's. Assumes nothing.
 use mathlib.Core.Path.{sym}
-use Rattle.rows.specs.Rows.{ruleIn}
+use Rattle.rows.specs.route.Rows.{ruleIn}
 use Rattle.rows.proofs.Reading.{rule-in}
 use borrow.Author.Needs.{needs}
 use Rattle.rows.proofs.rule_at.Statement.{statement}

@@ -5,8 +5,8 @@ use mathlib.Core.Logic.{_↔_}
 use borrow.Author.Needs.{needs}
 use borrow.Author.Tests.{not-false, not-true}
 use Rattle.sheet.specs.declared.Sheet.{Sheet}
-use Rattle.sheet.specs.Shape.{isSheet}
-use Rattle.sheet.specs.Stands.{no-sheet}
+use Rattle.sheet.specs.route.Shape.{isSheet}
+use Rattle.sheet.specs.route.Stands.{no-sheet}
 use Rattle.sheet.specs.Statements.{IsSheet}
 use Rattle.sheet.proofs.Stands.{has-width, is-blank}
 use Rattle.saying.proofs.shown.Statement.{statement}

@@ -13,12 +13,12 @@ use lib.ListN.{drop, drop-of-length-le, getD, length, take}
 use lib.Seq.{drop-cons, getD-take, length-take-le}
 use Rattle.word.specs.Search.{climb}
 use Rattle.band.specs.declared.Band.{Band}
-use Rattle.band.specs.Band.{Laid, holds}
-use Rattle.rows.specs.Bands.{blankBand, seen}
-use Rattle.rows.specs.Rows.{bandsIn}
+use Rattle.band.specs.route.Band.{Laid, holds}
+use Rattle.rows.specs.route.Bands.{blankBand, seen}
+use Rattle.rows.specs.route.Rows.{bandsIn}
 use Rattle.rows.proofs.Reading.{laid-take}
-use Rattle.section.specs.Section.{section}
-use Rattle.section.specs.Sides.{fails}
+use Rattle.section.specs.route.Section.{section}
+use Rattle.section.specs.route.Sides.{fails}
 use Rattle.section.proofs.Scan.{scan, scan-all, scan-fails, scan-held, scan-none}
 use Rattle.section.proofs.at.Statement.{statement}
 use Rattle.section.proofs.at.Tie as tie

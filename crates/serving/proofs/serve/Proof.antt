@@ -10,10 +10,10 @@ use lib.ListN.{length, take}
 use lib.Seq.{length-take-le, take-all}
 use Rattle.rule.specs.Meaning.{RULES}
 use Rattle.chain.specs.Links.{chainRoom}
-use Rattle.slate.specs.Held.{Held}
-use Rattle.exchange.specs.Statements.{nothing}
+use Rattle.slate.specs.route.Held.{Held}
+use Rattle.exchange.specs.route.Statements.{nothing}
 use Rattle.exchange.proofs.Parts.{feeds-fit, feeds-some}
-use Rattle.feed.specs.Statements.{deskOf}
+use Rattle.feed.specs.route.Statements.{deskOf}
 use Rattle.serving.specs.Passed.{Passed}
 use Rattle.coming.proofs.Rest.{rest-length}
 use Rattle.serving.proofs.Passing.{passed-on}

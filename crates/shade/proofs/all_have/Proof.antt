@@ -2,7 +2,7 @@
 use mathlib.Core.Path.{_∙_}
 use native.Mathlib.Omega.{arith}
 use borrow.Author.Needs.{needs}
-use Rattle.bits.specs.Fixed.{hasBits}
+use Rattle.bits.specs.route.Fixed.{hasBits}
 use Rattle.shade.proofs.Counted.{last-decides, no-fewer, some-lack}
 use Rattle.shade.proofs.all_have.Statement.{statement}
 use Rattle.shade.proofs.all_have.Tie as tie

@@ -7,8 +7,8 @@ use borrow.Author.Tests.{not-false, not-true}
 use mathlib.Core.List.{List}
 use lib.ListN.{take}
 use Rattle.band.specs.declared.Band.{Band}
-use Rattle.rows.specs.Bands.{Lie}
-use Rattle.rows.specs.Rows.{bandsIn}
+use Rattle.rows.specs.route.Bands.{Lie}
+use Rattle.rows.specs.route.Rows.{bandsIn}
 use Rattle.section.specs.declared.Section.{Section}
 use Rattle.shade.proofs.Words.{all-held, first-fails, later-fails}
 use Rattle.shade.proofs.all_pass.Statement.{statement}

@@ -7,8 +7,8 @@ use borrow.Author.Needs.{needs}
 use lib.ListN.{take}
 use Rattle.word.specs.Word.{top}
 use Rattle.word.specs.Search.{first}
-use Rattle.rows.specs.Bands.{allSeen, passes}
-use Rattle.rows.specs.Rows.{bandsIn}
+use Rattle.rows.specs.route.Bands.{allSeen, passes}
+use Rattle.rows.specs.route.Rows.{bandsIn}
 use Rattle.shade.proofs.Words.{each-word, later-word, no-word, some-word}
 use Rattle.shade.proofs.stretch.Statement.{statement}
 use Rattle.shade.proofs.stretch.Tie as tie

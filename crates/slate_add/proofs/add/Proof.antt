@@ -6,10 +6,10 @@ use native.Mathlib.Omega.{arith}
 use borrow.Author.Needs.{needs}
 use Rattle.rule.specs.Meaning.{RULES}
 use Rattle.slate.specs.declared.Head.{Head}
-use Rattle.slate.specs.Numbers.{before, ruleNumber}
+use Rattle.slate.specs.route.Numbers.{before, ruleNumber}
 use Rattle.slate.proofs.Holding.{waits-so, width-so}
-use Rattle.slate_calls.specs.Done.{Adds}
-use Rattle.slate_calls.specs.Done.Adds.{added, refused}
+use Rattle.slate_calls.specs.route.Done.{Adds}
+use Rattle.slate_calls.specs.route.Done.Adds.{added, refused}
 use Rattle.slate_add.proofs.Added.{beside-added, kept-added, narrows, next-free, none-before, rules-added}
 use Rattle.slate_add.proofs.add.Statement.{statement}
 use Rattle.slate_add.proofs.add.Tie as tie

@@ -8,8 +8,8 @@ use Rattle.word.specs.declared.Edition.the-variants.{Old}
 use Rattle.word.specs.Edition.{same}
 use Rattle.accept.specs.Accept.{every, isNoRule}
 use Rattle.accept.proofs.Choices.{failed, passed}
-use Rattle.rows.specs.Rows.{rulesIn}
-use Rattle.slate.specs.Shape.{standsSo}
+use Rattle.rows.specs.route.Rows.{rulesIn}
+use Rattle.slate.specs.route.Shape.{standsSo}
 use Rattle.slate.proofs.Told.{blank-count, blank-kept, blank-marks, blank-rules}
 use Rattle.slate_shape.proofs.blank.Statement.{statement}
 use Rattle.slate_shape.proofs.blank.Tie as tie

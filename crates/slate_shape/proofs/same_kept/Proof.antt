@@ -1,6 +1,6 @@
 -- `same_kept` meets its contract. Assumes nothing.
 use borrow.Author.Tests.{eq-eqb, ne-eqb}
-use Rattle.slate.specs.Shape.{sameKept}
+use Rattle.slate.specs.route.Shape.{sameKept}
 use Rattle.slate_shape.proofs.same_kept.Statement.{statement}
 use Rattle.slate_shape.proofs.same_kept.Tie as tie
 

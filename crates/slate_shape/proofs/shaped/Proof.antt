@@ -12,8 +12,8 @@ use Rattle.word.proofs.Editions.{widest-held}
 use Rattle.rule.specs.Meaning.{RULES}
 use Rattle.accept.proofs.Choices.{failed, passed}
 use Rattle.page.specs.Page.{MARKS}
-use Rattle.page.specs.Shape.{rulesShaped}
-use Rattle.slate.specs.Shape.{inForce, wellShaped}
+use Rattle.page.specs.route.Shape.{rulesShaped}
+use Rattle.slate.specs.route.Shape.{inForce, wellShaped}
 use Rattle.slate_shape.proofs.shaped.Statement.{statement}
 use Rattle.slate_shape.proofs.shaped.Tie as tie
 

@@ -12,12 +12,12 @@ use Rattle.word.proofs.Tests.{both-pass}
 use Rattle.rule.specs.declared.Rule.{Rule}
 use Rattle.rule.specs.Meaning.{AllLawful, RULES}
 use Rattle.accept.proofs.Choices.{failed, never, passed}
-use Rattle.rows.specs.Rows.{rulesIn}
-use Rattle.verdict.specs.OnBands.{Ends}
+use Rattle.rows.specs.route.Rows.{rulesIn}
+use Rattle.verdict.specs.route.OnBands.{Ends}
 use Rattle.verdict.proofs.Rules.{whole-wheel}
 use Rattle.slate.specs.declared.Head.{Head}
-use Rattle.slate.specs.Held.{Held, foundTo}
-use Rattle.slate.specs.Shape.{sameKept, standsSo, wellShaped}
+use Rattle.slate.specs.route.Held.{Held, foundTo}
+use Rattle.slate.specs.route.Shape.{sameKept, standsSo, wellShaped}
 use Rattle.slate.proofs.Holding.{rules-places, width-in}
 use Rattle.slate.proofs.Shaped.{Shaped, count-low, first-lawful, shaped-so}
 use Rattle.slate.proofs.Told.{shape, told-kept, told-out, unread}

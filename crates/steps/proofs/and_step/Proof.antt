@@ -1,6 +1,6 @@
 -- `and_step` meets its contract: AND has the bit of the half just where both words have it. Assumes nothing.
 use native.Mathlib.Omega.{arith}
-use Rattle.steps.specs.Step.{Right}
+use Rattle.steps.specs.route.Step.{Right}
 use Rattle.steps.proofs.Halves.{high, low, opened}
 use Rattle.steps.proofs.Bitwise.{and-bitwise}
 use Rattle.steps.proofs.Settled.{and-zero, and-zero-y}

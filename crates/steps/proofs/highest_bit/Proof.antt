@@ -1,5 +1,5 @@
 -- `highest_bit` meets its contract: each operation has its step. Assumes nothing.
-use Rattle.steps.specs.Step.{both}
+use Rattle.steps.specs.route.Step.{both}
 use borrow.Author.Needs.{needs}
 use Rattle.steps.proofs.highest_bit.Statement.{statement}
 use Rattle.steps.proofs.highest_bit.Tie as tie

@@ -1,6 +1,6 @@
 -- `or_step` meets its contract: OR lacks the bit of the half just where both words lack it. Assumes nothing.
 use native.Mathlib.Omega.{arith}
-use Rattle.steps.specs.Step.{Right}
+use Rattle.steps.specs.route.Step.{Right}
 use Rattle.steps.proofs.Halves.{high, low, opened}
 use Rattle.steps.proofs.Bitwise.{or-bitwise}
 use Rattle.steps.proofs.Settled.{or-low, or-low-x}

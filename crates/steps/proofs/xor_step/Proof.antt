@@ -1,6 +1,6 @@
 -- `xor_step` meets its contract: XOR lacks the bit of the half just where both words lie on one side. Assumes nothing.
 use native.Mathlib.Omega.{arith}
-use Rattle.steps.specs.Step.{Right}
+use Rattle.steps.specs.route.Step.{Right}
 use Rattle.steps.proofs.Halves.{high, low, opened}
 use Rattle.steps.proofs.Bitwise.{xor-bitwise}
 use Rattle.steps.proofs.Settled.{xor-zero}

@@ -7,8 +7,8 @@ use borrow.Author.Needs.{needs}
 use lib.ListN.{take}
 use Rattle.word.specs.Word.{top}
 use Rattle.band.specs.declared.Band.{Band}
-use Rattle.rows.specs.Bands.{allSeen}
-use Rattle.rows.specs.Rows.{bandsIn}
+use Rattle.rows.specs.route.Bands.{allSeen}
+use Rattle.rows.specs.route.Rows.{bandsIn}
 use Rattle.leap.proofs.Steps.{found-none}
 use Rattle.sweep.proofs.Ways.{same-found}
 use Rattle.sweep.proofs.rested.Statement.{statement}

@@ -5,8 +5,8 @@ use borrow.Author.Needs.{needs}
 use lib.ListN.{take}
 use Rattle.word.specs.Word.{top}
 use Rattle.band.specs.declared.Band.{Band}
-use Rattle.rows.specs.Bands.{allSeen}
-use Rattle.rows.specs.Rows.{bandsIn}
+use Rattle.rows.specs.route.Bands.{allSeen}
+use Rattle.rows.specs.route.Rows.{bandsIn}
 use Rattle.sweep.proofs.Ways.{same-found}
 use Rattle.sweep.proofs.sweep.Statement.{statement}
 use Rattle.sweep.proofs.sweep.Tie as tie

@@ -18,12 +18,12 @@ use Rattle.word.specs.Word.{top}
 use Rattle.word.specs.Search.{climb, first}
 use Rattle.word.proofs.Searched.{First, first-is}
 use Rattle.band.specs.declared.Band.{Band}
-use Rattle.band.specs.Band.{Laid, allHold, holds}
-use Rattle.bits.specs.Fixed.{hasBits}
-use Rattle.rows.specs.Bands.{allSeen, blankBand, passes, seen}
-use Rattle.rows.specs.Rows.{bandsIn}
+use Rattle.band.specs.route.Band.{Laid, allHold, holds}
+use Rattle.bits.specs.route.Fixed.{hasBits}
+use Rattle.rows.specs.route.Bands.{allSeen, blankBand, passes, seen}
+use Rattle.rows.specs.route.Rows.{bandsIn}
 use Rattle.rows.proofs.Reading.{laid-take, seen-at, seen-laid, seen-length}
-use Rattle.leap.specs.Leapt.{NoneFrom}
+use Rattle.leap.specs.route.Leapt.{NoneFrom}
 use Rattle.leap.proofs.Steps.{found-at, found-none, hold-suc, past-all, past-next, past-run, run-range}
 use Rattle.sweep.specs.declared.Walked.{Walked}
 use Rattle.sweep.specs.declared.Walked.the-variants as walked

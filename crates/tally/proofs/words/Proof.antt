@@ -11,13 +11,13 @@ use lib.ListN.{take}
 use Rattle.word.specs.Search.{count}
 use Rattle.word.specs.Word.{top}
 use Rattle.band.specs.declared.Band.{Band}
-use Rattle.bits.specs.Fixed.{hasBits}
-use Rattle.rows.specs.Bands.{Lie, passes}
-use Rattle.rows.specs.Rows.{bandsIn}
-use Rattle.section.specs.Turns.{turnsFrom}
+use Rattle.bits.specs.route.Fixed.{hasBits}
+use Rattle.rows.specs.route.Bands.{Lie, passes}
+use Rattle.rows.specs.route.Rows.{bandsIn}
+use Rattle.section.specs.route.Turns.{turnsFrom}
 use Rattle.section.proofs.Alike.{Alike, section-alike}
 use Rattle.section.proofs.Fewer.{few-turns, fewer-turns}
-use Rattle.tally.specs.Total.{Carries, totals, whole}
+use Rattle.tally.specs.route.Total.{Carries, totals, whole}
 use Rattle.tally.proofs.Sections.{failing-section, held-section}
 use Rattle.rank.proofs.Pairs.{count-most}
 use Rattle.tally.proofs.Sums.{carries-totals, whole-totals}

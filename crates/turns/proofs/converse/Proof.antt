@@ -9,9 +9,9 @@ use borrow.Author.Needs.{needs}
 use lib.ListN.{length}
 use Rattle.rule.specs.Meaning.{RULES}
 use Rattle.chain.specs.Links.{chainRoom}
-use Rattle.slate.specs.Held.{Held}
-use Rattle.exchange.specs.Desk.{Desk, desk}
-use Rattle.feed.specs.Statements.{deskOf}
+use Rattle.slate.specs.route.Held.{Held}
+use Rattle.exchange.specs.route.Desk.{Desk, desk}
+use Rattle.feed.specs.route.Statements.{deskOf}
 use Rattle.coming.specs.declared.Came.the-variants.{Interrupted}
 use Rattle.coming.specs.Calls.{MOST}
 use Rattle.turns.specs.Turns.{Turns, another, none-yet}

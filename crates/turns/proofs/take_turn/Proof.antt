@@ -7,8 +7,8 @@ use borrow.Author.Needs.{needs}
 use lib.IntN.{ℤ}
 use lib.ListN.{take}
 use lib.Seq.{length-take-le}
-use Rattle.exchange.specs.Desk.{Desk}
-use Rattle.feed.specs.Statements.{deskOf}
+use Rattle.exchange.specs.route.Desk.{Desk}
+use Rattle.feed.specs.route.Statements.{deskOf}
 use Rattle.coming.specs.declared.hearing.Hearing.{Hearing}
 use Rattle.turns.specs.declared.Turn.{Turn}
 use Rattle.serving.specs.Passed.{Passed}

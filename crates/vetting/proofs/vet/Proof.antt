@@ -3,7 +3,7 @@ use mathlib.Core.Path.{_≡_, ap, _∙_}
 use lib.ListN.{length, take}
 use Rattle.accept.specs.Accept.{noRule}
 use Rattle.batch.specs.Batch.{MOST}
-use Rattle.batch.specs.Route.{few}
+use Rattle.batch.specs.route.Route.{few}
 use Rattle.batch.proofs.Cut.{few-high, few-low, read-so}
 use Rattle.handing.specs.Handed.{rulesIn}
 use Rattle.handing.proofs.Rows.{as-many}

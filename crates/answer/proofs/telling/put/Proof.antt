@@ -2,7 +2,7 @@
 use mathlib.Core.Path.{subst}
 use borrow.Author.Needs.{needs}
 use Rattle.fields.proofs.Lines.{one-line}
-use Rattle.answer.specs.Told.{Few, toldLines}
+use Rattle.answer.specs.route.Told.{Few, toldLines}
 use Rattle.answer.proofs.telling.put.Statement.{statement}
 use Rattle.answer.proofs.telling.put.Tie as tie
 

@@ -1,7 +1,7 @@
 -- `Band::by_sense` meets its contract. Assumes nothing.
 use native.Mathlib.Omega.{arith}
 use borrow.Author.Tests.{eq-eqb}
-use Rattle.band.specs.Band.{bySense}
+use Rattle.band.specs.route.Band.{bySense}
 use Rattle.band.proofs.Laying.{negated-side}
 use Rattle.band.proofs.Band.by_sense.Statement.{statement}
 use Rattle.band.proofs.Band.by_sense.Tie as tie

@@ -1,7 +1,7 @@
 -- `Band::of` meets its contract. Assumes nothing.
 use mathlib.Core.Path.{ap, _∙_}
 use borrow.Author.Needs.{needs}
-use Rattle.band.specs.Band.{bandOf, bySense, seamless}
+use Rattle.band.specs.route.Band.{bandOf, bySense, seamless}
 use Rattle.band.proofs.Band.of.Statement.{statement}
 use Rattle.band.proofs.Band.of.Tie as tie
 

@@ -1,7 +1,7 @@
 -- `Band::seamless` meets its contract. Assumes nothing.
 use mathlib.Core.Path.{refl, sym, ap₂, _∙_}
 use borrow.Author.Needs.{needs}
-use Rattle.band.specs.Band.{wheel}
+use Rattle.band.specs.route.Band.{wheel}
 use Rattle.band.proofs.Laying.{part-band, whole-band}
 use Rattle.band.proofs.Band.seamless.Statement.{statement}
 use Rattle.band.proofs.Band.seamless.Tie as tie

@@ -8,7 +8,7 @@ use borrow.Author.Tests.{le-leb, lt-leb}
 use lib.Dec.{leb}
 use Rattle.word.specs.Word.{half, plus, top}
 use Rattle.word.proofs.Widths.{half-pos}
-use Rattle.band.specs.Band.{settledBand, span, wheel}
+use Rattle.band.specs.route.Band.{settledBand, span, wheel}
 use Rattle.band.proofs.Band.settled.Statement.{statement}
 use Rattle.band.proofs.Band.settled.Tie as tie
 

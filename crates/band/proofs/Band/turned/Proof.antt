@@ -1,7 +1,7 @@
 -- `Band::turned` meets its contract. Assumes nothing.
 use mathlib.Core.Path.{refl}
 use borrow.Author.Needs.{needs}
-use Rattle.band.specs.Band.{turnedBand}
+use Rattle.band.specs.route.Band.{turnedBand}
 use Rattle.band.proofs.Band.turned.Statement.{statement}
 use Rattle.band.proofs.Band.turned.Tie as tie
 

@@ -6,7 +6,7 @@ use borrow.Author.Needs.{needs}
 use Rattle.word.specs.Word.{minus, top}
 use Rattle.word.proofs.Widths.{half-pos}
 use Rattle.rule.proofs.Forms.{end, row}
-use Rattle.band.specs.Band.{span, writtenBands}
+use Rattle.band.specs.route.Band.{span, writtenBands}
 use Rattle.band.proofs.Laying.{at-band, no-band}
 use Rattle.band.proofs.Band.written.Statement.{statement}
 use Rattle.band.proofs.Band.written.Tie as tie

@@ -6,10 +6,10 @@ use lib.ListN.{length, take}
 use lib.Seq.{length-take-le}
 use Rattle.page.specs.Page.{Page}
 use Rattle.page.specs.Reached.{Reached}
-use Rattle.slate.specs.Held.{Held}
-use Rattle.sheet.specs.Held.{packed}
+use Rattle.slate.specs.route.Held.{Held}
+use Rattle.sheet.specs.route.Held.{packed}
 use Rattle.sheet.specs.Record.{fresh}
-use Rattle.batch.specs.Course.{Under}
+use Rattle.batch.specs.route.Course.{Under}
 use Rattle.sheet.proofs.Added.{add-after}
 use Rattle.batch.proofs.UnderWay.{begun-way, first-at, first-inside, step-way, stop-way}
 use Rattle.batch.proofs.course.add_all.Statement.{statement}

@@ -47,7 +47,7 @@ use Rattle.page.proofs.Opening as O
 use Rattle.page.proofs.Opening.Laws as O′
 use Rattle.batch.specs.declared.Batch.{Batch}
 use Rattle.batch.specs.Batch.{Batched, MOST}
-use Rattle.batch.specs.Route.{few}
+use Rattle.batch.specs.route.Route.{few}
 use Rattle.batch.proofs.Batch as B
 use Rattle.batch.proofs.few as few′
 use Rattle.batch.proofs.none as none′

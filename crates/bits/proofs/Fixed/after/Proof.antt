@@ -9,7 +9,7 @@ use borrow.Author.Tests.{eqb-true}
 use lib.Bits.{bitAnd, bitOr, and-le-r, or-lt}
 use Rattle.bits.specs.declared.Fixed.{Fixed}
 use Rattle.bits.specs.declared.Fixed.the-variants.{Bits}
-use Rattle.bits.specs.Fixed.{hasBits}
+use Rattle.bits.specs.route.Fixed.{hasBits}
 use Rattle.bits.proofs.Next.{after-gap, clash-none, found-after, none-after, tidy-value}
 use Rattle.bits.proofs.Fixed.after.Statement.{statement}
 use Rattle.bits.proofs.Fixed.after.Tie as tie

@@ -2,7 +2,7 @@
 use mathlib.Core.Path.{sym, ap}
 use borrow.Author.Needs.{needs}
 use Rattle.bits.specs.declared.Fixed.{Fixed}
-use Rattle.bits.specs.Fixed.{hasBits}
+use Rattle.bits.specs.route.Fixed.{hasBits}
 use Rattle.bits.proofs.Fixed.has.Statement.{statement}
 use Rattle.bits.proofs.Fixed.has.Tie as tie
 

@@ -3,7 +3,7 @@
 use mathlib.Core.Path.{sym, ap, _∙_}
 use borrow.Author.Needs.{needs}
 use Rattle.bits.specs.declared.Fixed.the-variants.{Bits}
-use Rattle.bits.specs.Fixed.{turnedBits}
+use Rattle.bits.specs.route.Fixed.{turnedBits}
 use Rattle.bits.proofs.Next.{tidy-value}
 use Rattle.bits.proofs.Turn.{flipped}
 use Rattle.bits.proofs.Fixed.turned.Statement.{statement}

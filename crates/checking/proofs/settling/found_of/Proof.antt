@@ -9,7 +9,7 @@ use Rattle.finding.specs.declared.Finding.{Finding}
 use Rattle.finding.specs.Clauses.{isYes}
 use Rattle.checker.specs.Check.{accepts}
 use Rattle.clause.specs.Finding.{finding}
-use Rattle.checking.specs.Room.{roomOf}
+use Rattle.checking.specs.route.Room.{roomOf}
 use Rattle.checking.proofs.settling.found_of.Statement.{statement}
 use Rattle.checking.proofs.settling.found_of.Tie as tie
 

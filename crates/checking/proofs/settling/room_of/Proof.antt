@@ -4,7 +4,7 @@ use native.Mathlib.Omega.{arith}
 use borrow.Author.Needs.{needs}
 use borrow.Author.Tests.{le-ltb, lt-ltb}
 use lib.Seq.{length-take-le}
-use Rattle.checking.specs.Room.{roomOf}
+use Rattle.checking.specs.route.Room.{roomOf}
 use Rattle.checking.proofs.settling.room_of.Statement.{statement}
 use Rattle.checking.proofs.settling.room_of.Tie as tie
 

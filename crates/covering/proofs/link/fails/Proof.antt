@@ -3,7 +3,7 @@ use mathlib.Core.Path.{sym, ap, _∙_}
 use native.Mathlib.Omega.{arith}
 use borrow.Author.Needs.{needs}
 use lib.Dec.{leb}
-use Rattle.band.specs.Band.{holds}
+use Rattle.band.specs.route.Band.{holds}
 use Rattle.covering.proofs.EveryWord.{first-passes, run-misses}
 use Rattle.covering.proofs.link.fails.Statement.{statement}
 use Rattle.covering.proofs.link.fails.Tie as tie

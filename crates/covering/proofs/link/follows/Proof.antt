@@ -6,7 +6,7 @@ use borrow.Author.Needs.{needs}
 use borrow.Author.Tests.{eq-eqb, eqb-true, le-leb, leb-true}
 use lib.Dec.{eqb, leb}
 use Rattle.word.proofs.Tests.{same-test}
-use Rattle.covering.specs.Route.{covered}
+use Rattle.covering.specs.route.Route.{covered}
 use Rattle.covering.proofs.Midway.{covered-none, covered-some}
 use Rattle.covering.proofs.link.follows.Statement.{statement}
 use Rattle.covering.proofs.link.follows.Tie as tie

@@ -2,7 +2,7 @@
 use mathlib.Core.Path.{sym, _∙_}
 use borrow.Author.Needs.{needs}
 use Rattle.word.specs.Word.{top}
-use Rattle.bits.specs.Fixed.{hasBits}
+use Rattle.bits.specs.route.Fixed.{hasBits}
 use Rattle.covering.proofs.EveryWord.{next-after, none-after}
 use Rattle.covering.proofs.link.lacks.Statement.{statement}
 use Rattle.covering.proofs.link.lacks.Tie as tie

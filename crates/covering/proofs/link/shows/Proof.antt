@@ -8,13 +8,13 @@ use lib.ListN.{getD, length, take}
 use Rattle.word.specs.Word.{top}
 use Rattle.rule.specs.declared.Rule.{Rule}
 use Rattle.band.specs.declared.Band.{Band}
-use Rattle.band.specs.Band.{Laid, holds}
+use Rattle.band.specs.route.Band.{Laid, holds}
 use Rattle.bits.specs.declared.Fixed.{Fixed}
-use Rattle.bits.specs.Fixed.{hasBits}
-use Rattle.rows.specs.Bands.{blankBand, seen}
+use Rattle.bits.specs.route.Fixed.{hasBits}
+use Rattle.rows.specs.route.Bands.{blankBand, seen}
 use Rattle.rows.proofs.Reading.{laid-take}
-use Rattle.rows.specs.Rows.{bandsIn}
-use Rattle.rows.specs.OfRules.{OfLawful}
+use Rattle.rows.specs.route.Rows.{bandsIn}
+use Rattle.rows.specs.route.OfRules.{OfLawful}
 use Rattle.covering.proofs.EveryWord.{misses}
 use Rattle.covering.proofs.Reasons.{band-of, bits-reason, no-reason, rule-reason, rules-count}
 use Rattle.covering.proofs.link.shows.Statement.{statement}

@@ -5,7 +5,7 @@ use borrow.Author.Needs.{needs}
 use lib.ListN.{length-map}
 use Rattle.frame.specs.Frames.{frameOf}
 use Rattle.exchange.specs.declared.Begun.{Begun}
-use Rattle.exchange.specs.Begun.{begunLine}
+use Rattle.exchange.specs.route.Begun.{begunLine}
 use Rattle.exchange.proofs.Held.{first-frame}
 use Rattle.exchange.proofs.Begun.frame.Statement.{statement}
 use Rattle.exchange.proofs.Begun.frame.Tie as tie

@@ -6,7 +6,7 @@ use native.Mathlib.Omega.{arith}
 use borrow.Author.Needs.{needs}
 use lib.ListN.{drop, drop-of-length-le, getD, length, set}
 use Rattle.exchange.specs.declared.Begun.{Begun}
-use Rattle.exchange.specs.Begun.{begins, joined}
+use Rattle.exchange.specs.route.Begun.{begins, joined}
 use Rattle.exchange.proofs.Held.{joined-full, joined-next, put-more}
 use Rattle.exchange.proofs.Begun.with.Statement.{statement}
 use Rattle.exchange.proofs.Begun.with.Tie as tie

@@ -5,7 +5,7 @@ use borrow.Author.Needs.{needs}
 use lib.ListN.{length-map, length-take}
 use lib.Seq.{length-take-le}
 use Rattle.frame.proofs.Rows.{too-long}
-use Rattle.exchange.specs.Begun.{begunLine}
+use Rattle.exchange.specs.route.Begun.{begunLine}
 use Rattle.exchange.proofs.Held.{Whole}
 use Rattle.exchange.proofs.holding.held_frame.Statement.{statement}
 use Rattle.exchange.proofs.holding.held_frame.Tie as tie

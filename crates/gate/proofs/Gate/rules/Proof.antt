@@ -10,7 +10,7 @@ use Rattle.gate.specs.declared.Gate.the-variants.{AtLeast, AtMost}
 use Rattle.gate.specs.declared.Turned.the-variants.{NotANumber, Rules}
 use Rattle.gate.specs.Gate.{notNumbers, turned}
 use Rattle.gate.specs.Paper.{Single}
-use Rattle.gate.specs.Route.{IsLimit, betweenRules}
+use Rattle.gate.specs.route.Route.{IsLimit, betweenRules}
 use Rattle.gate.proofs.Closed.{
   as-none,
   as-rules,

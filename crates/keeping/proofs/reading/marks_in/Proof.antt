@@ -8,7 +8,7 @@ use borrow.Author.Needs.{needs}
 use lib.ListN.{drop, length, length-replicate, replicate, set, take}
 use Rattle.page.specs.Page.{MARKS}
 use Rattle.rows.proofs.Copies.{all-copied, copied}
-use Rattle.keeping.specs.Reading.{marksIn}
+use Rattle.keeping.specs.route.Reading.{marksIn}
 use Rattle.keeping.proofs.Placed.{mark-read, marks-many}
 use Rattle.keeping.proofs.reading.marks_in.Statement.{statement}
 use Rattle.keeping.proofs.reading.marks_in.Tie as tie

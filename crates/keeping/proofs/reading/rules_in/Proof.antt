@@ -10,7 +10,7 @@ use Rattle.rule.specs.declared.Rule.{Rule}
 use Rattle.rule.specs.Meaning.{RULES}
 use Rattle.accept.specs.Accept.{noRule}
 use Rattle.rows.proofs.Copies.{all-copied, copied}
-use Rattle.keeping.specs.Reading.{rulesIn}
+use Rattle.keeping.specs.route.Reading.{rulesIn}
 use Rattle.keeping.proofs.Placed.{rules-many}
 use Rattle.keeping.proofs.reading.rules_in.Statement.{statement}
 use Rattle.keeping.proofs.reading.rules_in.Tie as tie

@@ -6,10 +6,10 @@ use native.Mathlib.Numerals.{add-one}
 use native.Mathlib.Omega.{arith}
 use borrow.Author.Needs.{needs}
 use lib.ListN.{length-map, take}
-use Rattle.bits.specs.Fixed.{fixedBits, fixedFrom, joined}
+use Rattle.bits.specs.route.Fixed.{fixedBits, fixedFrom, joined}
 use Rattle.bits.proofs.Joined.{fixed-suc}
 use Rattle.accept.specs.Accept.{noRule}
-use Rattle.rows.specs.Rows.{ruleIn, rulesIn}
+use Rattle.rows.specs.route.Rows.{ruleIn, rulesIn}
 use Rattle.laying.proofs.drawing.bits_of.Statement.{statement}
 use Rattle.laying.proofs.drawing.bits_of.Tie as tie
 

@@ -10,8 +10,8 @@ use lib.ListN.{List·getD-map, getD, length-map, set}
 use Rattle.rule.specs.declared.Rule.{Rule}
 use Rattle.accept.specs.Accept.{noRule}
 use Rattle.band.specs.declared.Band.{Band}
-use Rattle.band.specs.Band.{bandOf}
-use Rattle.rows.specs.Rows.{drawn, drawnRow, rowOf, ruleIn, rulesIn}
+use Rattle.band.specs.route.Band.{bandOf}
+use Rattle.rows.specs.route.Rows.{drawn, drawnRow, rowOf, ruleIn, rulesIn}
 use Rattle.rows.proofs.Copies.{copied}
 use Rattle.rows.proofs.Drawn.{drawn-rules}
 use Rattle.rows.proofs.Reading.{rule-in}

@@ -6,7 +6,7 @@ use native.Mathlib.Nat.{sub-self}
 use native.Mathlib.Omega.{arith}
 use borrow.Author.Needs.{needs}
 use lib.ListN.{drop, replicate, set, take, take-append-drop}
-use Rattle.rows.specs.Rows.{noRow}
+use Rattle.rows.specs.route.Rows.{noRow}
 use Rattle.rows.proofs.Copies.{cleared}
 use Rattle.laying.proofs.packing.clear.Statement.{statement}
 use Rattle.laying.proofs.packing.clear.Tie as tie

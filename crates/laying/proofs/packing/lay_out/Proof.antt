@@ -8,7 +8,7 @@ use borrow.Author.Needs.{needs}
 use lib.ListN.{List·getD-map, drop, length, length-map, set, take}
 use Rattle.rule.specs.Meaning.{RULES}
 use Rattle.accept.specs.Accept.{noRule}
-use Rattle.rows.specs.Rows.{bareRow}
+use Rattle.rows.specs.route.Rows.{bareRow}
 use Rattle.rows.proofs.Copies.{all-copied, copied}
 use Rattle.laying.proofs.packing.lay_out.Statement.{statement}
 use Rattle.laying.proofs.packing.lay_out.Tie as tie

@@ -9,7 +9,7 @@ use lib.ListN.{drop, length, length-map, length-replicate, replicate, set, take}
 use Rattle.rule.specs.declared.Rule.{Rule}
 use Rattle.rule.specs.Meaning.{RULES}
 use Rattle.accept.specs.Accept.{noRule}
-use Rattle.rows.specs.Rows.{ruleIn, rulesIn}
+use Rattle.rows.specs.route.Rows.{ruleIn, rulesIn}
 use Rattle.rows.proofs.Copies.{all-copied, copied}
 use Rattle.laying.proofs.packing.pack.Statement.{statement}
 use Rattle.laying.proofs.packing.pack.Tie as tie

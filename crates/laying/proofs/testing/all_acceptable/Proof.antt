@@ -10,7 +10,7 @@ use lib.ListN.{drop, length-map, take}
 use Rattle.rule.specs.declared.Rule.{Rule}
 use Rattle.accept.specs.Accept.{acceptable, every, noRule}
 use Rattle.accept.proofs.Every.{every-opens, front-ends, front-goes, front-stops}
-use Rattle.rows.specs.Rows.{ruleIn, rulesIn}
+use Rattle.rows.specs.route.Rows.{ruleIn, rulesIn}
 use Rattle.laying.proofs.testing.all_acceptable.Statement.{statement}
 use Rattle.laying.proofs.testing.all_acceptable.Tie as tie
 

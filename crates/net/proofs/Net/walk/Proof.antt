@@ -7,7 +7,7 @@ use native.Mathlib.Omega.{arith}
 use borrow.Author.Needs.{needs}
 use Rattle.net_tests.specs.Fits.{JOINS}
 use Rattle.net.specs.Net.{turn}
-use Rattle.net.specs.Run.{shown, stand, walked}
+use Rattle.net.specs.route.Run.{shown, stand, walked}
 use Rattle.net.proofs.Going.{Walk, walk-empty, walk-on, walk-spent, walk-start, walk-steady}
 use Rattle.net.proofs.Net.walk.Statement.{statement}
 use Rattle.net.proofs.Net.walk.Tie as tie

@@ -5,7 +5,7 @@ use Prim.Native.Nat.{_-_, _≤_}
 use native.Mathlib.Omega.{arith}
 use borrow.Author.Count.{below-more}
 use borrow.Author.Needs.{needs}
-use Rattle.order.specs.Order.{AllPlaced}
+use Rattle.order.specs.route.Order.{AllPlaced}
 use Rattle.order.proofs.test.placed.Statement.{statement}
 use Rattle.order.proofs.test.placed.Tie as tie
 

@@ -5,10 +5,10 @@ use mathlib.Core.Bool.{false≢true}
 use Prim.Native.Nat.{ℕ, _-_, _≤_, _<_}
 use native.Mathlib.Omega.{arith}
 use borrow.Author.Needs.{needs}
-use Rattle.rows.specs.Bands.{blankBand, seen}
-use Rattle.rows.specs.Rows.{bandsIn}
+use Rattle.rows.specs.route.Bands.{blankBand, seen}
+use Rattle.rows.specs.route.Rows.{bandsIn}
 use Rattle.rows.proofs.Reading.{laid-take}
-use Rattle.order.specs.Order.{Rising, eve, placedBand}
+use Rattle.order.specs.route.Order.{Rising, eve, placedBand}
 use Rattle.order.proofs.Rise.{most-more, rising-more}
 use Rattle.order.proofs.test.rises.Statement.{statement}
 use Rattle.order.proofs.test.rises.Tie as tie

@@ -9,14 +9,14 @@ use Rattle.rule.specs.declared.Rule.{Rule}
 use Rattle.rule.specs.Meaning.{RULES}
 use Rattle.verdict.specs.declared.Kept.{Kept}
 use Rattle.verdict.specs.Kept.{kept}
-use Rattle.sheet.specs.Stands.{Standing, Stands}
+use Rattle.sheet.specs.route.Stands.{Standing, Stands}
 use Rattle.sheet.specs.Statements.{Asked}
 use Rattle.sheet.proofs.WaysOfAsking.{chain-asking, kept-asking, refused-asking, short-asking}
-use Rattle.rows.specs.OfRules.{OfLawful}
-use Rattle.rows.specs.Rows.{bandsIn, rulesIn}
+use Rattle.rows.specs.route.OfRules.{OfLawful}
+use Rattle.rows.specs.route.Rows.{bandsIn, rulesIn}
 use Rattle.slate.specs.declared.Head.{Head}
-use Rattle.slate.specs.Numbers.{before}
-use Rattle.sheet.specs.Held.{packed}
+use Rattle.slate.specs.route.Numbers.{before}
+use Rattle.sheet.specs.route.Held.{packed}
 use Rattle.slate.proofs.Holding.{bands-places, drawn-so, kept-so, lawful-so, swept, waits-so, width-so}
 use Rattle.sheet.proofs.Holding.{on-sheet, stands-so}
 use Rattle.sheet.proofs.asking.ask.Statement.{statement}

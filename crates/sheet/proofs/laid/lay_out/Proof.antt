@@ -1,9 +1,9 @@
 -- `lay_out` meets its contract: the rows and marks hold the record, the head has its numbers, and the test leaves the rules. Assumes nothing.
 use mathlib.Core.Path.{ap, _∙_}
 use borrow.Author.Needs.{needs}
-use Rattle.rows.specs.Rows.{rulesIn}
+use Rattle.rows.specs.route.Rows.{rulesIn}
 use Rattle.slate.specs.declared.Head.{Head}
-use Rattle.slate.specs.Held.{foundTo}
+use Rattle.slate.specs.route.Held.{foundTo}
 use Rattle.sheet.proofs.ByValue.{laid-out, rules-bare}
 use Rattle.sheet.proofs.laid.lay_out.Statement.{statement}
 use Rattle.sheet.proofs.laid.lay_out.Tie as tie

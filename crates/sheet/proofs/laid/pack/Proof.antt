@@ -1,6 +1,6 @@
 -- `pack` meets its contract. Assumes nothing.
 use borrow.Author.Needs.{needs}
-use Rattle.sheet.specs.Held.{packed}
+use Rattle.sheet.specs.route.Held.{packed}
 use Rattle.sheet.proofs.laid.pack.Statement.{statement}
 use Rattle.sheet.proofs.laid.pack.Tie as tie
 

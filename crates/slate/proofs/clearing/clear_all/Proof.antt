@@ -6,9 +6,9 @@ use native.Mathlib.Omega.{arith}
 use borrow.Author.Tests.{not-false}
 use Rattle.rule.specs.Meaning.{RULES}
 use Rattle.accept.specs.Accept.{noRule}
-use Rattle.rows.specs.Rows.{rulesIn}
+use Rattle.rows.specs.route.Rows.{rulesIn}
 use Rattle.page.specs.Page.{MARKS}
-use Rattle.slate.specs.Held.{Waits}
+use Rattle.slate.specs.route.Held.{Waits}
 use Rattle.slate.proofs.Cleared.{emptied, past-all, rules-cleared}
 use Rattle.slate.proofs.Holding.{rules-places, waits-if}
 use Rattle.slate.proofs.clearing.clear_all.Statement.{statement}

@@ -3,7 +3,7 @@ use mathlib.Core.Path.{sym, _∙_}
 use Prim.Native.Nat.{_+_}
 use native.Mathlib.Omega.{arith}
 use lib.ListN.{length-map}
-use Rattle.rows.specs.Rows.{ruleIn}
+use Rattle.rows.specs.route.Rows.{ruleIn}
 use Rattle.page.specs.Page.{MARKS}
 use Rattle.slate.proofs.Cleared.{emptied}
 use Rattle.slate.proofs.clearing.clear_waiting.Statement.{statement}

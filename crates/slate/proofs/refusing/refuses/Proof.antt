@@ -2,7 +2,7 @@
 use mathlib.Core.Path.{sym, ap, ap₂, _∙_}
 use mathlib.Core.Bool.{Bool}
 use borrow.Author.Tests.{ne-eqb, not-false, not-true}
-use Rattle.slate.specs.Numbers.{before}
+use Rattle.slate.specs.route.Numbers.{before}
 use Rattle.slate.proofs.refusing.refuses.Statement.{statement}
 use Rattle.slate.proofs.refusing.refuses.Tie as tie
 

@@ -4,7 +4,7 @@ use borrow.Author.Needs.{needs}
 use mathlib.Core.Bool.{true}
 use Rattle.word.specs.Edition.{same}
 use Rattle.accept.proofs.Choices.{failed, passed}
-use Rattle.slate.specs.Numbers.{before}
+use Rattle.slate.specs.route.Numbers.{before}
 use Rattle.slate.proofs.Numbers.{number-before, number-full, number-none, number-other, number-own}
 use Rattle.slate.proofs.refusing.refuses_rule.Statement.{statement}
 use Rattle.slate.proofs.refusing.refuses_rule.Tie as tie

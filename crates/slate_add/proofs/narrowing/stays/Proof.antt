@@ -5,11 +5,11 @@ use borrow.Author.Needs.{needs}
 use borrow.Author.Tests.{eq-eqb, ne-eqb}
 use Rattle.accept.proofs.Choices.{failed, passed}
 use Rattle.band.specs.declared.Band.{Band}
-use Rattle.band.specs.Band.{holds}
+use Rattle.band.specs.route.Band.{holds}
 use Rattle.bits.specs.declared.Fixed.{Fixed}
-use Rattle.bits.specs.Fixed.{hasBits}
+use Rattle.bits.specs.route.Fixed.{hasBits}
 use Rattle.verdict.specs.declared.Kept.{Kept}
-use Rattle.slate_add.specs.Narrows.{staysSo}
+use Rattle.slate_add.specs.route.Narrows.{staysSo}
 use Rattle.slate_add.proofs.narrowing.stays.Statement.{statement}
 use Rattle.slate_add.proofs.narrowing.stays.Tie as tie
 

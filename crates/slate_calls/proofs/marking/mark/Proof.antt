@@ -7,11 +7,11 @@ use native.Mathlib.Omega.{arith}
 use borrow.Author.Needs.{needs}
 use lib.ListN.{set}
 use Rattle.slate.specs.declared.Head.{Head}
-use Rattle.slate.specs.Numbers.{before}
+use Rattle.slate.specs.route.Numbers.{before}
 use Rattle.slate.proofs.Holding.{waits-so}
-use Rattle.slate_calls.specs.Done.{Marks}
-use Rattle.slate_calls.specs.Done.Marks.{marked, unmarked}
-use Rattle.stepping.specs.Steps.Refused.{before-first, own-ground}
+use Rattle.slate_calls.specs.route.Done.{Marks}
+use Rattle.slate_calls.specs.route.Done.Marks.{marked, unmarked}
+use Rattle.stepping.specs.route.Steps.Refused.{before-first, own-ground}
 use Rattle.slate_calls.proofs.Marked.{beside-marked, rules-marked}
 use Rattle.slate_calls.proofs.marking.mark.Statement.{statement}
 use Rattle.slate_calls.proofs.marking.mark.Tie as tie

@@ -10,10 +10,10 @@ use Rattle.word.proofs.Editions.{widest-held}
 use Rattle.verdict.proofs.NoRules.{kept-none}
 use Rattle.slate.specs.declared.Head.{Head}
 use Rattle.noting.specs.declared.Note.{Note}
-use Rattle.slate.specs.Held.{counted, headOf}
-use Rattle.noting.specs.Note.{noteAt}
-use Rattle.slate_calls.specs.Done.{Opens}
-use Rattle.slate_calls.specs.Done.Opens.{narrow, opened, wide}
+use Rattle.slate.specs.route.Held.{counted, headOf}
+use Rattle.noting.specs.route.Note.{noteAt}
+use Rattle.slate_calls.specs.route.Done.{Opens}
+use Rattle.slate_calls.specs.route.Done.Opens.{narrow, opened, wide}
 use Rattle.slate_calls.proofs.Opened.{beside-opened}
 use Rattle.slate_calls.proofs.opening.open.Statement.{statement}
 use Rattle.slate_calls.proofs.opening.open.Tie as tie

@@ -2,11 +2,11 @@
 use mathlib.Core.Path.{sym, ap, _∙_, subst}
 use lib.ListN.{length-map, take}
 use Rattle.bits.specs.declared.Fixed.{Fixed}
-use Rattle.rows.specs.Rows.{bandIn, bandsIn, rulesIn}
-use Rattle.verdict.specs.OnBands.{Bounds}
+use Rattle.rows.specs.route.Rows.{bandIn, bandsIn, rulesIn}
+use Rattle.verdict.specs.route.OnBands.{Bounds}
 use Rattle.noting.specs.declared.Note.{Note}
-use Rattle.slate.specs.Held.{Drawn}
-use Rattle.slate.specs.Notes.{Noted}
+use Rattle.slate.specs.route.Held.{Drawn}
+use Rattle.slate.specs.route.Notes.{Noted}
 use Rattle.slate.proofs.Holding.{kept-found, swept}
 use Rattle.stepping.proofs.finding.find.Statement.{statement}
 use Rattle.stepping.proofs.finding.find.Tie as tie

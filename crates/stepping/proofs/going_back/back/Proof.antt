@@ -6,12 +6,12 @@ use native.Mathlib.Omega.{arith}
 use borrow.Author.Needs.{needs}
 use Rattle.page.specs.Page.{MARKS}
 use Rattle.noting.specs.declared.Note.{Note}
-use Rattle.noting.specs.Note.{noteAt}
-use Rattle.slate.specs.Numbers.{before}
+use Rattle.noting.specs.route.Note.{noteAt}
+use Rattle.slate.specs.route.Numbers.{before}
 use Rattle.slate.proofs.Holding.{width-so}
-use Rattle.stepping.specs.Steps.{Backs, leaves}
-use Rattle.stepping.specs.Steps.Backs.{goes-back, stays}
-use Rattle.stepping.specs.Steps.Refused.{before-first, own-ground}
+use Rattle.stepping.specs.route.Steps.{Backs, leaves}
+use Rattle.stepping.specs.route.Steps.Backs.{goes-back, stays}
+use Rattle.stepping.specs.route.Steps.Refused.{before-first, own-ground}
 use Rattle.stepping.proofs.Moved.{moved-beside}
 use Rattle.stepping.proofs.SteppedBack.{leaves-low, mark-there, one-more, sought-back}
 use Rattle.stepping.proofs.going_back.back.Statement.{statement}

@@ -3,10 +3,10 @@ use mathlib.Core.Path.{_≡_, sym, _∙_, subst}
 use Prim.Native.Nat.{_+_, _-_}
 use native.Mathlib.Omega.{arith}
 use borrow.Author.Needs.{needs}
-use Rattle.slate.specs.Numbers.{before}
-use Rattle.stepping.specs.Steps.{Forwards}
-use Rattle.stepping.specs.Steps.Forwards.{goes-on, remains}
-use Rattle.stepping.specs.Steps.Refused.{before-first, own-ground}
+use Rattle.slate.specs.route.Numbers.{before}
+use Rattle.stepping.specs.route.Steps.{Forwards}
+use Rattle.stepping.specs.route.Steps.Forwards.{goes-on, remains}
+use Rattle.stepping.specs.route.Steps.Refused.{before-first, own-ground}
 use Rattle.stepping.proofs.Moved.{moved-beside}
 use Rattle.stepping.proofs.SteppedForward.{brings-low, marks-there, sought-forward}
 use Rattle.stepping.proofs.going_forward.forward.Statement.{statement}

@@ -6,9 +6,9 @@ use Prim.Native.Nat.{ℕ, suc, _+_, _-_}
 use native.Mathlib.Omega.{arith}
 use borrow.Author.Needs.{needs}
 use Rattle.word.specs.Search.{count}
-use Rattle.bits.specs.Fixed.{hasBits}
+use Rattle.bits.specs.route.Fixed.{hasBits}
 use Rattle.tally.specs.declared.Total.{Total}
-use Rattle.tally.specs.Total.{Carries, totals, whole}
+use Rattle.tally.specs.route.Total.{Carries, totals, whole}
 use Rattle.rank.proofs.Pairs.{count-most}
 use Rattle.tally.proofs.Sums.{below-to, carries-totals, words-with, words-without, whole-totals}
 use Rattle.tally.proofs.Total.with.Statement.{statement}

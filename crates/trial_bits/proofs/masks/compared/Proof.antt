@@ -1,6 +1,6 @@
 -- `compared` is safe: what may not be sought for is left out. Assumes nothing.
 use native.Mathlib.Omega.{arith}
-use Rattle.bits.specs.Fixed.{Tidy}
+use Rattle.bits.specs.route.Fixed.{Tidy}
 use borrow.Author.Needs.{needs}
 use Rattle.trial_bits.proofs.masks.compared.Statement.{statement}
 use Rattle.trial_bits.proofs.masks.compared.Tie as tie

@@ -1,7 +1,7 @@
 -- `found` is safe: the value lies in the mask. Assumes nothing.
 use native.Mathlib.Omega.{arith}
 use Rattle.word.specs.Word.{top}
-use Rattle.bits.specs.Fixed.{Tidy}
+use Rattle.bits.specs.route.Fixed.{Tidy}
 use Rattle.bits.proofs.Bit.{and-twice}
 use borrow.Author.Needs.{needs}
 use Rattle.try_speed.proofs.look.found.Statement.{statement}

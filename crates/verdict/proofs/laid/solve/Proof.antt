@@ -14,14 +14,14 @@ use Rattle.word.specs.Search.{first, last}
 use Rattle.word.proofs.Searched.{first-is}
 use Rattle.word.proofs.Turn.{back}
 use Rattle.band.specs.declared.Band.{Band}
-use Rattle.band.specs.Band.{turnedBand}
+use Rattle.band.specs.route.Band.{turnedBand}
 use Rattle.bits.specs.declared.Fixed.{Fixed}
-use Rattle.bits.specs.Fixed.{Tidy}
+use Rattle.bits.specs.route.Fixed.{Tidy}
 use Rattle.bits.proofs.Turn.{turned-tidy}
-use Rattle.rows.specs.Bands.{allSeen, passes}
-use Rattle.rows.specs.Rows.{bandsIn}
+use Rattle.rows.specs.route.Bands.{allSeen, passes}
+use Rattle.rows.specs.route.Rows.{bandsIn}
 use Rattle.verdict.specs.Kept.{keeps, verdictOf}
-use Rattle.verdict.specs.OnBands.{keptBy}
+use Rattle.verdict.specs.route.OnBands.{keptBy}
 use Rattle.verdict.proofs.Solved.{largest-is, smallest-is}
 use Rattle.verdict.proofs.laid.solve.Statement.{statement}
 use Rattle.verdict.proofs.laid.solve.Tie as tie

@@ -1,0 +1,3 @@
+pub mod Begun
+pub mod Desk
+pub mod Statements

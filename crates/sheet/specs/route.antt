@@ -1,0 +1,4 @@
+pub mod Held
+pub mod Laid
+pub mod Shape
+pub mod Stands

@@ -1,0 +1,20 @@
+-- The record that a slate stands for. A route: what a call must answer is said of this record.
+use mathlib.Core.List.{List}
+use Prim.Native.Nat.{ℕ}
+use Rattle.rows.specs.route.Rows.{rulesIn}
+use Rattle.slate.specs.declared.Head.{Head}
+use Rattle.sheet.specs.declared.Sheet.{Sheet}
+
+unfoldable pub packed : Head → List (List ℕ) → (marks : List ℕ) → Sheet
+packed h rows marks =
+    record {
+      width = h .opening .width;
+      rules = rulesIn rows;
+      count = h .counts .count;
+      marks = marks;
+      marked = h .counts .marked;
+      kept = h .kept;
+      given = h .counts .given;
+      waiting = h .counts .waiting;
+      edition = h .opening .edition;
+    }
