@@ -26,14 +26,15 @@ use Rattle.frame.specs.declared.Frame.the-variants.{Add, Ask, Back, Forward, Ma
 use Rattle.fields.specs.Answers.{answerBytes, chainLines, linkLine, numberLine}
 use Rattle.frame.specs.Calls.{MadeCall, asks, callOf, lineCall, makes, none}
 use Rattle.fields.specs.Fields.{Line}
-use Rattle.frame.specs.Frames.{bare, byDigits, codeEdition, frameOf, numbered, ruleOf}
+use Rattle.frame.specs.route.Reading.{bare, byDigits, codeEdition, frameOf, numbered, ruleOf}
 use Rattle.frame.specs.Pages.{answerTo, pageAfter}
 use Rattle.frame.proofs.Rows.{too-short}
 use Rattle.exchange.specs.Before.{OldLine, OldLines, answerBefore, answersBefore, chainBefore, exchangeBefore, frameBefore, groundsBefore, pageBefore, refusalBefore}
 use Rattle.exchange.specs.route.Begun.{none as no-line}
 use Rattle.exchange.specs.route.Desk.{Desk, desk}
 use Rattle.exchange.specs.Exchange.{answersTo, exchange, lines}
-use Rattle.exchange.specs.route.Statements.{Finished, Talk}
+use Rattle.exchange.specs.route.Statements.{Finished}
+use Rattle.exchange.specs.Talk.{Talk}
 use Rattle.hex.specs.Text.{bytesOf}
 use Rattle.exchange.proofs.Whole.{any-cut}
 use Rattle.sheet.specs.Record.{blank}

@@ -11,7 +11,7 @@ use lib.Dec.{ltb}
 use lib.ListN.{drop, getD, length, length-append, length-set, length-take, set, take}
 use lib.Seq.{drop-cons, length-take-le, take-all, take-at, take-suc-set}
 use Rattle.frame.specs.Calls.{callOf, lineCall}
-use Rattle.frame.specs.Frames.{frameOf}
+use Rattle.frame.specs.route.Reading.{frameOf}
 use Rattle.frame.proofs.Rows.{too-long}
 use Rattle.exchange.specs.declared.Begun.{Begun}
 use Rattle.exchange.specs.route.Begun.{HELD, begins, begunLine, joined, put}

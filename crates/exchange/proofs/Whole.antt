@@ -14,14 +14,15 @@ use Rattle.page.specs.Reached.{Reached, start}
 use Rattle.fields.specs.Answers.{NEWLINE, answerBytes}
 use Rattle.frame.specs.Calls.{lineCall}
 use Rattle.fields.specs.Fields.{Line}
-use Rattle.frame.specs.Frames.{LONGEST}
+use Rattle.frame.specs.route.Reading.{LONGEST}
 use Rattle.frame.specs.Pages.{answerTo, pageAfter}
 use Rattle.fields.specs.Put.{PutAt}
 use Rattle.frame.proofs.OnPage.{page-answers, page-reached}
 use Rattle.exchange.specs.route.Begun.{HELD, begunLine, none, put}
 use Rattle.exchange.specs.route.Desk.{Desk, desk}
 use Rattle.exchange.specs.Exchange.{answersTo, exchange, inFront, lines}
-use Rattle.exchange.specs.route.Statements.{Ends, Finished, LineSaid, Takes, Talk, a-part, ends-line, goes-on, last-line, no-line, nothing, silence}
+use Rattle.exchange.specs.route.Statements.{Ends, Finished, LineSaid, Takes, ends-line, goes-on, last-line, no-line, nothing}
+use Rattle.exchange.specs.Talk.{Talk, a-part, silence}
 use Rattle.exchange.proofs.Cut.{feeds-takes}
 use Rattle.exchange.proofs.Held.{Whole, cut-call, put-held, put-whole, take-take-append}
 use Rattle.exchange.proofs.Taking.{takes-on}

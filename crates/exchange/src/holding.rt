@@ -1,6 +1,6 @@
 // A line that was begun in one part of the input and goes on in the next.
 ghost use mathlib.Core.Path.{_≡_};
-ghost use Rattle.frame.specs.Frames.{frameOf};
+ghost use Rattle.frame.specs.route.Reading.{frameOf};
 ghost use Rattle.exchange.specs.route.Begun.{begunLine, joined, none};
 use crate::Begun;
 use frame::Frame;

@@ -11,7 +11,7 @@ use Rattle.hex.specs.Hex.{allDigits, glyph, hex, isDigit, number, numberFrom, v
 use Rattle.hex.proofs.Inverse.{digits-back}
 use Rattle.fields.specs.Fields.{BYTE}
 use Rattle.frame.specs.declared.Frame.the-variants.{NoFrame}
-use Rattle.frame.specs.Frames.{bare, byDigits, frameOf}
+use Rattle.frame.specs.route.Reading.{bare, byDigits, frameOf}
 use Rattle.frame.proofs.Rows.{bare-row, no-digits}
 
 -- the line of a code below 10

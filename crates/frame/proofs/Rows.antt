@@ -14,7 +14,7 @@ use Rattle.page.specs.Page.{at-width}
 use Rattle.hex.specs.Hex.{allDigits, number}
 use Rattle.frame.specs.declared.Frame.the-variants.{Add, NoFrame, Open}
 use Rattle.fields.specs.Fields.{BYTE, WORD}
-use Rattle.frame.specs.Frames.{LONGEST, OPENING, adding, bare, byDigits, codeEdition, frameOf, numbered, ruleOf}
+use Rattle.frame.specs.route.Reading.{LONGEST, OPENING, adding, bare, byDigits, codeEdition, frameOf, numbered, ruleOf}
 use Rattle.word.proofs.Editions.{digits-held}
 
 -- an edition's codes are its own

@@ -6,7 +6,7 @@ use Rattle.chain.specs.Links.{chainRoom}
 use Rattle.page.specs.Calls.{Call, add, back, forward, mark, open-at}
 use Rattle.frame.specs.declared.Frame.{Frame}
 use Rattle.frame.specs.declared.Frame.the-variants.{Add, Ask, Back, Forward, Mark, NoFrame, Open}
-use Rattle.frame.specs.Frames.{frameOf}
+use Rattle.frame.specs.route.Reading.{frameOf}
 
 -- none, a call that is answered by its number, or asking, which gives a reply
 pub data MadeCall : Type 0 where

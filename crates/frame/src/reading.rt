@@ -3,7 +3,7 @@ ghost use mathlib.Core.Path.{_≡_};
 ghost use lib.ListN.{length};
 ghost use Prim.Native.Nat.{_+_, _≤_};
 ghost use Rattle.fields.specs.Fields.{BYTE, DIGITS};
-ghost use Rattle.frame.specs.Frames.{C1, bare, codeEdition, frameOf, numbered, ruleOf};
+ghost use Rattle.frame.specs.route.Reading.{C1, bare, codeEdition, frameOf, numbered, ruleOf};
 use crate::Frame;
 use page::Opening;
 use rule::Rule;

@@ -24,8 +24,8 @@ use Rattle.net.specs.declared.Net.{Net}
 use Rattle.net.specs.Demand.{Alike, SameAnswer, SameJoin, SameWords, refilled}
 use Rattle.net_step.specs.Named.{Named, named, placeOf, third, wordAt}
 use Rattle.net_tests.specs.Fits.{every, fits, joinAt}
-use Rattle.net.specs.Net.{refusal, turn}
-use Rattle.net.specs.route.Run.{Stop, goes, next, ran, shown, stand, start, stop, turnedDown, walked}
+use Rattle.net.specs.Net.{refusal, turn, turnedDown}
+use Rattle.net.specs.route.Run.{Stop, goes, next, ran, shown, stand, start, stop, walked}
 use Rattle.net_step.specs.Step.{after, cutAll, cutAt, emptied, left, noWord, results, stepped, unchanged}
 use Rattle.net.proofs.Accepted.{accepted}
 use Rattle.net.proofs.Going.{goes-empty, goes-next, goes-spent, goes-steady}

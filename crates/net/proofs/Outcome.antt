@@ -20,8 +20,8 @@ use Rattle.net.specs.declared.Net.{Net}
 use Rattle.net.specs.Demand.{AllIn, Solution, Still, onward, resumed}
 use Rattle.net_step.specs.Named.{Named, wordAt}
 use Rattle.net_tests.specs.Fits.{joinAt}
-use Rattle.net.specs.Net.{refusal, turn}
-use Rattle.net.specs.route.Run.{Stand, Stop, goes, next, number, ran, shown, start, turnedDown, walked}
+use Rattle.net.specs.Net.{number, refusal, turn, turnedDown}
+use Rattle.net.specs.route.Run.{Stand, Stop, goes, next, ran, shown, start, walked}
 use Rattle.net_step.specs.Step.{after, results, stepped}
 use Rattle.net.proofs.Accepted.{accepted}
 use Rattle.net.proofs.Cuts.{either-left, shrinks, stays}

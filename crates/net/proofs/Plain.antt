@@ -14,9 +14,9 @@ use Rattle.net.specs.declared.Ended.{Ended}
 use Rattle.net.specs.declared.Ended.the-variants.{Empty, Refused, Spent, Steady}
 use Rattle.net_step.specs.declared.Join.{Join}
 use Rattle.net.specs.declared.Net.{Net}
-use Rattle.net.specs.Net.{refusal, turn}
+use Rattle.net.specs.Net.{given, number, refusal, turn}
 use Rattle.net.specs.Plain.{QuietFor, Reason, Stops, emptyAt, order, wordsAfter}
-use Rattle.net.specs.route.Run.{Stand, given, next, number, ran, shown, start, stop, walked}
+use Rattle.net.specs.route.Run.{Stand, next, ran, shown, start, stop, walked}
 use Rattle.net_step.specs.Step.{emptied, left, stepped, unchanged}
 use Rattle.net.proofs.Outcome.{number-is}
 use Rattle.net.proofs.Reached.{reach, told}

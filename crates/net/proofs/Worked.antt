@@ -11,8 +11,8 @@ use Rattle.extent.specs.Span.{gives, isFound, largest, smallest, some, span, wo
 use Rattle.net.specs.Cases.{Case, cases}
 use Rattle.net_tests.specs.Fits.{every, fits}
 use Rattle.net_step.specs.Named.{named, placeOf, third}
-use Rattle.net.specs.Net.{refusal, turn}
-use Rattle.net.specs.route.Run.{goes, next, ran, shown, start, steady, turnedDown, walked}
+use Rattle.net.specs.Net.{refusal, turn, turnedDown}
+use Rattle.net.specs.route.Run.{goes, next, ran, shown, start, steady, walked}
 use Rattle.net_step.specs.Step.{after, cutAll, cutAt, emptied, left, noWord, results, same, stepped, unchanged}
 
 pub worked : map (λ (c : Case). ran (c .net) (c .pay)) cases ≡ map (λ (c : Case). c .expected) cases

@@ -3,9 +3,9 @@
 ghost use mathlib.Core.Path.{_≡_};
 ghost use mathlib.Core.Bool.{cond};
 ghost use Prim.Native.Nat.{suc, _<_};
-ghost use Rattle.net.specs.Net.{AllNamed};
+ghost use Rattle.net.specs.Net.{AllNamed, given};
 ghost use Rattle.net_tests.specs.Fits.{JOINS};
-ghost use Rattle.net.specs.route.Run.{given, ran, walked};
+ghost use Rattle.net.specs.route.Run.{ran, walked};
 
 mod refusal;
 

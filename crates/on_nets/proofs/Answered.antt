@@ -5,7 +5,8 @@ use mathlib.Core.List.{List, [], _∷_, map}
 use Prim.Native.Nat.{ℕ}
 use borrow.Author.Tests.{eq-eqb, ne-eqb}
 use Rattle.net.specs.declared.Answer.{Answer}
-use Rattle.net.specs.route.Run.{number, ran}
+use Rattle.net.specs.route.Run.{ran}
+use Rattle.net.specs.Net.{number}
 use Rattle.on_nets.specs.Nets.{Ran, laidOver, netIn, rowOf, told, wordRows}
 
 module _ (w : ℕ) (ws js : List (List ℕ)) (pay : ℕ) (a : Answer) (e : a ≡ ran (netIn w ws js) pay) (t k : ℕ) (p : t ≡ told (a .ended)) (q : k ≡ number (a .ended)) where

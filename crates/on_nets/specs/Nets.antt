@@ -15,7 +15,8 @@ use Rattle.net.specs.declared.Answer.{Answer}
 use Rattle.net.specs.declared.Ended.{Ended}
 use Rattle.net.specs.declared.Ended.the-variants.{Empty, Refused, Spent, Steady}
 use Rattle.net.specs.declared.Net.{Net}
-use Rattle.net.specs.route.Run.{number, ran}
+use Rattle.net.specs.route.Run.{ran}
+use Rattle.net.specs.Net.{number}
 use Rattle.on_words.specs.Joins.{intervalIn, opOf}
 
 -- the join of a row: what joins, and the places of h, x and y

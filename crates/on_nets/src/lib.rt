@@ -1,6 +1,6 @@
 // A net of words, in numbers: lent lists of intervals and of joins, of any length.
 ghost use mathlib.Core.Path.{_≡_};
-ghost use Rattle.net.specs.route.Run.{number};
+ghost use Rattle.net.specs.Net.{number};
 ghost use Rattle.on_nets.specs.Nets.{Ran, told};
 
 mod reading;

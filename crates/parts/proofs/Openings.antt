@@ -16,7 +16,8 @@ use Rattle.frame.specs.declared.Frame.{Frame}
 use Rattle.frame.specs.declared.Frame.the-variants.{Add, Ask, Back, Forward, Mark, NoFrame, Open}
 use Rattle.frame.specs.Calls.{callOf, lineCall, makes}
 use Rattle.fields.specs.Fields.{BYTE, InDigits, digitsIn}
-use Rattle.frame.specs.Frames.{IsFrame, fieldsOf, frameOf}
+use Rattle.frame.specs.Frames.{IsFrame, fieldsOf}
+use Rattle.frame.specs.route.Reading.{frameOf}
 use Rattle.frame.proofs.ReadBack.{read-written}
 use Rattle.hex.specs.Text.{bytesOf}
 use Rattle.parts.specs.Parts.{AcceptedOpening, OpeningDigits}

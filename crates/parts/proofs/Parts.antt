@@ -13,7 +13,7 @@ use Rattle.page.proofs.Refusals.{after-accepted}
 use Rattle.hex.specs.Hex.{allDigits, number, numberFrom}
 use Rattle.fields.specs.Answers.{NEWLINE, answerBytes, numberLine}
 use Rattle.frame.specs.Calls.{callOf, lineCall}
-use Rattle.frame.specs.Frames.{bare, byDigits, codeEdition, frameOf, numbered}
+use Rattle.frame.specs.route.Reading.{bare, byDigits, codeEdition, frameOf, numbered}
 use Rattle.frame.specs.Pages.{answerTo, pageAfter}
 use Rattle.exchange.specs.Exchange.{answersTo, exchange, inFront, lines}
 use Rattle.exchange.specs.Lines.{lineOf}

@@ -5,7 +5,7 @@ use mathlib.Core.List.{List, [], _∷_}
 use Prim.Native.Nat.{ℕ, suc}
 use lib.Dec.{ltb}
 use lib.ListN.{replicate, set, take}
-use Rattle.frame.specs.Frames.{LONGEST}
+use Rattle.frame.specs.route.Reading.{LONGEST}
 use Rattle.exchange.specs.declared.Begun.{Begun}
 
 -- one byte more than a frame can have shows that a line is none

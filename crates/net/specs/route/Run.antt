@@ -6,10 +6,10 @@ use lib.Dec.{eqb, leb}
 use Rattle.interval.specs.declared.Interval.{Interval}
 use Rattle.net.specs.declared.Answer.{Answer}
 use Rattle.net.specs.declared.Ended.{Ended}
-use Rattle.net.specs.declared.Ended.the-variants.{Empty, Refused, Spent, Steady}
+use Rattle.net.specs.declared.Ended.the-variants.{Empty, Spent, Steady}
 use Rattle.net_step.specs.declared.Join.{Join}
 use Rattle.net.specs.declared.Net.{Net}
-use Rattle.net.specs.Net.{refusal, turn}
+use Rattle.net.specs.Net.{refusal, turn, given, turnedDown}
 use Rattle.net_step.specs.Step.{stepped}
 
 -- where a run stands: the words, the steps used, how many steps in a row, up to here, changed nothing, and whether the last one found
@@ -50,9 +50,6 @@ unfoldable pub goes : (w : ℕ) (js : List Join) (m : ℕ) → ℕ → Stand →
 goes w js m zero s = cond (s .empty) (stop Empty s) (cond (steady m s) (stop Steady s) (stop Spent s))
 goes w js m (suc k) s = cond (s .empty) (stop Empty s) (cond (steady m s) (stop Steady s) (goes w js m k (next w js m s)))
 
-abbrev pub given : Ended → (steps : ℕ) → List Interval → Answer
-given e steps ws = record { ended = e; steps = steps; words = ws }
-
 -- "The answer has the steps used, ... and the intervals."
 unfoldable pub shown : Stop → Answer
 shown o = given (o .how) (o .at .steps) (o .at .words)
@@ -60,16 +57,5 @@ shown o = given (o .how) (o .at .steps) (o .at .words)
 unfoldable pub walked : Net → ℕ → Answer
 walked net pay = shown (goes (net .width) (net .joins) (net .joined) pay (start (net .words)))
 
--- "A refusal gives 0 steps and the intervals as they came."
-unfoldable pub turnedDown : Net → ℕ → Answer
-turnedDown net n = given (Refused n) 0 (net .words)
-
 unfoldable pub ran : Net → ℕ → Answer
 ran net pay = cond (eqb (refusal net) 0) (walked net pay) (turnedDown net (refusal net))
-
--- the paper's number for each way to end: that of the refusal, and 0 where nothing is refused
-unfoldable pub number : Ended → ℕ
-number (Refused n) = n
-number Empty = 0
-number Steady = 0
-number Spent = 0

@@ -1,5 +1,5 @@
 -- `refusal_of` meets its contract, by cases. Assumes nothing.
-use Rattle.net.specs.route.Run.{number}
+use Rattle.net.specs.Net.{number}
 use borrow.Author.Needs.{needs}
 use Rattle.on_nets.proofs.refusal_of.Statement.{statement}
 use Rattle.on_nets.proofs.refusal_of.Tie as tie

@@ -3,7 +3,7 @@
 use mathlib.Core.Path.{sym, ap, _∙_}
 use borrow.Author.Needs.{needs}
 use lib.ListN.{length-map}
-use Rattle.frame.specs.Frames.{frameOf}
+use Rattle.frame.specs.route.Reading.{frameOf}
 use Rattle.exchange.specs.declared.Begun.{Begun}
 use Rattle.exchange.specs.route.Begun.{begunLine}
 use Rattle.exchange.proofs.Held.{first-frame}

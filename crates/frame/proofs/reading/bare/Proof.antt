@@ -1,6 +1,6 @@
 -- `bare` meets its contract: the tests pick the row. Assumes nothing.
 use borrow.Author.Tests.{ne-eqb}
-use Rattle.frame.specs.Frames.{bare}
+use Rattle.frame.specs.route.Reading.{bare}
 use Rattle.frame.proofs.reading.bare.Statement.{statement}
 use Rattle.frame.proofs.reading.bare.Tie as tie
 

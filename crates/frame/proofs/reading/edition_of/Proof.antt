@@ -5,7 +5,7 @@ use borrow.Author.Tests.{eq-eqb, ne-eqb}
 use Rattle.word.specs.declared.Edition.the-variants.{New}
 use Rattle.word.specs.declared.Terms.{Terms}
 use Rattle.word.specs.Edition.{terms}
-use Rattle.frame.specs.Frames.{codeEdition}
+use Rattle.frame.specs.route.Reading.{codeEdition}
 use Rattle.frame.proofs.reading.edition_of.Statement.{statement}
 use Rattle.frame.proofs.reading.edition_of.Tie as tie
 

@@ -7,7 +7,7 @@ use Rattle.word.specs.declared.Terms.{Terms}
 use Rattle.word.specs.Edition.{terms}
 use Rattle.page.specs.Page.{at-width}
 use Rattle.frame.specs.declared.Frame.the-variants.{Add, Open}
-use Rattle.frame.specs.Frames.{C1, adding, ruleOf}
+use Rattle.frame.specs.route.Reading.{C1, adding, ruleOf}
 use Rattle.word.proofs.Editions.{digits-held}
 use Rattle.frame.proofs.Rows.{add-row, no-add, no-open, no-row, open-row}
 use Rattle.frame.proofs.reading.numbered.Statement.{statement}

@@ -1,6 +1,6 @@
 -- `rule_of` meets its contract: each field is the number of its digits. Assumes nothing.
 use borrow.Author.Needs.{needs}
-use Rattle.frame.specs.Frames.{ruleOf}
+use Rattle.frame.specs.route.Reading.{ruleOf}
 use Rattle.frame.proofs.reading.rule_of.Statement.{statement}
 use Rattle.frame.proofs.reading.rule_of.Tie as tie
 

@@ -2,7 +2,8 @@
 use mathlib.Core.Path.{sym, _∙_}
 use borrow.Author.Needs.{needs}
 use borrow.Author.Tests.{eq-eqb, ne-eqb}
-use Rattle.net.specs.route.Run.{ran, turnedDown}
+use Rattle.net.specs.route.Run.{ran}
+use Rattle.net.specs.Net.{turnedDown}
 use Rattle.net.proofs.Accepted.{accepted, all-named}
 use Rattle.net.proofs.Net.run.Statement.{statement}
 use Rattle.net.proofs.Net.run.Tie as tie
