@@ -1,14 +1,15 @@
 -- What is drawn of a record that is laid out: bands and bits pass just the words that fit the rules, and those of one rule alone just
 -- the words that meet it. Assumes nothing.
 use mathlib.Core.Path.{_≡_, refl, sym, ap, ap₂, _∙_, subst}
-use mathlib.Core.Bool.{Bool, true, false, not, _&&_, cond}
+use mathlib.Core.Bool.{Bool, true, false, false≢true, not, _&&_, cond}
 use mathlib.Core.List.{List, [], _∷_, map}
 use Prim.Native.Nat.{ℕ, _≤_, _<_}
 use native.Mathlib.Omega.{arith}
-use borrow.Author.Tests.{eq-eqb, le-ltb, lt-ltb, ne-eqb}
+use borrow.Author.Tests.{eq-eqb, ltb-true, not-true}
 use lib.Dec.{eqb, ltb}
 use lib.ListN.{length, length-map, length-set, set, take}
 use Rattle.word.specs.Word.{top}
+use Rattle.word.proofs.Tests.{both-pass}
 use Rattle.rule.specs.declared.Rule.{Rule}
 use Rattle.rule.specs.Meaning.{AllLawful, Lawful, RULES, fits, meets}
 use Rattle.band.specs.declared.Band.{Band}
@@ -95,10 +96,19 @@ module _ {h : Head} {rows : List (List ℕ)} {marks : List ℕ} (held : Held h r
   abbrev own : List Rule
   own = take (h .counts .count) (rulesIn rows)
 
-  drawn-as : {a b d : Bool} → h .stands ≡ a → eqb w 0 ≡ b → ltb c (columns w) ≡ d → (a && (not b && d)) ≡ drawable s c
+  -- what the code tests
+  abbrev test : Bool
+  test = h .stands && (not (eqb w 0) && ltb c (columns w))
+
+  pub drawn-so : test ≡ drawable s c
   unfolding drawable packed
-  drawn-as p q r =
-      let told = packed-told h rows marks ∙ sym (held .tested) ∙ p in sym (λ k. told k && (not (q k) && r k))
+  drawn-so = sym (ap (λ (b : Bool). b && (not (eqb w 0) && ltb c (columns w))) (packed-told h rows marks ∙ sym (held .tested)))
+
+  pub of-drawn : test ≡ true → (h .stands ≡ true) × (w ≡ 0 → ⊥) × (c < columns w)
+  of-drawn e =
+      let (a, r) = both-pass (h .stands) _ e in
+      let (b, d) = both-pass (not (eqb w 0)) _ r in
+      (a, (λ z. false≢true (sym (not-true _ b) ∙ eq-eqb w 0 z)), ltb-true c (columns w) d)
 
   module _ (v : Bool) (d : v ≡ drawable s c) where
     pub all-as : cond v (columnCell w c (fits w own)) Nowhere ≡ allCell s c
@@ -108,16 +118,3 @@ module _ {h : Head} {rows : List (List ℕ)} {marks : List ℕ} (held : Held h r
     pub rule-as : (i : ℕ) {u : Bool} → ltb i (h .counts .count) ≡ u → cond (v && u) (columnCell w c (meets w (nth own i))) Nowhere ≡ ruleCell s i c
     unfolding ruleCell packed
     rule-as i e = ap₂ (λ (a b : Bool). cond (a && b) (columnCell w c (meets w (nth own i))) Nowhere) d (sym e)
-
-  pub no-sheet : h .stands ≡ false → false ≡ drawable s c
-  no-sheet e = drawn-as e refl refl
-
-  pub blank : h .stands ≡ true → w ≡ 0 → false ≡ drawable s c
-  blank e z = drawn-as e (eq-eqb w 0 z) refl
-
-  module _ (e : h .stands ≡ true) (z : w ≡ 0 → ⊥) where
-    pub no-column : columns w ≤ c → false ≡ drawable s c
-    no-column n = drawn-as e (ne-eqb w 0 z) (le-ltb c (columns w) n)
-
-    pub a-column : c < columns w → true ≡ drawable s c
-    a-column n = drawn-as e (ne-eqb w 0 z) (lt-ltb c (columns w) n)

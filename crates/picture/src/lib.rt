@@ -1,9 +1,12 @@
 // A picture of a sheet: the line of words in at most 64 columns, and how each goes by one rule, or by all in force.
 ghost use mathlib.Core.Path.{_≡_};
+ghost use mathlib.Core.Bool.{true, not, _&&_};
 ghost use Prim.Native.Nat.{_≤_};
+ghost use lib.Dec.{eqb, ltb};
 ghost use Rattle.word.specs.Word.{IsWidth, top};
 ghost use Rattle.rule.specs.Meaning.{Lawful, meets};
 ghost use Rattle.shade.specs.Cell.{cellOf};
+ghost use Rattle.column.specs.Column.{columns};
 ghost use Rattle.picture.specs.Picture.{allCell, ruleCell};
 use band::Band;
 use band::Run;
@@ -25,16 +28,10 @@ pub fn all_at(sheet: Sheet, column: u64) -> Cell
     let bits = head.opening.width;
     let count = head.counts.count;
     let fixed = head.fixed;
-    if !head.stands {
-        return Cell::Nowhere;
-    }
-    if bits == 0 {
+    if !is_drawn(head.stands, bits, column) {
         return Cell::Nowhere;
     }
     let width = Width { bits };
-    if column::count(width) <= column {
-        return Cell::Nowhere;
-    }
     let words = column::words(width, column);
     let force = InForce {
         count,
@@ -53,22 +50,30 @@ pub fn rule_at(sheet: Sheet, number: usize, column: u64) -> Cell
     let head = sheet::laid::lay_out(sheet, &mut rows, &mut marks);
     let bits = head.opening.width;
     let in_force = head.counts.count;
-    if !head.stands {
-        return Cell::Nowhere;
-    }
-    if bits == 0 {
-        return Cell::Nowhere;
-    }
-    let width = Width { bits };
-    if column::count(width) <= column {
+    if !is_drawn(head.stands, bits, column) {
         return Cell::Nowhere;
     }
     if in_force <= number {
         return Cell::Nowhere;
     }
+    let width = Width { bits };
     let words = column::words(width, column);
     let rule = rows::rule_at(&rows, number);
     alone(rule, width, words.from, words.to)
+}
+
+// Whether there is a sheet that is not blank, and such a column.
+fn is_drawn(stands: bool, bits: u64, column: u64) -> bool
+    requires { ⌜ (stands ≡ true → (bits ≡ 0 → ⊥) → IsWidth bits) ⌝ }
+    ensures { λ r. ⌜ r ≡ (stands && (not (eqb bits 0) && ltb column (columns bits))) ⌝ }
+{
+    if !stands {
+        return false;
+    }
+    if bits == 0 {
+        return false;
+    }
+    column < column::count(Width { bits })
 }
 
 // The words from one to another by a rule alone.

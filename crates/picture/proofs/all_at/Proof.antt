@@ -1,6 +1,6 @@
 -- `all_at` meets its contract: what is drawn of the record as it is laid out is drawn of the record. Assumes nothing.
-use mathlib.Core.Path.{_≡_, ap, _∙_, subst}
-use Prim.Native.Nat.{ℕ, _≤_}
+use mathlib.Core.Path.{_≡_, sym, ap, _∙_, subst}
+use Prim.Native.Nat.{ℕ, _≤_, _<_}
 use mathlib.Core.Bool.{true, false}
 use native.Mathlib.Omega.{arith}
 use borrow.Author.Tests.{not-false, not-true}
@@ -15,10 +15,10 @@ use Rattle.sheet.proofs.ByValue.{empty-room}
 use Rattle.checker.proofs.Held.{lie-so, own-rules, tidy-so, width-so}
 use Rattle.shade.specs.declared.Cell.{Cell}
 use Rattle.shade.specs.Cell.{cellOf}
-use Rattle.column.specs.Column.{wordsOf}
-use Rattle.picture.specs.Picture.{allCell, columnCell}
+use Rattle.column.specs.Column.{columns, wordsOf}
+use Rattle.picture.specs.Picture.{allCell, columnCell, drawable}
 use Rattle.column.proofs.Columns.{column-words}
-use Rattle.picture.proofs.Drawn.{a-column, all-as, blank, by-fits, no-column, no-sheet}
+use Rattle.picture.proofs.Drawn.{all-as, by-fits, drawn-so, of-drawn}
 use Rattle.picture.proofs.all_at.Statement.{statement}
 use Rattle.picture.proofs.all_at.Tie as tie
 
@@ -35,53 +35,45 @@ right o r e = subst (λ (s : Sheet). r ≡ allCell s (column o)) (o .lay-out .en
 lay-out-requires : tie.Need-lay-out-requires
 lay-out-requires c κs = empty-room
 
+is-drawn-requires : tie.Need-is-drawn-requires
+is-drawn-requires c κs = width-so (c .lay-out .ensures .1)
+
+-- the test, as it is defined
+told : (a : tie.After-is-drawn) → let o = a .before in a .is-drawn .result ≡ drawable (sheet-of o) (column o)
+told a = let o = a .before in a .is-drawn .ensures ∙ drawn-so (o .lay-out .ensures .1) (column o)
+
 returns : tie.Need-returns
 returns c =
-    let o = c .before .before in
-    let h = o .lay-out .ensures .1 in
-    right o _ (all-as h (column o) false (no-sheet h (column o) (not-true _ (c .if1 .taken))))
+    let a = c .before in
+    let o = a .before in
+    right o _ (all-as (o .lay-out .ensures .1) (column o) false (sym (not-true _ (c .if1 .taken)) ∙ told a))
 
-returns-2 : tie.Need-returns-2
-returns-2 c =
-    let o = c .before .before .before in
-    let h = o .lay-out .ensures .1 in
-    right o _ (all-as h (column o) false (blank h (column o) (not-false _ (c .before .if1 .left)) (c .if2 .taken)))
-
-count-requires : tie.Need-count-requires
-count-requires c κs =
-    let o = c .before .before .before in width-so (o .lay-out .ensures .1) (not-false _ (c .before .if1 .left)) (c .if2 .left)
-
-returns-3 : tie.Need-returns-3
-returns-3 c =
-    let n = c .before in
-    let e = n .before in
-    let o = e .before .before .before in
-    let h = o .lay-out .ensures .1 in
-    right o _ (all-as h (column o) false (no-column h (column o) (not-false _ (e .before .if1 .left)) (e .if2 .left) (omega (arith, n .count .ensures, c .if3 .taken))))
+-- what the test shows
+drawn : (e : tie.Else1) → let o = e .before .before in let h = o .lay-out .result in
+    (h .stands ≡ true) × (h .opening .width ≡ 0 → ⊥) × (column o < columns (h .opening .width))
+drawn e =
+    let o = e .before .before in
+    of-drawn (o .lay-out .ensures .1) (column o) (sym (e .before .is-drawn .ensures) ∙ not-false _ (e .if1 .left))
 
 words-requires : tie.Need-words-requires
 words-requires c κs =
-    let n = c .before in
-    let e = n .before in
-    let o = e .before .before .before in
-    (width-so (o .lay-out .ensures .1) (not-false _ (e .before .if1 .left)) (e .if2 .left), omega (arith, n .count .ensures, c .if3 .left))
+    let o = c .before .before in
+    let d = drawn c in
+    (width-so (o .lay-out .ensures .1) (d .0) (d .1), d .2)
 
 -- the words of the column
 module _ (d : tie.After-words) where
-  abbrev found : tie.Else3
+  abbrev found : tie.Else1
   found = d .before
 
-  abbrev else2 : tie.Else2
-  else2 = found .before .before
-
   abbrev laid : tie.After-lay-out
-  laid = else2 .before .before .before
+  laid = found .before .before
 
   abbrev bits : ℕ
   bits = laid .lay-out .result .opening .width
 
   ends : (wordsOf bits (column laid) .from ≤ wordsOf bits (column laid) .to) × (wordsOf bits (column laid) .to ≤ top bits)
-  ends = column-words bits (column laid) (omega (arith, found .before .count .ensures, found .if3 .left))
+  ends = column-words bits (column laid) (drawn found .2)
 
   from-is : d .words .result .from ≡ wordsOf bits (column laid) .from
   from-is = ap (λ (r : Run). r .from) (d .words .ensures)
@@ -93,34 +85,32 @@ stretch-requires : tie.Need-stretch-requires
 stretch-requires c κs =
     let d = c .before in
     let h = laid d .lay-out .ensures .1 in
-    let s = not-false _ (else2 d .before .if1 .left) in
-    let z = else2 d .if2 .left in
+    let s = drawn (found d) .0 in
+    let z = drawn (found d) .1 in
     (width-so h s z, (lie-so h s z, (tidy-so h s z, omega (arith, ends d, from-is d, to-is d), omega (arith, ends d, to-is d))))
 
-returns-4 : tie.Need-returns-4
+returns-2 : tie.Need-returns-2
 unfolding columnCell
-returns-4 c =
+returns-2 c =
     let d = c .before .before in
     let o = laid d in
     let h = o .lay-out .ensures .1 in
-    let s = not-false _ (else2 d .before .if1 .left) in
-    let z = else2 d .if2 .left in
+    let s = drawn (found d) .0 in
+    let z = drawn (found d) .1 in
     let rs = take (o .lay-out .result .counts .count) (rulesIn (o .lay-out .last .1 .0)) in
     right o _
     (c .stretch .ensures
     ∙ by-fits (bits d) (width-so h s z .low) _ _ rs (own-rules h s z) (d .words .result .from) (d .words .result .to) (omega (arith, ends d, to-is d))
     ∙ ap (λ (r : Run). cellOf (fits (bits d) rs) (r .from) (r .to)) (d .words .ensures)
-    ∙ all-as h (column o) true (a-column h (column o) s z (omega (arith, found d .before .count .ensures, found d .if3 .left))))
+    ∙ all-as h (column o) true (sym (not-false _ (found d .if1 .left)) ∙ told (found d .before)))
 
 pub all-at-spec : {M : Type 1} → statement M
 all-at-spec =
     tie.close
     (tie.spec
     lay-out-requires
+    is-drawn-requires
     returns
-    returns-2
-    count-requires
-    returns-3
     words-requires
     stretch-requires
-    returns-4)
+    returns-2)

@@ -20,10 +20,10 @@ use Rattle.sheet.proofs.ByValue.{empty-room}
 use Rattle.checker.proofs.Held.{lie-so, own-rules, width-so}
 use Rattle.shade.specs.declared.Cell.{Cell}
 use Rattle.shade.specs.Cell.{cellOf}
-use Rattle.column.specs.Column.{wordsOf}
-use Rattle.picture.specs.Picture.{columnCell, ruleCell}
+use Rattle.column.specs.Column.{columns, wordsOf}
+use Rattle.picture.specs.Picture.{columnCell, drawable, ruleCell}
 use Rattle.column.proofs.Columns.{column-words}
-use Rattle.picture.proofs.Drawn.{a-column, blank, no-column, no-sheet, rule-as}
+use Rattle.picture.proofs.Drawn.{drawn-so, of-drawn, rule-as}
 use Rattle.picture.proofs.rule_at.Statement.{statement}
 use Rattle.picture.proofs.rule_at.Tie as tie
 
@@ -43,58 +43,49 @@ right o r e = subst (λ (s : Sheet). r ≡ ruleCell s (number o) (column o)) (o 
 lay-out-requires : tie.Need-lay-out-requires
 lay-out-requires c κs = empty-room
 
+is-drawn-requires : tie.Need-is-drawn-requires
+is-drawn-requires c κs = width-so (c .lay-out .ensures .1)
+
+-- the test, as it is defined
+told : (a : tie.After-is-drawn) → let o = a .before in a .is-drawn .result ≡ drawable (sheet-of o) (column o)
+told a = let o = a .before in a .is-drawn .ensures ∙ drawn-so (o .lay-out .ensures .1) (column o)
+
 returns : tie.Need-returns
 returns c =
-    let o = c .before .before in
-    let h = o .lay-out .ensures .1 in
-    right o _ (rule-as h (column o) false (no-sheet h (column o) (not-true _ (c .if1 .taken))) (number o) refl)
+    let a = c .before in
+    let o = a .before in
+    right o _ (rule-as (o .lay-out .ensures .1) (column o) false (sym (not-true _ (c .if1 .taken)) ∙ told a) (number o) refl)
+
+-- what the test shows
+drawn : (e : tie.Else1) → let o = e .before .before in let h = o .lay-out .result in
+    (h .stands ≡ true) × (h .opening .width ≡ 0 → ⊥) × (column o < columns (h .opening .width))
+drawn e =
+    let o = e .before .before in
+    of-drawn (o .lay-out .ensures .1) (column o) (sym (e .before .is-drawn .ensures) ∙ not-false _ (e .if1 .left))
+
+drawn-true : (e : tie.Else1) → let o = e .before .before in true ≡ drawable (sheet-of o) (column o)
+drawn-true e = sym (not-false _ (e .if1 .left)) ∙ told (e .before)
 
 returns-2 : tie.Need-returns-2
 returns-2 c =
-    let o = c .before .before .before in
-    let h = o .lay-out .ensures .1 in
-    right o _ (rule-as h (column o) false (blank h (column o) (not-false _ (c .before .if1 .left)) (c .if2 .taken)) (number o) refl)
-
-count-requires : tie.Need-count-requires
-count-requires c κs =
-    let o = c .before .before .before in width-so (o .lay-out .ensures .1) (not-false _ (c .before .if1 .left)) (c .if2 .left)
-
-returns-3 : tie.Need-returns-3
-returns-3 c =
-    let n = c .before in
-    let e = n .before in
-    let o = e .before .before .before in
-    let h = o .lay-out .ensures .1 in
-    right o _ (rule-as h (column o) false (no-column h (column o) (not-false _ (e .before .if1 .left)) (e .if2 .left) (omega (arith, n .count .ensures, c .if3 .taken))) (number o) refl)
-
-returns-4 : tie.Need-returns-4
-returns-4 c =
-    let f = c .before in
-    let n = f .before in
-    let e = n .before in
-    let o = e .before .before .before in
-    let h = o .lay-out .ensures .1 in
+    let e = c .before in
+    let o = e .before .before in
     right o _
-    (rule-as h (column o) true (a-column h (column o) (not-false _ (e .before .if1 .left)) (e .if2 .left) (omega (arith, n .count .ensures, f .if3 .left))) (number o)
-    (le-ltb (number o) (o .lay-out .result .counts .count) (omega (arith, c .if4 .taken))))
+    (rule-as (o .lay-out .ensures .1) (column o) true (drawn-true e) (number o)
+    (le-ltb (number o) (o .lay-out .result .counts .count) (omega (arith, c .if2 .taken))))
 
 words-requires : tie.Need-words-requires
 words-requires c κs =
-    let n = c .before .before in
-    let e = n .before in
-    let o = e .before .before .before in
-    (width-so (o .lay-out .ensures .1) (not-false _ (e .before .if1 .left)) (e .if2 .left), omega (arith, n .count .ensures, c .before .if3 .left))
+    let d = drawn (c .before) in
+    (width-so (c .before .before .before .lay-out .ensures .1) (d .0) (d .1), d .2)
 
 -- the words of the column, and the rule at its place
 module _ (d : tie.After-words) where
-  abbrev found : tie.Else3
+  abbrev found : tie.Else1
   found = d .before .before
 
-  abbrev else2 : tie.Else2
-  else2 = found .before .before
-
   abbrev laid : tie.After-lay-out
-  laid = else2 .before .before .before
+  laid = found .before .before
 
   abbrev bits : ℕ
   bits = laid .lay-out .result .opening .width
@@ -103,7 +94,7 @@ module _ (d : tie.After-words) where
   own = take (laid .lay-out .result .counts .count) (rulesIn (laid .lay-out .last .1 .0))
 
   ends : (wordsOf bits (column laid) .from ≤ wordsOf bits (column laid) .to) × (wordsOf bits (column laid) .to ≤ top bits)
-  ends = column-words bits (column laid) (omega (arith, found .before .count .ensures, found .if3 .left))
+  ends = column-words bits (column laid) (drawn found .2)
 
   from-is : d .words .result .from ≡ wordsOf bits (column laid) .from
   from-is = ap (λ (r : Run). r .from) (d .words .ensures)
@@ -112,24 +103,24 @@ module _ (d : tie.After-words) where
   to-is = ap (λ (r : Run). r .to) (d .words .ensures)
 
   there : number laid < laid .lay-out .result .counts .count
-  there = omega (arith, d .before .if4 .left)
+  there = omega (arith, d .before .if2 .left)
 
   count-is : length own ≡ laid .lay-out .result .counts .count
   count-is =
       let h = laid .lay-out .ensures .1 in
-      let l = lie-so h (not-false _ (else2 .before .if1 .left)) (else2 .if2 .left) in
+      let l = lie-so h (drawn found .0) (drawn found .1) in
       length-take-le _ (rulesIn (laid .lay-out .last .1 .0)) (omega (arith, l .count, h .room .rows-places, length-map (laid .lay-out .last .1 .0) ruleIn))
 
   lawful : Lawful bits (nth own (number laid))
   lawful =
       let h = laid .lay-out .ensures .1 in
-      lawful-at bits own (number laid) (omega (arith, count-is, there)) (own-rules h (not-false _ (else2 .before .if1 .left)) (else2 .if2 .left) .0)
+      lawful-at bits own (number laid) (omega (arith, count-is, there)) (own-rules h (drawn found .0) (drawn found .1) .0)
 
 rule-at-requires : tie.Need-rule-at-requires
 rule-at-requires c κs =
     let d = c .before in
     let h = laid d .lay-out .ensures .1 in
-    omega (arith, there d, lie-so h (not-false _ (else2 d .before .if1 .left)) (else2 d .if2 .left) .count)
+    omega (arith, there d, lie-so h (drawn (found d) .0) (drawn (found d) .1) .count)
 
 -- the rule that is read
 read : (a : tie.After-rule-at) → let d = a .before .before in a .rule-at .result ≡ nth (own d) (number (laid d))
@@ -141,11 +132,11 @@ alone-requires : tie.Need-alone-requires
 alone-requires c κs =
     let d = c .before .before in
     let h = laid d .lay-out .ensures .1 in
-    (width-so h (not-false _ (else2 d .before .if1 .left)) (else2 d .if2 .left), (subst (Lawful (bits d)) (sym (read c)) (lawful d), omega (arith, ends d, from-is d, to-is d), omega (arith, ends d, to-is d)))
+    (width-so h (drawn (found d) .0) (drawn (found d) .1), (subst (Lawful (bits d)) (sym (read c)) (lawful d), omega (arith, ends d, from-is d, to-is d), omega (arith, ends d, to-is d)))
 
-returns-5 : tie.Need-returns-5
+returns-3 : tie.Need-returns-3
 unfolding columnCell
-returns-5 c =
+returns-3 c =
     let a = c .before in
     let d = a .before .before in
     let o = laid d in
@@ -154,7 +145,7 @@ returns-5 c =
     (c .alone .ensures
     ∙ ap (λ (r : Rule). cellOf (meets (bits d) r) (d .words .result .from) (d .words .result .to)) (read a)
     ∙ ap (λ (r : Run). cellOf (meets (bits d) (nth (own d) (number o))) (r .from) (r .to)) (d .words .ensures)
-    ∙ rule-as h (column o) true (a-column h (column o) (not-false _ (else2 d .before .if1 .left)) (else2 d .if2 .left) (omega (arith, found d .before .count .ensures, found d .if3 .left))) (number o)
+    ∙ rule-as h (column o) true (drawn-true (found d)) (number o)
     (lt-ltb (number o) (o .lay-out .result .counts .count) (there d)))
 
 pub rule-at-spec : {M : Type 1} → statement M
@@ -162,12 +153,10 @@ rule-at-spec =
     tie.close
     (tie.spec
     lay-out-requires
+    is-drawn-requires
     returns
     returns-2
-    count-requires
-    returns-3
-    returns-4
     words-requires
     rule-at-requires
     alone-requires
-    returns-5)
+    returns-3)
