@@ -1,12 +1,13 @@
 -- Each row of a rule means its sentence, for every number and every word of the width: the sugar rows are a form with 0, or a form
 -- turned, and a signed number is the word whose signed reading it is. Assumes nothing.
 use mathlib.Core.Path.{_≡_, refl, sym, ap, _∙_}
-use mathlib.Core.Bool.{Bool, true, false, not, cond}
+use mathlib.Core.Bool.{Bool, true, false, not, _&&_, cond}
 use Prim.Native.Nat.{ℕ, zero, suc, _+_, _-_, _≤_, _<_}
 use native.Mathlib.Decide.{decLe, decLt}
 use native.Mathlib.Omega.{arith}
 use borrow.Author.Tests.{le-leb, le-ltb, lt-leb, lt-ltb}
 use mathlib.Core.Logic.{⊎-elim}
+use lib.Bits.{bitAnd}
 use lib.Dec.{eqb, leb, ltb}
 use lib.IntN.{ℤ, pos, negsuc}
 use lib.Signed.{leZ}
@@ -17,7 +18,7 @@ use Rattle.word.proofs.Sums.{minus-cases, plus-cases}
 use Rattle.word.proofs.Widths.{half-pos, halves}
 use Rattle.rule.specs.Meaning.{meets, rows, written}
 use Rattle.accept.proofs.Choices.{above}
-use Rattle.row_rules.specs.Rules.{ruleAt, signedWord}
+use Rattle.row_rules.specs.Rules.{ruleAt, ruleOf, signedWord}
 
 module _ (w m x : ℕ) (word : x ≤ top w) where
   -- 0 more is the word itself
@@ -84,3 +85,41 @@ module _ (w m x : ℕ) (z : ℤ) (same : signed w m ≡ z) where
   pub means-signed-at-least : (n : ℕ) → (meets w (ruleAt 11 n m) x ≡ leZ z (signed w x)) × (meets w (ruleAt 12 n m) x ≡ leZ z (signed w x))
   unfolding meets written rows ruleAt
   means-signed-at-least n = (ap (λ (y : ℤ). leZ y (signed w x)) same, ap (λ (y : ℤ). leZ y (signed w x)) same)
+
+-- the rows with two numbers: the sums and differences are those of words, which wrap
+module _ (w n m x : ℕ) where
+  pub means-sum-at-most : meets w (ruleAt 5 n m) x ≡ leb (plus w n x) m
+  unfolding meets written rows ruleAt
+  means-sum-at-most = refl
+
+  pub means-sums : meets w (ruleAt 6 n m) x ≡ leb (plus w n x) (plus w m x)
+  unfolding meets written rows ruleAt
+  means-sums = refl
+
+  pub means-sum-at-least : meets w (ruleAt 7 n m) x ≡ leb n (plus w m x)
+  unfolding meets written rows ruleAt
+  means-sum-at-least = refl
+
+  pub means-bits : meets w (ruleAt 8 n m) x ≡ eqb (bitAnd x n) m
+  unfolding meets written rows ruleAt
+  means-bits = refl
+
+  pub means-settled : meets w (ruleAt 13 n m) x ≡ leb m (minus w x n) && ltb (minus w x n) (half w)
+  unfolding meets written rows ruleAt
+  means-settled = refl
+
+-- without `not` a row is its rule, and with it a word meets the rule just where it fails that one: so of every row and every word of every
+-- width. Of the row on bits too, but no sheet accepts that one turned (4).
+module _ (w row n m x : ℕ) where
+  pub means-plain : ruleOf row false n m ≡ ruleAt row n m
+  unfolding ruleOf
+  means-plain = refl
+
+  pub means-not : meets w (ruleOf row true n m) x ≡ not (meets w (ruleOf row false n m) x)
+  unfolding meets written ruleOf
+  means-not = go (eqb (ruleAt row n m .sense) 0) (written w (ruleAt row n m) x)
+    where
+      go : (plain t : Bool) → cond (eqb (cond plain 1 0) 0) t (not t) ≡ not (cond plain t (not t))
+      go true t = refl
+      go false true = refl
+      go false false = refl
