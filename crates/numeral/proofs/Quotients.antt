@@ -1,11 +1,12 @@
 -- Digits written and read again are the same number. A number's digits are those of its quotient and then its last one, and the
 -- reader multiplies by the base and adds, which undoes the division. Assumes nothing.
-use mathlib.Core.Path.{_≡_, refl, sym, ap, _∙_}
+use mathlib.Core.Path.{_≡_, refl, sym, ap, ap₂, _∙_}
 use mathlib.Core.Bool.{Bool, true, false, and-false, cond}
 use mathlib.Core.List.{List, [], _∷_, _++_}
 use Prim.Native.Nat.{ℕ, zero, suc, _+_, _-_, _*_, _/_, _%_, _^_, _≤_, _<_}
 use native.Mathlib.Decide.{decLt}
-use native.Mathlib.Nat.{div-add-mod, div-lt-self, le-div-iff-mul-le, mod-lt}
+use native.Mathlib.Nat.{div-add-mod, div-lt-self, le-div-iff-mul-le, le-mul-of-pos-right, mod-lt, mul-left-comm, one-le-pow, pow-succ'}
+use native.Mathlib.Numerals.{add-one}
 use native.Mathlib.Omega.{arith}
 use borrow.Author.Tests.{le-leb, le-ltb, lt-leb, lt-ltb, ne-eqb}
 use lib.Dec.{eqb, ltb}
@@ -13,7 +14,7 @@ use lib.ListN.{length, length-append}
 use Rattle.hex.specs.Hex.{glyph}
 use Rattle.numeral.specs.declared.Numeral.{Numeral}
 use Rattle.numeral.specs.Digits.{digits, digitsIn}
-use Rattle.numeral.specs.Numeral.{BAD, DIGITS, NEEDS, START, ZERO, afterZero, belowZero, digit, next, numeral, numeralFrom, pastDigit, start, valueOf}
+use Rattle.numeral.specs.Numeral.{BAD, DIGITS, NEEDS, PLACES, START, ZERO, afterZero, belowZero, digit, next, numeral, numeralFrom, pastDigit, pointed, start, valueOf}
 
 module _ (base : ℕ) (two : 2 ≤ base) where
   -- any number of digits above the number itself is enough
@@ -122,3 +123,103 @@ hex-back x h = back NEEDS 16 false (λ e. omega arith) (omega arith) (omega arit
 pub minus-back : (x : ℕ) → x ≤ 2 ^ 64 - 1 → numeralFrom start (45 ∷ digitsIn 10 x) ≡ numeral DIGITS true 10 false x 0
 unfolding digitsIn numeralFrom next belowZero pastDigit
 minus-back x h = back NEEDS 10 true (λ e. omega arith) (omega arith) (omega arith) (omega arith) (suc x) x (omega arith) h
+
+-- ---- fractions
+
+-- k digits of b, the most significant first, with as many zeros before them as there are places left
+unfoldable pub places : (k b : ℕ) → List ℕ
+places zero b = []
+places (suc k) b = places k (b / 10) ++ glyph (b % 10) ∷ []
+
+-- a digit after the point
+module _ (stage v d k : ℕ) (minus : Bool) (some : DIGITS ≤ stage) (going : stage < BAD) (small : d < 10) (few : k < PLACES) where
+  next-place : 10 * v + d ≤ 2 ^ 64 - 1 → next (numeral stage minus 10 true v k) (glyph d) ≡ numeral DIGITS minus 10 true (10 * v + d) (k + 1)
+  unfolding next digit pastDigit
+  next-place fits =
+      let sign = no-sign stage 10 v d minus (λ e. omega arith) going (omega arith) small in
+      let back = value-back stage 10 v d minus (λ e. omega arith) going (omega arith) small in
+      rw (ne-eqb (glyph d) 45 (sign .0), ne-eqb (glyph d) 46 (sign .1), ne-eqb stage ZERO (λ e. omega arith), back, lt-leb BAD stage going, lt-leb 10 d small, lt-leb PLACES k few, le-leb (10 * v + d) (2 ^ 64 - 1) fits, ne-eqb stage START (λ e. omega arith))
+
+-- the point wants a digit after it
+unfoldable went : ℕ → ℕ
+went zero = NEEDS
+went (suc k) = DIGITS
+
+went-some : (k : ℕ) → (DIGITS ≤ went k) × (went k < BAD)
+unfolding went
+went-some zero = (omega arith, omega arith)
+went-some (suc k) = (omega arith, omega arith)
+
+module _ (minus : Bool) (v : ℕ) where
+  Back : (k b : ℕ) → Type 0
+  Back k b = numeralFrom (numeral NEEDS minus 10 true v 0) (places k b) ≡ numeral (went k) minus 10 true (v * 10 ^ k + b) k
+
+  scaled : (k b : ℕ) → 10 * (v * 10 ^ k + b / 10) + b % 10 ≡ v * 10 ^ suc k + b
+  scaled k b =
+      let e : 10 * (b / 10) + b % 10 ≡ b = div-add-mod b 10 in
+      let p : v * 10 ^ suc k ≡ 10 * (v * 10 ^ k) = ap (λ (n : ℕ). v * n) (pow-succ' 10 k) ∙ mul-left-comm v 10 (10 ^ k) in
+      omega arith
+
+  one-more : (k b : ℕ) → k < PLACES → v * 10 ^ suc k + b ≤ 2 ^ 64 - 1 → Back k (b / 10) → Back (suc k) b
+  unfolding Back places numeralFrom went
+  one-more k b few fits before =
+      let q = scaled k b in
+      numeral-more (numeral NEEDS minus 10 true v 0) (places k (b / 10)) (glyph (b % 10) ∷ [])
+      ∙ ap (λ (n : Numeral). next n (glyph (b % 10))) before
+      ∙ next-place (went k) (v * 10 ^ k + b / 10) (b % 10) k minus (went-some k .0) (went-some k .1) (mod-lt b (omega arith)) few (omega arith)
+      ∙ ap₂ (numeral DIGITS minus 10 true) q (add-one k)
+
+  none-yet : (b : ℕ) → b < 10 ^ 0 → Back 0 b
+  unfolding Back places numeralFrom went
+  none-yet b small =
+      let e : v ≡ v * 10 ^ 0 + b = omega arith in ap (λ (n : ℕ). numeral NEEDS minus 10 true n 0) e
+
+  places-back : (k b : ℕ) → k ≤ PLACES → b < 10 ^ k → v * 10 ^ k + b ≤ 2 ^ 64 - 1 → Back k b
+  places-back zero b few small fits = none-yet b small
+  places-back (suc k) b few small fits =
+      let q = scaled k b in
+      one-more k b few fits (places-back k (b / 10) (omega arith) (omega (arith, div-add-mod b 10)) (omega arith))
+
+-- a point after a whole number
+point-after : (minus : Bool) (stage v : ℕ) → ZERO ≤ stage → stage ≤ DIGITS → next (numeral stage minus 10 false v 0) 46 ≡ numeral NEEDS minus 10 true v 0
+unfolding next pointed
+point-after minus stage v low high = rw (le-leb ZERO stage low, le-leb stage DIGITS high)
+
+past-start : (a : ℕ) → (ZERO ≤ pastDigit START a) × (pastDigit START a ≤ DIGITS)
+unfolding pastDigit
+past-start zero = (omega arith, omega arith)
+past-start (suc a) = rw (ne-eqb (suc a) 0 (λ e. omega arith)) (omega arith, omega arith)
+
+-- What is read of the digits of a, a point, and k digits of b, is a * 10^k + b with k places.
+module _ (a k b : ℕ) (one : 1 ≤ k) (few : k ≤ PLACES) (small : b < 10 ^ k) (fits : a * 10 ^ k + b ≤ 2 ^ 64 - 1) where
+  whole-fits : a ≤ 2 ^ 64 - 1
+  whole-fits = omega (arith, le-mul-of-pos-right {m = 10 ^ k} a (one-le-pow k 10 (omega arith)))
+
+  went-digits : went k ≡ DIGITS
+  unfolding went
+  went-digits = go k one
+    where
+      go : (j : ℕ) → 1 ≤ j → went j ≡ DIGITS
+      go zero h = absurd (omega arith)
+      go (suc j) h = refl
+
+  after : (minus : Bool) (stage : ℕ) → ZERO ≤ stage → stage ≤ DIGITS
+      → numeralFrom (numeral stage minus 10 false a 0) (46 ∷ places k b) ≡ numeral DIGITS minus 10 true (a * 10 ^ k + b) k
+  unfolding numeralFrom Back
+  after minus stage low high =
+      ap (λ (n : Numeral). numeralFrom n (places k b)) (point-after minus stage a low high)
+      ∙ places-back minus a k b few small fits
+      ∙ ap (λ (s : ℕ). numeral s minus 10 true (a * 10 ^ k + b) k) went-digits
+
+  pub fraction-back : numeralFrom start (digitsIn 10 a ++ 46 ∷ places k b) ≡ numeral DIGITS false 10 true (a * 10 ^ k + b) k
+  fraction-back =
+      numeral-more start (digitsIn 10 a) (46 ∷ places k b)
+      ∙ ap (λ (n : Numeral). numeralFrom n (46 ∷ places k b)) (digits-back a whole-fits)
+      ∙ after false (pastDigit START a) (past-start a .0) (past-start a .1)
+
+  -- after `-`
+  pub minus-fraction-back : numeralFrom start (45 ∷ digitsIn 10 a ++ 46 ∷ places k b) ≡ numeral DIGITS true 10 true (a * 10 ^ k + b) k
+  minus-fraction-back =
+      numeral-more start (45 ∷ digitsIn 10 a) (46 ∷ places k b)
+      ∙ ap (λ (n : Numeral). numeralFrom n (46 ∷ places k b)) (minus-back a whole-fits)
+      ∙ after true DIGITS (omega arith) (omega arith)
