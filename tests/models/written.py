@@ -19,7 +19,9 @@ AFTER_NAME = len(RULES + NOT + WATTS)
 TEXTS = ("x + <= < >= > = & .. : not signed settled since for watts at least most within word mark back forward ask count list from why "
          "show").split()
 CODES = {text: i + 1 for i, text in enumerate(TEXTS)}
-CODES.update({"N": 31, "M": 32, "W": 33, "F": 34, "A": 35, "end": 0, "statement": 38, "rule": 39, "signed word": 40, "shorter": 41})
+CODES.update({"N": 31, "M": 32, "W": 33, "F": 34, "A": 35, "end": 0, "large": 37, "statement": 38, "rule": 39, "signed word": 40, "shorter": 41})
+# What is expected where a number may stand: one below 2^64 is said of a larger one.
+NUMBERS = [CODES[what] for what in ("N", "M", "W", "statement", "rule")]
 LIMIT = 1024
 
 # A minus begins a number, signs and words are runs of their letters, and anything else is in no line.
@@ -79,7 +81,8 @@ def read(line, width):
             what = "W"
         go = [r for r in ROWS[:limit] if r[:len(sofar) + 1] == sofar + [what]]
         if not go:
-            return [14, at, wanted(sofar, limit)], name
+            expected = wanted(sofar, limit)
+            return [14, at, CODES["large"] if what == "large" and expected in NUMBERS else expected], name
         sofar.append(what)
         if what in ("N", "M", "W", "F"):
             numbers.append((at, text.startswith("-"), value, places))

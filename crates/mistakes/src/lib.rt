@@ -2,7 +2,6 @@
 use libc::STDERR_FILENO;
 use line::Statement;
 use printing::Told;
-use printing::within;
 use scan::Mistake;
 use upshot::Response;
 
@@ -46,7 +45,7 @@ fn say_mistake(line: u64, text: &[u8], mistake: Mistake) {
     );
     put(b": error: expected ");
     let table =
-        b"the end of the line\nx\n+\n<=\n<\n>=\n>\n=\n&\n..\n:\nnot\nsigned\nsettled\nsince\nfor\nwatts\nat\nleast\nmost\nwithin\nword\nmark\nback\nforward\nask\ncount\nlist\nfrom\nwhy\nshow\na number\na number below zero\na number of watts\na number of watts\na name\na word\na number below 2^64\na statement\na rule\na number that a signed word has\na line of at most 1,024 bytes\n";
+        b"the end of the line\nx\n+\n<=\n<\n>=\n>\n=\n&\n..\n:\nnot\nsigned\nsettled\nsince\nfor\nwatts\nat\nleast\nmost\nwithin\nword\nmark\nback\nforward\nask\ncount\nlist\nfrom\nwhy\nshow\na number (decimal, 0x with lowercase digits, or 0b)\na number below zero\na number of watts\na number of watts\na name\na word\na number below 2^64\na statement\na rule\na number that a signed word has\na line of at most 1,024 bytes\n";
     put_entry(table, wide(mistake.expected));
     put(b"\n");
     if line::LIMIT < text.len() {
@@ -54,15 +53,30 @@ fn say_mistake(line: u64, text: &[u8], mistake: Mistake) {
     }
     put(text);
     put(b"\n");
-    put_under(mistake.at);
+    put_under(text, mistake.at);
 }
 
-// A mark under a place of the line.
-fn put_under(at: usize) {
-    let blanks = [b' '; line::LIMIT];
-    let n = within(at, &blanks);
-    put(&blanks[..n]);
+// A mark under a place of the line: a tab stands under a tab, so that the mark does under its place.
+fn put_under(text: &[u8], at: usize) {
+    let mut i: usize = 0;
+    while i < at {
+        put_blank(text, i);
+        i += 1;
+    }
     put(b"^\n");
+}
+
+// What stands under a byte of the line before the mark.
+fn put_blank(text: &[u8], at: usize) {
+    if text.len() <= at {
+        put(b" ");
+        return;
+    }
+    if text[at] == 9 {
+        put(b"\t");
+        return;
+    }
+    put(b" ");
 }
 
 // The rows of the table of refusals past the paper's numbers: a bit outside the mask, and a word that is asked about.

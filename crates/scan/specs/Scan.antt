@@ -1,5 +1,5 @@
 -- A line read letter by letter, up to its first mistake: how far its kinds follow the grammar, its name, and its numbers.
-use mathlib.Core.Bool.{Bool, true, false, _&&_, cond}
+use mathlib.Core.Bool.{Bool, true, false, _&&_, _||_, cond}
 use mathlib.Core.List.{List, [], _∷_}
 use Prim.Native.Nat.{ℕ, suc}
 use lib.Dec.{eqb, leb}
@@ -7,7 +7,7 @@ use lib.ListN.{length}
 use Rattle.numeral.specs.Numeral as numeral
 use Rattle.grammar.specs.declared.Place.{Place}
 use Rattle.grammar.specs.Grammar.{NAME-ROW, NOT-ROW, ROWS, expected, follow, isWatts, startAt}
-use Rattle.grammar.specs.Kinds.{COLON, END, FRACTION, NAME, NOT, NUMBER}
+use Rattle.grammar.specs.Kinds.{COLON, END, FRACTION, LARGE, NAME, NOT, NUMBER, RULE, STATEMENT}
 use Rattle.token.specs.declared.Token.{Token}
 use Rattle.token.specs.Token.{BLANK, COMMENT, begun, classOf, kind, more, token}
 use Rattle.scan.specs.declared.Amount.{Amount}
@@ -62,10 +62,18 @@ followed s k p at =
     (cond (isNumber k) (numbered s p)
     (placed s p))))
 
+-- a number may stand where this is expected: it is one, or a statement or a rule, which a number may begin
+unfoldable pub takesNumber : ℕ → Bool
+takesNumber e = eqb e STATEMENT || (eqb e RULE || isNumber e)
+
+-- what is said to be expected where a kind stands: of a number past 64 bits, where a number may stand, one within them
+unfoldable pub insteadOf : (kind expected : ℕ) → ℕ
+insteadOf k e = cond (eqb k LARGE && takesNumber e) LARGE e
+
 -- The token has a kind: an open row goes on so, or the line is wrong where the token begins.
 unfoldable pub accepted : Scan → ℕ → ℕ → Scan
 accepted s k at =
-    cond (leb (follow (s .place) k .limit) (follow (s .place) k .row)) (failed s (s .token .from) (expected (s .place)))
+    cond (leb (follow (s .place) k .limit) (follow (s .place) k .row)) (failed s (s .token .from) (insteadOf k (expected (s .place))))
     (followed s k (follow (s .place) k) at)
 
 -- the token ends before a place; blanks and comments are none, and after the first mistake nothing is read

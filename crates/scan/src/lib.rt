@@ -1,6 +1,6 @@
 // A line read letter by letter, up to its first mistake: how far its kinds follow the grammar, its name, and its numbers.
 ghost use mathlib.Core.Path.{_≡_};
-ghost use Rattle.scan.specs.Scan.{accepted, closed, failed, followed, isNumber, named, negated, numbered, placed, scanned, started, step, withToken};
+ghost use Rattle.scan.specs.Scan.{accepted, closed, failed, followed, insteadOf, isNumber, named, negated, numbered, placed, scanned, started, step, takesNumber, withToken};
 use grammar::Place;
 use grammar::kind;
 use numeral::Numeral;
@@ -122,7 +122,7 @@ impl Scan {
         let before = self.place;
         let place = before.follow(kind);
         if place.limit <= place.row {
-            return self.failed(token.from, before.expected());
+            return self.failed(token.from, instead_of(kind, before.expected()));
         }
         self.follow(kind, place, at)
     }
@@ -218,4 +218,30 @@ fn is_number(kind: u8) -> bool
         return false;
     }
     kind <= kind::FRACTION
+}
+
+// What is said to be expected where a kind stands: of a number past 64 bits, where a number may stand, one within them.
+fn instead_of(kind: u8, expected: u8) -> u8
+    ensures { λ r. ⌜ r ≡ insteadOf kind expected ⌝ }
+{
+    if kind != kind::LARGE {
+        return expected;
+    }
+    if takes_number(expected) {
+        return kind::LARGE;
+    }
+    expected
+}
+
+// Whether a number may stand where a kind is expected.
+fn takes_number(expected: u8) -> bool
+    ensures { λ r. ⌜ r ≡ takesNumber expected ⌝ }
+{
+    if expected == kind::STATEMENT {
+        return true;
+    }
+    if expected == kind::RULE {
+        return true;
+    }
+    is_number(expected)
 }

@@ -2,7 +2,7 @@
 use native.Mathlib.Omega.{arith}
 use mathlib.Core.Path.{ap, _∙_}
 use borrow.Author.Tests.{le-leb, lt-leb}
-use Rattle.scan.specs.Scan.{accepted, failed}
+use Rattle.scan.specs.Scan.{accepted, failed, insteadOf}
 use borrow.Author.Needs.{needs}
 use Rattle.scan.proofs.Scan.accept.Statement.{statement}
 use Rattle.scan.proofs.Scan.accept.Tie as tie
@@ -13,16 +13,19 @@ follow-requires c κs = search needs
 expected-requires : tie.Need-expected-requires
 expected-requires c κs = search needs
 
+instead-of-requires : tie.Need-instead-of-requires
+instead-of-requires c κs = search needs
+
 failed-requires : tie.Need-failed-requires
 failed-requires c κs = search needs
 
 returns : tie.Need-returns
 unfolding accepted
 returns c =
-    let a = c .before .before .before .before .before .before .before .args in
-    let q = c .before .before .before .before .follow .result in
-    rw (← c .before .before .before .before .follow .ensures, le-leb (q .limit) (q .row) (omega arith))
-    (c .failed .ensures ∙ ap (failed (a .self) (a .self .token .from)) (c .before .expected .ensures))
+    let a = c .before .before .before .before .before .before .before .before .args in
+    let q = c .before .before .before .before .before .follow .result in
+    rw (← c .before .before .before .before .before .follow .ensures, le-leb (q .limit) (q .row) (omega arith))
+    (c .failed .ensures ∙ ap (failed (a .self) (a .self .token .from)) (c .before .instead-of .ensures ∙ ap (insteadOf (a .kind)) (c .before .before .expected .ensures)))
 
 follow-requires-2 : tie.Need-follow-requires-2
 follow-requires-2 c κs = search needs
@@ -40,6 +43,7 @@ accept-spec =
     (tie.spec
     follow-requires
     expected-requires
+    instead-of-requires
     failed-requires
     returns
     follow-requires-2
