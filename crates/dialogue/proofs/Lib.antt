@@ -1,4 +1,5 @@
 pub mod Heard
+pub mod Lines
 pub mod OnPage
 pub mod Said
 pub mod Unique

@@ -1,14 +1,18 @@
-// Statements one after another on a sheet, up to the first mistake or refusal: each does what its call does, and nothing after that
+// Lines one after another on a sheet, up to the first mistake or refusal: each does what its call does, and nothing after that
 // one is done or answered.
 ghost use mathlib.Core.Path.{_≡_};
 ghost use mathlib.Core.Bool.{false};
 ghost use Rattle.sheet.specs.Record.{blank};
 ghost use Rattle.saying.specs.Says.{lent};
+ghost use Rattle.dialogue.specs.Hears.{Hears, readingAt};
 ghost use Rattle.dialogue.specs.Takes.{Takes, upshotOf};
+ghost use Rattle.word.specs.Word.{IsWidth};
+use line::Line;
 use line::Statement;
 use sheet::Sheet;
 use upshot::Response;
 use upshot::Upshot;
+use word::Width;
 
 // The sheet as it is, and whether a mistake or a refusal came.
 pub struct Dialogue {
@@ -20,6 +24,12 @@ pub struct Dialogue {
 pub struct Taken {
     pub dialogue: Dialogue,
     pub response: Response,
+}
+
+// A line as it was read, and what taking its statement came to.
+pub struct Hearing {
+    pub line: Line,
+    pub taken: Taken,
 }
 
 impl Dialogue {
@@ -50,6 +60,30 @@ impl Dialogue {
         }
         Taken::of(saying::says(sheet, statement, &mut *numbers, &mut *words))
     }
+
+    // Reads a line, without its byte 10, at the width of the open sheet, and does what it says.
+    pub fn hear(self, text: &[u8], numbers: &mut [u64; Sheet::LENT], words: &mut [u64]) -> Hearing
+        ensures { λ r. ⌜ Hears self (now (text .entry)) (lent (now (numbers .entry)) (now (words .entry))) (lent (now (numbers .exit)) (now (words .exit))) r ⌝ }
+    {
+        let sheet = self.sheet;
+        let line = line::read(text, width_of(sheet.width));
+        let statement = line.statement;
+        let taken = self.take(statement, &mut *numbers, &mut *words);
+        Hearing { line, taken }
+    }
+}
+
+// The width at which a line is read: the widest where no sheet is open.
+fn width_of(width: u64) -> Width
+    ensures { λ r. ⌜ (r .bits ≡ readingAt width) × IsWidth (r .bits) ⌝ }
+{
+    if width < 1 {
+        return Width { bits: 64 };
+    }
+    if 64 < width {
+        return Width { bits: 64 };
+    }
+    Width { bits: width }
 }
 
 impl Taken {

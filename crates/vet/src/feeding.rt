@@ -1,7 +1,6 @@
 // The input read part by part, its lines taken one after another.
 ghost use Prim.Native.Nat.{_<_, _≤_};
 ghost use lib.ListN.{length};
-ghost use Rattle.word.specs.Word.{IsWidth};
 use crate::manner;
 use crate::manner::Manner;
 use dialogue::Dialogue;
@@ -13,7 +12,6 @@ use printing::up_to;
 use printing::within;
 use rule::Rule;
 use sheet::Sheet;
-use word::Width;
 
 // What is written; the dialogue; what is held of a line, one byte more than a line may have, so that memory does not grow with a line; the number of lines; the status
 // so far; and whether more is read.
@@ -242,11 +240,12 @@ fn take_line(run: Run, names: &mut [[u8; MOST]; Rule::LIMIT], text: &[u8]) -> Ru
     let manner = run.manner;
     let dialogue = run.dialogue;
     let before = dialogue.sheet;
-    let read = line::read(text, width_of(before));
-    let statement = read.statement;
     let mut numbers = [0u64; Sheet::LENT];
     let mut words = [0u64; WORDS];
-    let taken = dialogue.take(statement, &mut numbers, &mut words);
+    let heard = dialogue.hear(text, &mut numbers, &mut words);
+    let read = heard.line;
+    let statement = read.statement;
+    let taken = heard.taken;
     let after = taken.dialogue;
     let response = taken.response;
     let sheet = after.sheet;
@@ -269,17 +268,4 @@ fn take_line(run: Run, names: &mut [[u8; MOST]; Rule::LIMIT], text: &[u8]) -> Ru
         run.more = false;
     }
     run
-}
-
-// The width of a word: the widest where no sheet is open.
-fn width_of(sheet: Sheet) -> Width
-    ensures { λ r. ⌜ IsWidth (r .bits) ⌝ }
-{
-    if sheet.width < 1 {
-        return Width { bits: 64 };
-    }
-    if 64 < sheet.width {
-        return Width { bits: 64 };
-    }
-    Width { bits: sheet.width }
 }
