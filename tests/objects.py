@@ -12,7 +12,7 @@ def called(rule):
 
 
 def linked(link):
-    return f"{link['from']} .. {link['to']} fail " + ("the fixed bits" if link["rule"] == "bits" else called(link))
+    return f"{number(link['from'])} .. {number(link['to'])} fail " + ("the fixed bits" if link["rule"] == "bits" else called(link))
 
 
 def asked(said):
@@ -42,7 +42,7 @@ def words(said):
     if "list" in said:
         return [number(x) for x in said["list"]]
     if "why" in said:
-        x = said["why"]
+        x = number(said["why"])
         return [f"{x} fails {called(rule)}" for rule in said["fails"]] or [f"{x} meets every rule"]
     return shown(said["show"])
 

@@ -48,7 +48,7 @@ def asked(page):
     else:
         yield "no word fits"
         for low, high, reason in chain(w, rules, [searched_words(w, r) for r in rules]):
-            yield f"{low} .. {high} fail {'the fixed bits' if reason == BITS else said_of(page, reason)}"
+            yield f"{number(low)} .. {number(high)} fail {'the fixed bits' if reason == BITS else said_of(page, reason)}"
 
 
 def shown(page):
@@ -69,7 +69,7 @@ def shown(page):
 
 def why(page, x):
     failed = [i for i, r in enumerate(page.rules()) if not meets(page.width, r, x)]
-    return [f"{x} fails {said_of(page, i)}" for i in failed] or [f"{x} meets every rule"]
+    return [f"{number(x)} fails {said_of(page, i)}" for i in failed] or [f"{number(x)} meets every rule"]
 
 
 def answers(page, said):

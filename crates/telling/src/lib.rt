@@ -88,7 +88,7 @@ fn tell_count(share: Share, width: u64) {
     put(b" words fit\n");
 }
 
-// The links of a chain, a line each: `0 .. 10 fail rule late: x + 5 <= 3`.
+// The links of a chain, a line each: `0 (0x0) .. 10 (0xa) fail rule late: x + 5 <= 3`.
 fn tell_links(
     sheet: Sheet,
     links: usize,
@@ -97,9 +97,9 @@ fn tell_links(
 ) {
     for i in 0..Link::MOST {
         if i < links {
-            put_number(numbers[Link::NUMBERS * i]);
+            put_twice(numbers[Link::NUMBERS * i]);
             put(b" .. ");
-            put_number(numbers[Link::NUMBERS * i + 1]);
+            put_twice(numbers[Link::NUMBERS * i + 1]);
             tell_reason(sheet, numbers[Link::NUMBERS * i + 2], names);
         }
     }
@@ -114,7 +114,7 @@ fn tell_reason(sheet: Sheet, reason: u64, names: &[[u8; MOST]; Rule::LIMIT]) {
     tell_rule(sheet, reason as usize, names);
 }
 
-// `12 meets every rule`, or `12 fails rule late: x + 5 <= 3`, a line a rule.
+// `12 (0xc) meets every rule`, or `10 (0xa) fails rule late: x + 5 <= 3`, a line a rule.
 fn tell_why(
     sheet: Sheet,
     x: u64,
@@ -123,12 +123,12 @@ fn tell_why(
     numbers: &[u64; Sheet::LENT],
 ) {
     if failed == 0 {
-        put_number(x);
+        put_twice(x);
         put(b" meets every rule\n");
     }
     for i in 0..Rule::LIMIT {
         if i < failed {
-            put_number(x);
+            put_twice(x);
             put(b" fails ");
             tell_rule(sheet, numbers[i] as usize, names);
         }
