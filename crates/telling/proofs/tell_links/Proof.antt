@@ -15,17 +15,17 @@ abbrev μ-loop : tie.MeasureT-loop
 loop-holds : tie.Need-loop-holds Inv-loop μ-loop
 loop-holds c = search needs
 
-mul-put-number : tie.Need-mul-put-number Inv-loop μ-loop
-mul-put-number c = search needs
+mul-put-twice : tie.Need-mul-put-twice Inv-loop μ-loop
+mul-put-twice c = search needs
 
-mul-put-number-2 : tie.Need-mul-put-number-2 Inv-loop μ-loop
-mul-put-number-2 c = search needs
+mul-put-twice-2 : tie.Need-mul-put-twice-2 Inv-loop μ-loop
+mul-put-twice-2 c = search needs
 
-element-copy-out-put-number : tie.Need-element-copy-out-put-number Inv-loop μ-loop
-element-copy-out-put-number c = search needs
+element-copy-out-put-twice : tie.Need-element-copy-out-put-twice Inv-loop μ-loop
+element-copy-out-put-twice c = search needs
 
-put-number-requires : tie.Need-put-number-requires Inv-loop μ-loop
-put-number-requires c κs = search needs
+put-twice-requires : tie.Need-put-twice-requires Inv-loop μ-loop
+put-twice-requires c κs = search needs
 
 slice-aggregate-put : tie.Need-slice-aggregate-put Inv-loop μ-loop
 slice-aggregate-put c = search needs
@@ -33,20 +33,20 @@ slice-aggregate-put c = search needs
 put-requires : tie.Need-put-requires Inv-loop μ-loop
 put-requires c κs = search needs
 
-mul-put-number-3 : tie.Need-mul-put-number-3 Inv-loop μ-loop
-mul-put-number-3 c = search needs
+mul-put-twice-3 : tie.Need-mul-put-twice-3 Inv-loop μ-loop
+mul-put-twice-3 c = search needs
 
-add-put-number : tie.Need-add-put-number Inv-loop μ-loop
-add-put-number c = search needs
+add-put-twice : tie.Need-add-put-twice Inv-loop μ-loop
+add-put-twice c = search needs
 
-mul-put-number-4 : tie.Need-mul-put-number-4 Inv-loop μ-loop
-mul-put-number-4 c = search needs
+mul-put-twice-4 : tie.Need-mul-put-twice-4 Inv-loop μ-loop
+mul-put-twice-4 c = search needs
 
-element-copy-out-put-number-2 : tie.Need-element-copy-out-put-number-2 Inv-loop μ-loop
-element-copy-out-put-number-2 c = search needs
+element-copy-out-put-twice-2 : tie.Need-element-copy-out-put-twice-2 Inv-loop μ-loop
+element-copy-out-put-twice-2 c = search needs
 
-put-number-requires-2 : tie.Need-put-number-requires-2 Inv-loop μ-loop
-put-number-requires-2 c κs = search needs
+put-twice-requires-2 : tie.Need-put-twice-requires-2 Inv-loop μ-loop
+put-twice-requires-2 c κs = search needs
 
 mul-tell-reason : tie.Need-mul-tell-reason Inv-loop μ-loop
 mul-tell-reason c = search needs
@@ -82,17 +82,17 @@ tell-links-spec =
     Inv-loop
     μ-loop
     loop-holds
-    mul-put-number
-    mul-put-number-2
-    element-copy-out-put-number
-    put-number-requires
+    mul-put-twice
+    mul-put-twice-2
+    element-copy-out-put-twice
+    put-twice-requires
     slice-aggregate-put
     put-requires
-    mul-put-number-3
-    add-put-number
-    mul-put-number-4
-    element-copy-out-put-number-2
-    put-number-requires-2
+    mul-put-twice-3
+    add-put-twice
+    mul-put-twice-4
+    element-copy-out-put-twice-2
+    put-twice-requires-2
     mul-tell-reason
     add-tell-reason
     mul-tell-reason-2

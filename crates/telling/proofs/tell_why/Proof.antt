@@ -11,8 +11,8 @@ Inv-loop sheet x failed names numbers i₀ t8 i = i ≤ RULES
 abbrev μ-loop : tie.MeasureT-loop
 μ-loop sheet x failed names numbers i₀ t8 i = RULES - i
 
-put-number-requires : tie.Need-put-number-requires Inv-loop μ-loop
-put-number-requires c κs = search needs
+put-twice-requires : tie.Need-put-twice-requires Inv-loop μ-loop
+put-twice-requires c κs = search needs
 
 slice-aggregate-put : tie.Need-slice-aggregate-put Inv-loop μ-loop
 slice-aggregate-put c = search needs
@@ -23,8 +23,8 @@ put-requires c κs = search needs
 loop-holds : tie.Need-loop-holds Inv-loop μ-loop
 loop-holds c = search needs
 
-put-number-requires-2 : tie.Need-put-number-requires-2 Inv-loop μ-loop
-put-number-requires-2 c κs = search needs
+put-twice-requires-2 : tie.Need-put-twice-requires-2 Inv-loop μ-loop
+put-twice-requires-2 c κs = search needs
 
 slice-aggregate-put-2 : tie.Need-slice-aggregate-put-2 Inv-loop μ-loop
 slice-aggregate-put-2 c = search needs
@@ -59,11 +59,11 @@ tell-why-spec =
     (tie.spec
     Inv-loop
     μ-loop
-    put-number-requires
+    put-twice-requires
     slice-aggregate-put
     put-requires
     loop-holds
-    put-number-requires-2
+    put-twice-requires-2
     slice-aggregate-put-2
     put-requires-2
     mul-tell-rule
