@@ -1,27 +1,23 @@
-// The picture of a sheet on standard output, as comment lines of a sheet: a row for each rule in force, where they are few, and one for all.
+// The picture of a sheet on standard output, as comment lines of a sheet: a row for each rule in force, and one for all.
 use libc::STDOUT_FILENO;
 use picture::Cell;
+use rule::Rule;
 use sheet::Sheet;
 
 // As many columns as a picture has at most.
 const COLUMNS: u64 = 64;
-
-// How many rules have a row each: a picture with more is not taken in at a glance.
-const FEW: usize = 20;
 
 // Draws nothing where no sheet is open.
 pub fn draw(sheet: Sheet) {
     if sheet.width == 0 {
         return;
     }
-    if sheet.count <= FEW {
-        rule_rows(sheet);
-    }
+    rule_rows(sheet);
     all_row(sheet);
 }
 
 fn rule_rows(sheet: Sheet) {
-    for number in 0..FEW {
+    for number in 0..Rule::LIMIT {
         if number < sheet.count {
             rule_row(sheet, number);
         }

@@ -1,14 +1,15 @@
 -- `rule_rows` is safe and ends: the loop goes over the rules. Assumes nothing.
 use Prim.Native.Nat.{_-_, _≤_}
 use borrow.Author.Needs.{needs}
+use Rattle.rule.specs.Meaning.{RULES}
 use Rattle.drawing.proofs.rule_rows.Statement.{statement}
 use Rattle.drawing.proofs.rule_rows.Tie as tie
 
 abbrev Inv-loop : tie.InvT-loop
-Inv-loop sheet number₀ number = number ≤ 20
+Inv-loop sheet number₀ number = number ≤ RULES
 
 abbrev μ-loop : tie.MeasureT-loop
-μ-loop sheet number₀ number = 20 - number
+μ-loop sheet number₀ number = RULES - number
 
 loop-holds : tie.Need-loop-holds Inv-loop μ-loop
 loop-holds c = search needs
