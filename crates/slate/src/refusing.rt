@@ -11,12 +11,12 @@ use word::Width;
 pub fn refuses(head: Head) -> u64
     ensures { λ r. ⌜ r ≡ before (head .stands) (head .opening .width) ⌝ }
 {
-    let stands = head.stands;
-    let width = head.opening.width;
-    if !stands {
+    let fallen = !head.stands;
+    let blank = head.opening.width == 0;
+    if fallen {
         return 17;
     }
-    if width == 0 {
+    if blank {
         return 1;
     }
     0
@@ -30,7 +30,7 @@ pub fn refuses_rule(head: Head, edition: Edition, rule: Rule) -> u64
     let count = head.counts.count;
     let opening = head.opening;
     let kind = opening.edition;
-    let own = edition.same(kind);
+    let other = !edition.same(kind);
     let number = refuses(head);
     if number != 0 {
         return number;
@@ -41,13 +41,15 @@ pub fn refuses_rule(head: Head, edition: Edition, rule: Rule) -> u64
             bits: opening.width,
         },
     );
-    if !own {
+    let unlawful = bad != 0;
+    let full = Rule::LIMIT <= count;
+    if other {
         return 11;
     }
-    if bad != 0 {
+    if unlawful {
         return bad;
     }
-    if Rule::LIMIT <= count {
+    if full {
         return 6;
     }
     0

@@ -24,10 +24,12 @@ pub fn mark(
     let count = counts.count;
     let marked = counts.marked;
     let number = slate::refuses(head);
-    if number != 0 {
+    let refused = number != 0;
+    let full = MARKS <= marked;
+    if refused {
         return Said { number, head };
     }
-    if MARKS <= marked {
+    if full {
         return Said { number: 7, head };
     }
     slate::clear_waiting(head, &mut *rows, &mut *marks);

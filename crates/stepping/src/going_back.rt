@@ -20,10 +20,12 @@ pub fn back(head: Head, rows: &[[u64; NUMBERS]; Rule::LIMIT], marks: &[usize; MA
     let marked = counts.marked;
     let waiting = counts.waiting;
     let number = slate::refuses(head);
-    if number != 0 {
+    let refused = number != 0;
+    let none = marked == 0;
+    if refused {
         return Said { number, head };
     }
-    if marked == 0 {
+    if none {
         return Said { number: 8, head };
     }
     let at = marked - 1;

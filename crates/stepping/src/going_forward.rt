@@ -23,10 +23,12 @@ pub fn forward(head: Head, rows: &[[u64; NUMBERS]; Rule::LIMIT], marks: &[usize;
     let given = counts.given;
     let waiting = counts.waiting;
     let number = slate::refuses(head);
-    if number != 0 {
+    let refused = number != 0;
+    let none = waiting == 0;
+    if refused {
         return Said { number, head };
     }
-    if waiting == 0 {
+    if none {
         return Said { number: 12, head };
     }
     let next = marked + 1;

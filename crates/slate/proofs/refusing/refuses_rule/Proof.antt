@@ -1,6 +1,7 @@
 -- `refuses_rule` meets its contract. Assumes nothing.
 use mathlib.Core.Path.{_≡_, sym, _∙_}
 use borrow.Author.Needs.{needs}
+use borrow.Author.Tests.{eqb-false, eqb-true, leb-false, leb-true, not-false, not-true}
 use mathlib.Core.Bool.{true}
 use Rattle.word.specs.Edition.{same}
 use Rattle.accept.proofs.Choices.{failed, passed}
@@ -47,19 +48,19 @@ returns-3 : tie.Need-returns-3
 returns-3 c =
     let b = c .before in
     let r = b .before .refusal-of .ensures in
-    r ∙ number-own _ _ _ (none (begun (b .before))) (own-edition b) (λ z. c .if3 .taken (r ∙ z))
+    r ∙ number-own _ _ _ (none (begun (b .before))) (own-edition b) (λ z. eqb-false _ 0 (not-true _ (c .if3 .taken)) (r ∙ z))
 
 returns-4 : tie.Need-returns-4
 returns-4 c =
     let o = c .before in
     let b = o .before in
-    number-full _ _ _ (none (begun (b .before))) (own-edition b) (sym (b .before .refusal-of .ensures) ∙ o .if3 .left) (c .if4 .taken)
+    number-full _ _ _ (none (begun (b .before))) (own-edition b) (sym (b .before .refusal-of .ensures) ∙ eqb-true _ 0 (not-false _ (o .if3 .left))) (leb-true _ _ (c .if4 .taken))
 
 returns-5 : tie.Need-returns-5
 returns-5 c =
     let o = c .before in
     let b = o .before in
-    number-none _ _ _ (none (begun (b .before))) (own-edition b) (sym (b .before .refusal-of .ensures) ∙ o .if3 .left) (c .if4 .left)
+    number-none _ _ _ (none (begun (b .before))) (own-edition b) (sym (b .before .refusal-of .ensures) ∙ eqb-true _ 0 (not-false _ (o .if3 .left))) (leb-false _ _ (c .if4 .left))
 
 pub refuses-rule-spec : {M : Type 1} → statement M
 refuses-rule-spec =
