@@ -69,13 +69,15 @@ impl Net {
         let mut quiet: usize = 0;
         let mut empty = false;
         loop {
+            let steady = joined <= quiet;
+            let spent = steps == pay;
             if empty {
                 return given(Ended::Empty, steps, words);
             }
-            if joined <= quiet {
+            if steady {
                 return given(Ended::Steady, steps, words);
             }
-            if steps == pay {
+            if spent {
                 return given(Ended::Spent, steps, words);
             }
             let turn = (steps % (joined as u64)) as usize;

@@ -63,9 +63,9 @@ fn refused(width: u64, h: Interval, x: Interval, y: Interval) -> u64
         return 2;
     }
     let top = Width { bits: width }.top();
-    let fit = all_words(top, h, x, y);
+    let unfit = !all_words(top, h, x, y);
     let reversed = any_hollow(h, x, y);
-    if !fit {
+    if unfit {
         return 5;
     }
     if reversed {
