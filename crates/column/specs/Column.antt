@@ -2,6 +2,9 @@
 use Prim.Native.Nat.{ℕ, min, _+_, _-_, _*_, _^_}
 use Rattle.band.specs.declared.Run.{Run}
 
+abbrev pub COLUMNS : ℕ
+COLUMNS = 64
+
 -- 64 columns, or at fewer than 6 bits a column a word
 unfoldable pub columns : ℕ → ℕ
 columns w = 2 ^ min w 6

@@ -6,7 +6,9 @@ ghost use Rattle.column.specs.Column.{columns, size, wordsOf};
 use band::Run;
 use word::Width;
 
-// 64 columns are the words of so many bits.
+// As many columns as a picture has at most, which are the words of so many bits.
+pub const COLUMNS: u64 = 64;
+
 const BITS: u64 = 6;
 
 // How many columns there are.
@@ -17,7 +19,7 @@ pub fn count(width: Width) -> u64
     if width.bits < BITS {
         return width.top() + 1;
     }
-    64
+    COLUMNS
 }
 
 // How many words a column has.

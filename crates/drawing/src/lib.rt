@@ -1,11 +1,9 @@
 // The picture of a sheet on standard output, as comment lines of a sheet: a row for each rule in force, and one for all.
+use column::COLUMNS;
 use libc::STDOUT_FILENO;
 use picture::Cell;
 use rule::Rule;
 use sheet::Sheet;
-
-// As many columns as a picture has at most.
-const COLUMNS: u64 = 64;
 
 // Draws nothing where no sheet is open.
 pub fn draw(sheet: Sheet) {

@@ -1,14 +1,15 @@
 -- `all_row` is safe and ends: the loop goes over the columns. Assumes nothing.
 use Prim.Native.Nat.{_-_, _≤_}
 use borrow.Author.Needs.{needs}
+use Rattle.column.specs.Column.{COLUMNS}
 use Rattle.drawing.proofs.all_row.Statement.{statement}
 use Rattle.drawing.proofs.all_row.Tie as tie
 
 abbrev Inv-loop : tie.InvT-loop
-Inv-loop sheet column₀ t4 column = column ≤ 64
+Inv-loop sheet column₀ t4 column = column ≤ COLUMNS
 
 abbrev μ-loop : tie.MeasureT-loop
-μ-loop sheet column₀ t4 column = 64 - column
+μ-loop sheet column₀ t4 column = COLUMNS - column
 
 slice-aggregate-put : tie.Need-slice-aggregate-put Inv-loop μ-loop
 slice-aggregate-put c = search needs

@@ -1,14 +1,15 @@
 -- `tell_words` is safe and ends: the measure is the words left. Assumes nothing.
 use Prim.Native.Nat.{_-_, _≤_}
 use borrow.Author.Needs.{needs}
+use Rattle.printing.proofs.Words.{WORDS}
 use Rattle.objects.proofs.tell_words.Statement.{statement}
 use Rattle.objects.proofs.tell_words.Tie as tie
 
 abbrev Inv-loop : tie.InvT-loop
-Inv-loop written words i₀ t5 t6 t7 i = i ≤ 512
+Inv-loop written words i₀ t5 t6 t7 i = i ≤ WORDS
 
 abbrev μ-loop : tie.MeasureT-loop
-μ-loop written words i₀ t5 t6 t7 i = 512 - i
+μ-loop written words i₀ t5 t6 t7 i = WORDS - i
 
 slice-aggregate-put : tie.Need-slice-aggregate-put Inv-loop μ-loop
 slice-aggregate-put c = search needs

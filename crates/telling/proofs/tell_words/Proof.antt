@@ -1,14 +1,15 @@
 -- `tell_words` is safe and ends: the measure is the words left. Assumes nothing.
 use Prim.Native.Nat.{_-_, _≤_}
 use borrow.Author.Needs.{needs}
+use Rattle.printing.proofs.Words.{WORDS}
 use Rattle.telling.proofs.tell_words.Statement.{statement}
 use Rattle.telling.proofs.tell_words.Tie as tie
 
 abbrev Inv-loop : tie.InvT-loop
-Inv-loop written words i₀ t4 i = i ≤ 512
+Inv-loop written words i₀ t4 i = i ≤ WORDS
 
 abbrev μ-loop : tie.MeasureT-loop
-μ-loop written words i₀ t4 i = 512 - i
+μ-loop written words i₀ t4 i = WORDS - i
 
 loop-holds : tie.Need-loop-holds Inv-loop μ-loop
 loop-holds c = search needs
