@@ -1,77 +1,24 @@
--- The words of a section, one after the other: up to a word found they are those before it and itself, and none is left where the next
--- word comes after the section. And the words that pass, section after section. Assumes nothing.
+-- The words that pass, section after section: no word more than there is room for, and each section after the last. Assumes nothing.
 use mathlib.Core.Path.{_≡_, refl, sym, ap, ap₂, _∙_}
-use mathlib.Core.Bool.{Bool, true, false, false≢true}
-use mathlib.Core.List.{List, [], _∷_, _++_, append-nil}
-use Prim.Native.Nat.{ℕ, suc, _+_, _-_, _≤_, _<_}
+use mathlib.Core.Bool.{Bool, true, false}
+use mathlib.Core.List.{List, [], _∷_, _++_, append-assoc, append-nil}
+use Prim.Native.Nat.{ℕ, zero, suc, _+_, _-_, _≤_}
 use native.Mathlib.Omega.{arith}
-use borrow.Author.Tests.{eq-eqb, eqb-true}
-use lib.Bits.{bitAnd, and-le-r}
 use lib.ListN.{drop, length, length-append, length-drop, length-take, take}
+use lib.Seq.{drop-append-add, drop-drop, take-at}
 use Rattle.word.specs.Search.{passing}
-use Rattle.word.proofs.Searched.{First}
 use Rattle.band.specs.declared.Band.{Band}
 use Rattle.bits.specs.declared.Fixed.{Fixed}
-use Rattle.bits.specs.declared.Fixed.the-variants.{Bits, Clash}
-use Rattle.bits.specs.route.Fixed.{Tidy, hasBits}
+use Rattle.bits.specs.route.Fixed.{hasBits}
 use Rattle.rows.specs.route.Bands.{passes}
 use Rattle.section.specs.declared.Section.{Section}
 use Rattle.section.proofs.Alike.{Alike, failing-passes, held-passes}
 use Rattle.fitting.specs.Words.{atStart}
-use Rattle.fitting.proofs.Passing.{first-passing, none-passing, passing-same, passing-split}
-use Rattle.filling.specs.route.Put.{isFree, putAt, runWords, sectionWords}
-use Rattle.filling.proofs.Puts.{put-after, take-more}
+use Rattle.fitting.proofs.Passing.{none-passing, passing-same}
+use Rattle.putting.specs.route.Put.{putAt, sectionWords}
+use Rattle.putting.proofs.Words.{held-words, no-words, passing-on}
 
-module _ (f : ℕ → Bool) where
-  -- no word
-  pub passing-none : (p : ℕ) → passing f (p - p) p ≡ []
-  unfolding passing
-  passing-none p = let e : p - p ≡ 0 = omega arith in ap (λ (k : ℕ). passing f k p) e
-
-  -- the words from a to below q, in two parts at p
-  pub passing-on : (a p q : ℕ) → a ≤ p → p ≤ q → passing f (q - a) a ≡ passing f (p - a) a ++ passing f (q - p) p
-  passing-on a p q l h =
-      let e : a + (p - a) ≡ p = omega arith in
-      passing-split f (p - a) (q - p) (q - a) a (omega arith) ∙ ap (λ (n : ℕ). passing f (p - a) a ++ passing f (q - p) n) e
-
-  -- up to the next word, and with it
-  pub passing-found : (a p x k : ℕ) → a ≤ p → First f k p x → passing f (suc x - a) a ≡ passing f (p - a) a ++ x ∷ []
-  unfolding passing
-  passing-found a p x k l found =
-      let here : First f (suc x - p) p x = record { low = found .low; high = omega (arith, found .low); passes = found .passes; none-before = found .none-before } in
-      passing-on a p (suc x) l (omega (arith, found .low))
-      ∙ ap (λ (xs : List ℕ). passing f (p - a) a ++ xs) (first-passing f here 0 (omega (arith, found .low)))
-
-  -- and none from p on
-  pub passing-over : (a p q : ℕ) → a ≤ p → p ≤ q → ((y : ℕ) → p ≤ y → y < q → f y ≡ false) → passing f (q - a) a ≡ passing f (p - a) a
-  passing-over a p q l h n =
-      passing-on a p q l h
-      ∙ ap (λ (xs : List ℕ). passing f (p - a) a ++ xs) (none-passing f (q - p) p (λ y i j. n y i (omega arith)))
-      ∙ append-nil (passing f (p - a) a)
-
--- the words of a section that is held, and of one that fails
-module _ (s : Section) (f : Fixed) (p : ℕ) where
-  pub held-words : s .held ≡ true → sectionWords s f p ≡ passing (hasBits f) (suc (s .to) - p) p
-  unfolding sectionWords
-  held-words e = rw (e, sectionWords)
-
-  pub no-words : s .held ≡ false → sectionWords s f p ≡ []
-  unfolding sectionWords
-  no-words e = rw (e, sectionWords)
-
--- every word has the bits where none is fixed, and so a section that is held is its run of words
-free-has : (f : Fixed) → isFree f ≡ true → Tidy f → (x : ℕ) → hasBits f x ≡ true
-unfolding isFree Tidy hasBits
-free-has (Bits m v) e t x = let z = eqb-true m 0 e in eq-eqb (bitAnd x m) v (omega (arith, z, t, and-le-r x m, and-le-r v m))
-free-has Clash e t x = absurd (false≢true e)
-
-pub free-words : (s : Section) (f : Fixed) (p : ℕ) → s .held ≡ true → isFree f ≡ true → Tidy f
-    → runWords (record { from = p; to = s .to }) ≡ sectionWords s f p
-unfolding runWords
-free-words s f p h e t =
-    passing-same (λ (x : ℕ). true) (hasBits f) (suc (s .to) - p) p (λ y l b. sym (free-has f e t y)) ∙ sym (held-words s f p h)
-
--- are those that pass
+-- the words of a section that pass
 pub section-words : {t : ℕ} {bs : List Band} {p : ℕ} {s : Section} → Alike t bs p s → (f : Fixed)
     → passing (passes bs f) (suc (s .to) - p) p ≡ sectionWords s f p
 section-words {t} {bs} {p} {s} a f = go (s .held) refl
@@ -81,6 +28,23 @@ section-words {t} {bs} {p} {s} a f = go (s .held) refl
         passing-same (passes bs f) (hasBits f) (suc (s .to) - p) p (λ y l h. held-passes a f y l (omega arith) e) ∙ sym (held-words s f p e)
     go false e =
         none-passing (passes bs f) (suc (s .to) - p) p (λ y l h. failing-passes a f y l (omega arith) e) ∙ sym (no-words s f p e)
+
+-- a list taken in two parts
+take-more : {A : Type 0} (m : ℕ) (u v : List A) → take m (u ++ v) ≡ take m u ++ take (m - length (take m u)) v
+take-more zero u v = refl
+take-more (suc m) [] v = let e : suc m ≡ suc m - 0 = omega arith in ap (λ (n : ℕ). take n v) e
+take-more (suc m) (x ∷ u) v =
+    let e : m - length (take m u) ≡ suc m - suc (length (take m u)) = omega arith in
+    ap (λ (l : List _). x ∷ l) (take-more m u v ∙ ap (λ (n : ℕ). take m u ++ take n v) e)
+
+-- a section after the words that stand at the start
+put-after : (b xs ys : List ℕ) → putAt (atStart xs b) (length xs) ys ≡ atStart (xs ++ ys) b
+unfolding putAt
+put-after b xs ys =
+    ap₂ (λ (k l : List ℕ). k ++ (ys ++ l)) (take-at xs (drop (length xs) b) (length xs) refl)
+    (drop-append-add xs (drop (length xs) b) (length ys) ∙ drop-drop (length ys) (length xs) b)
+    ∙ sym (append-assoc xs ys (drop (length xs + length ys) b))
+    ∙ ap (λ (n : ℕ). (xs ++ ys) ++ drop n b) (sym (length-append xs ys))
 
 -- the words from a start to below q that there is room for
 module _ (b : List ℕ) (f : ℕ → Bool) (start : ℕ) where

@@ -17,7 +17,8 @@ use Rattle.section.specs.route.Turns.{turnsFrom}
 use Rattle.section.proofs.Alike.{Alike, section-alike}
 use Rattle.section.proofs.Fewer.{few-turns, fewer-turns}
 use Rattle.fitting.specs.Words.{atStart}
-use Rattle.filling.proofs.Sections.{passing-none, section-words, start-length, up-to-fits, up-to-full, up-to-put, upTo}
+use Rattle.putting.proofs.Words.{passing-none}
+use Rattle.filling.proofs.Sections.{section-words, start-length, up-to-fits, up-to-full, up-to-put, upTo}
 use Rattle.filling.proofs.fill.Statement.{statement}
 use Rattle.filling.proofs.fill.Tie as tie
 

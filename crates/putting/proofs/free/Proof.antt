@@ -1,9 +1,9 @@
 -- `free` meets its contract: no bit is fixed where the mask is 0. Assumes nothing.
 use mathlib.Core.Path.{sym, ap}
 use borrow.Author.Needs.{needs}
-use Rattle.filling.specs.route.Put.{isFree}
-use Rattle.filling.proofs.free.Statement.{statement}
-use Rattle.filling.proofs.free.Tie as tie
+use Rattle.putting.specs.route.Put.{isFree}
+use Rattle.putting.proofs.free.Statement.{statement}
+use Rattle.putting.proofs.free.Tie as tie
 
 enum-known-fixed : tie.Need-enum-known-fixed
 enum-known-fixed c = search needs

@@ -1,20 +1,11 @@
--- Words put one after another, and section after section: no word more than there is room for, and each after the last. Assumes nothing.
-use mathlib.Core.Path.{_≡_, refl, sym, ap, ap₂, _∙_}
+-- Words put one after another from a place of a buffer on. Assumes nothing.
+use mathlib.Core.Path.{_≡_, refl, sym, ap, _∙_}
 use mathlib.Core.List.{List, [], _∷_, _++_, append-assoc}
-use Prim.Native.Nat.{ℕ, zero, suc, _+_, _-_, _≤_, _<_}
+use Prim.Native.Nat.{ℕ, zero, suc, _+_, _≤_, _<_}
 use native.Mathlib.Omega.{arith}
 use lib.ListN.{drop, getD, length, length-append, length-drop, set, take}
-use lib.Seq.{drop-append-add, drop-cons, drop-drop, length-take-le, set-at, take-at}
-use Rattle.fitting.specs.Words.{atStart}
-use Rattle.filling.specs.route.Put.{putAt}
-
--- a list taken in two parts
-pub take-more : {A : Type 0} (m : ℕ) (u v : List A) → take m (u ++ v) ≡ take m u ++ take (m - length (take m u)) v
-take-more zero u v = refl
-take-more (suc m) [] v = let e : suc m ≡ suc m - 0 = omega arith in ap (λ (n : ℕ). take n v) e
-take-more (suc m) (x ∷ u) v =
-    let e : m - length (take m u) ≡ suc m - suc (length (take m u)) = omega arith in
-    ap (λ (l : List _). x ∷ l) (take-more m u v ∙ ap (λ (n : ℕ). take m u ++ take n v) e)
+use lib.Seq.{drop-cons, length-take-le, set-at}
+use Rattle.putting.specs.route.Put.{putAt}
 
 module _ (b : List ℕ) where
   pub put-none : (place : ℕ) → putAt b place [] ≡ b
@@ -54,12 +45,3 @@ module _ (b : List ℕ) where
         length-take-le place b (omega arith),
         length-drop (place + length xs) b,
       )
-
-  -- a section after the words that stand at the start
-  pub put-after : (xs ys : List ℕ) → putAt (atStart xs b) (length xs) ys ≡ atStart (xs ++ ys) b
-  unfolding putAt
-  put-after xs ys =
-      ap₂ (λ (k l : List ℕ). k ++ (ys ++ l)) (take-at xs (drop (length xs) b) (length xs) refl)
-      (drop-append-add xs (drop (length xs) b) (length ys) ∙ drop-drop (length ys) (length xs) b)
-      ∙ sym (append-assoc xs ys (drop (length xs + length ys) b))
-      ∙ ap (λ (n : ℕ). (xs ++ ys) ++ drop n b) (sym (length-append xs ys))

@@ -11,11 +11,11 @@ use lib.ListN.{length, length-append, length-set, set, take}
 use lib.Seq.{take-all, take-at}
 use Rattle.word.specs.Search.{passing}
 use Rattle.word.proofs.Searched.{First}
-use Rattle.filling.specs.route.Put.{putAt, runWords}
-use Rattle.filling.proofs.Puts.{put-length, put-more, put-none}
-use Rattle.filling.proofs.Sections.{passing-found, passing-none, passing-on}
-use Rattle.filling.proofs.put_run.Statement.{statement}
-use Rattle.filling.proofs.put_run.Tie as tie
+use Rattle.putting.specs.route.Put.{putAt, runWords}
+use Rattle.putting.proofs.Puts.{put-length, put-more, put-none}
+use Rattle.putting.proofs.Words.{passing-found, passing-none, passing-on}
+use Rattle.putting.proofs.put_run.Statement.{statement}
+use Rattle.putting.proofs.put_run.Tie as tie
 
 -- the words from a to below q
 abbrev from-to : ℕ → ℕ → List ℕ

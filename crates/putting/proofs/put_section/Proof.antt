@@ -14,11 +14,11 @@ use Rattle.word.specs.Word.{top}
 use Rattle.word.proofs.Searched.{First, first-is, first-nothing}
 use Rattle.word.proofs.Widths.{top-suc}
 use Rattle.bits.specs.route.Fixed.{hasBits}
-use Rattle.filling.specs.route.Put.{putAt, runWords, sectionWords}
-use Rattle.filling.proofs.Puts.{put-length, put-more, put-none}
-use Rattle.filling.proofs.Sections.{free-words, held-words, no-words, passing-found, passing-none, passing-on, passing-over}
-use Rattle.filling.proofs.put_section.Statement.{statement}
-use Rattle.filling.proofs.put_section.Tie as tie
+use Rattle.putting.specs.route.Put.{putAt, runWords, sectionWords}
+use Rattle.putting.proofs.Puts.{put-length, put-more, put-none}
+use Rattle.putting.proofs.Words.{free-words, held-words, no-words, passing-found, passing-none, passing-on, passing-over}
+use Rattle.putting.proofs.put_section.Statement.{statement}
+use Rattle.putting.proofs.put_section.Tie as tie
 
 abbrev Inv-loop : tie.InvT-loop
 Inv-loop p out₀ place last fixed first x₀ at₀ out x at =
