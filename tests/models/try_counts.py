@@ -9,17 +9,16 @@ from seen import Seen
 
 
 ROOMS = (0, 1, 2, 3, 7, 256)
-EVERY = len(ROOMS)
 
 
-# In pieces of the size whose turn it is, or of every size, and from every word.
-def tried(seen, w, rules, turn=EVERY):
+# In pieces of every size, and from every word where that is asked for.
+def tried(seen, w, rules, each=True):
     for edition in (NEW, OLD):
         assert accepted(w, edition, rules)
         seen.count(w, rules)
-        for room in ROOMS if turn == EVERY else [ROOMS[turn]]:
+        for room in ROOMS:
             seen.pieces(w, rules, 0, repeat(room) if room else [0])
-        if turn == EVERY:
+        if each:
             for start in range(top(w) + 1):
                 seen.pieces(w, rules, start, [2])
 
@@ -30,7 +29,7 @@ def all_rules():
         for i in range(rule_count(w)):
             rule = numbered(i, w)
             if rule == taken(rule):
-                tried(seen, w, [rule], EVERY if w < 4 else (i + i // 16) % EVERY)
+                tried(seen, w, [rule], each=w < 4)
     return seen
 
 

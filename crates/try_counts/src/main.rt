@@ -3,9 +3,10 @@
 // The counts, of which each is even, as every sheet is tried in either edition. rules: each rule that a sheet takes by itself, at the widths
 // 1 to 5: of w bits forms 1, 2, 3 and 8 have 4^w pairs of constants and two senses, forms 4, 5 and 6 2^w constants and two senses, and form 7
 // 3^w masks with a value, 8 * 4^w + 6 * 2^w + 3^w in all: 47 + 161 + 587 + 2225 + 8627 = 11647. drawn has as many sheets as its loop
-// makes, of up to 200 rules. Each sheet is counted once, and listed from 0 up to the end in pieces of 0, 1, 2, 3, 7 and 256 words, and from
-// every word in a piece of 2; a rule of 4 or 5 bits is listed in pieces of one size, each in its turn. known: the words of case 2, right
-// once and wrong in five ways, of which a count tells three and a listing four.
+// makes, of up to 200 rules. Each sheet is counted once, and listed from 0 up to the end in pieces of 0, 1, 2, 3, 7 and 256 words: m words
+// in pieces of r are m / r + 1 listings, or m / r where r parts them evenly and the top word is one of them, and a piece of 0 is one. But for
+// the rules of 4 and 5 bits it is listed from every word in a piece of 2, too. known: the words of case 2, right once and wrong in five
+// ways, of which a count tells three and a listing four.
 ghost use Prim.Native.Nat.{_≤_};
 ghost use Rattle.rule.specs.Meaning.{RULES};
 ghost use Rattle.trial_direct.specs.Trial.{Narrow};
@@ -31,11 +32,14 @@ use word::Width;
 // How many sheets are drawn.
 const SHEETS: u64 = 200;
 
-// The turn of a sheet that is listed in pieces of every size, and from every word; else the size has the turn's number.
-const EVERY: u64 = pieces::SIZES + 1;
+// How many sizes of pieces there are, with all words in one.
+const SIZES: u64 = pieces::SIZES + 1;
 
 // The rooms that a listing from every word has.
 const PAIR: usize = 2;
+
+// The bits from which on a rule by itself is not listed from every word, so that the run stays short.
+const WIDE: u64 = 4;
 
 fn main() {
     all_rules().print(b"rules");
@@ -57,22 +61,14 @@ fn of_width(width: Width) -> Seen
 {
     let mut seen = Seen::none();
     let mut table = [0; direct::TABLE];
+    let each = width.bits < WIDE;
     for i in 0..rules::count(width) {
         let rule = rules::numbered(i, width);
         if corners::is_taken(rule) {
-            let turn = turn(i, width);
-            seen = seen.plus(on_sheet([rule; Rule::LIMIT], 1, width, turn, &mut table));
+            seen = seen.plus(on_sheet([rule; Rule::LIMIT], 1, width, each, &mut table));
         }
     }
     seen
-}
-
-// The turn of a rule: at the widths 4 and 5 one size each, so that with each form every size is tried on many constants.
-fn turn(i: u64, width: Width) -> u64 {
-    if width.bits < 4 {
-        return EVERY;
-    }
-    std::num::wrapping_add_u64(i, i / 16) % EVERY
 }
 
 // Sheets of any number of rules.
@@ -94,17 +90,17 @@ fn drawn_sheet(s: u64, table: &mut [u8; direct::TABLE]) -> Seen {
         sheets::all_taken(draws::rules(s, n, width), n),
         n,
         width,
-        EVERY,
+        true,
         &mut *table,
     )
 }
 
-// The first n rules, counted and listed in both editions.
+// The first n rules, counted and listed in both editions, from every word where that is asked for.
 fn on_sheet(
     rules: [Rule; Rule::LIMIT],
     n: usize,
     width: Width,
-    turn: u64,
+    each: bool,
     table: &mut [u8; direct::TABLE],
 ) -> Seen
     requires { ⌜ Narrow (width .bits) ⌝ }
@@ -116,8 +112,8 @@ fn on_sheet(
     direct::fill(rules, n, width, &mut *table);
     let words = walked(&*table, n, direct::size(width));
     let bits = width.bits;
-    let new = in_edition(Edition::New, bits, rules, n, words, turn);
-    new.plus(in_edition(Edition::Old, bits, rules, n, words, turn))
+    let new = in_edition(Edition::New, bits, rules, n, words, each);
+    new.plus(in_edition(Edition::Old, bits, rules, n, words, each))
 }
 
 // All words that fit, one after another.
@@ -151,7 +147,7 @@ fn in_edition(
     rules: [Rule; Rule::LIMIT],
     n: usize,
     words: Words,
-    turn: u64,
+    each: bool,
 ) -> Seen
     requires { ⌜ n ≤ RULES ⌝ }
 {
@@ -159,13 +155,13 @@ fn in_edition(
     let sheet = answer.sheet;
     let total = Total::of(words.n as u64);
     let mut seen = Seen::counted(total, total.is_counted(sheet));
-    if turn < EVERY {
-        return seen.plus(pieces::alike(sheet, words, pieces::size(turn)));
-    }
-    for i in 0..EVERY {
+    for i in 0..SIZES {
         seen = seen.plus(pieces::alike(sheet, words, pieces::size(i)));
     }
-    seen.plus(pieces::from_each(sheet, words, PAIR))
+    if each {
+        return seen.plus(pieces::from_each(sheet, words, PAIR));
+    }
+    seen
 }
 
 // The words of case 2, from 11 to 14, and what is wrong about them.

@@ -8,8 +8,7 @@ pub in-edition-spec : {M : Type 1} → statement M
 in-edition-spec =
     tie.close
     (tie.spec
-    (λ bits n words turn sheet seen₀ i₀ seen i. Unit)
-    (λ bits n words turn sheet seen₀ i₀ seen i. 6 - i)
+    (λ bits n words each sheet seen₀ i₀ seen i. Unit)
+    (λ bits n words each sheet seen₀ i₀ seen i. 6 - i)
     (search needs) (search needs) (search needs) (search needs) (search needs) (search needs) (search needs) (search needs)
-    (search needs) (search needs) (search needs) (search needs) (search needs) (search needs) (search needs) (search needs)
-    (search needs) (search needs))
+    (search needs) (search needs) (search needs) (search needs) (search needs) (search needs) (search needs))

@@ -8,7 +8,7 @@ pub of-width-spec : {M : Type 1} → statement M
 of-width-spec =
     tie.close
     (tie.spec
-    (λ width seen₀ table₀ i₀ i-end seen table i. Unit)
-    (λ width seen₀ table₀ i₀ i-end seen table i. i-end - i)
+    (λ width seen₀ table₀ each i₀ i-end seen table i. Unit)
+    (λ width seen₀ table₀ each i₀ i-end seen table i. i-end - i)
     (search needs) (search needs) (search needs) (search needs) (search needs) (search needs) (search needs) (search needs)
-    (search needs) (search needs) (search needs) (search needs))
+    (search needs) (search needs) (search needs))
