@@ -10,6 +10,7 @@ use lib.Seq.{take-all}
 use Rattle.word.specs.declared.Edition.{Edition}
 use Rattle.word.specs.declared.Edition.the-variants.{New, Old}
 use Rattle.word.specs.Edition.{terms}
+use Rattle.word.proofs.Tests.{both-pass}
 use Rattle.hex.specs.Hex.{allDigits, isDigit, number}
 use Rattle.chain.specs.Links.{link}
 use Rattle.fields.specs.Answers.{LINKED, linkLine}
@@ -17,13 +18,12 @@ use Rattle.fields.specs.Fields.{BYTE, InDigits, Line, WORD, byte, digitsIn}
 use Rattle.fields.proofs.Fields.{digits-digits, fields-read, fieldsAt, length-digits, total}
 use Rattle.linked.specs.declared.Linked.the-variants.{At}
 use Rattle.linked.specs.Linked.{bare, bareEnd, endOf, isLink, linkIn, linkOf}
-use Rattle.linked.proofs.Parts.{parts}
 
 digit-at : (l : List ℕ) (i : ℕ) → allDigits l ≡ true → i < length l → isDigit (getD l i 0) ≡ true
 unfolding allDigits
 digit-at [] i t h = absurd (omega arith)
-digit-at (b ∷ l) zero t h = parts (isDigit b) (allDigits l) t .0
-digit-at (b ∷ l) (suc i) t h = digit-at l i (parts (isDigit b) (allDigits l) t .1) (omega arith)
+digit-at (b ∷ l) zero t h = both-pass (isDigit b) (allDigits l) t .0
+digit-at (b ∷ l) (suc i) t h = digit-at l i (both-pass (isDigit b) (allDigits l) t .1) (omega arith)
 
 -- digits have no byte 13 at their end
 bare-digits : (l : List ℕ) → allDigits l ≡ true → 0 < length l → bare l ≡ l
