@@ -7,24 +7,16 @@ use native.Mathlib.Nat.{le-refl}
 use native.Mathlib.Omega.{arith}
 use Rattle.word.specs.Search.{count}
 use Rattle.word.proofs.Tests.{same-test}
+use Rattle.rank.proofs.Pairs.{count-most}
 use Rattle.fitting.proofs.Passing.{count-split}
 use Rattle.covering.specs.Check.{everyWord}
 use Rattle.covering.proofs.EveryWord.{each-every, every-each}
 
 module _ (f : ℕ → Bool) where
-  few : (k p : ℕ) → count f k p ≤ k
-  unfolding count
-  few zero p = omega arith
-  few (suc k) p = go (f p) refl (few k (suc p))
-    where
-      go : (b : Bool) → f p ≡ b → count f k (suc p) ≤ k → count f (suc k) p ≤ suc k
-      go true e h = rw (e, count) (omega arith)
-      go false e h = rw (e, count) (omega arith)
-
   counted-each : (k p : ℕ) → count f k p ≡ k → (x : ℕ) → p ≤ x → x < p + k → f x ≡ true
   unfolding count
   counted-each zero p e x a b = absurd (omega arith)
-  counted-each (suc k) p e x a b = go (f p) refl (few k (suc p)) (λ d h. counted-each k (suc p) d x h (omega arith))
+  counted-each (suc k) p e x a b = go (f p) refl (count-most f k (suc p)) (λ d h. counted-each k (suc p) d x h (omega arith))
     where
       go : (v : Bool) → f p ≡ v → count f k (suc p) ≤ k → (count f k (suc p) ≡ k → suc p ≤ x → f x ≡ true) → f x ≡ true
       go true d l later = at (ℕ-discrete x p)
