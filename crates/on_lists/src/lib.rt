@@ -1,9 +1,10 @@
 // The calls without a sheet to keep: on a rule, and on a list of rules.
 ghost use mathlib.Core.Path.{_≡_};
 ghost use Rattle.handing.specs.Handed.{openingOf, ruleIn, rulesIn, weighNumber, weighed};
-ghost use Rattle.making.specs.Made.{makes};
+ghost use Rattle.making.specs.Made.{given, makes};
 ghost use Rattle.on_lists.specs.Lists.{ListedIn, checkNumbers, countNumbers, shareIn};
 use handing::NUMBERS;
+use making::Made;
 use word::Width;
 
 // Whether a word meets a rule.
@@ -21,6 +22,13 @@ pub fn meets(width: u64, rule: &[u64; NUMBERS], word: u64, meets: &mut u64) -> u
     0
 }
 
+// What a list makes of a fresh sheet.
+fn made_of(width: u64, edition: u64, rules: &[[u64; NUMBERS]]) -> Made
+    ensures { λ r. ⌜ r ≡ given (makes (openingOf width edition) (rulesIn (now (rules .entry)))) ⌝ }
+{
+    making::make(handing::opening(width, edition), rules)
+}
+
 // Checks a chain of any maker against a list.
 pub fn check(
     width: u64,
@@ -32,14 +40,13 @@ pub fn check(
     ensures { λ r. ⌜ r ≡ makes (openingOf width edition) (rulesIn (now (rules .entry))) .number ⌝ }
     ensures { λ _. ⌜ now (answer .exit) ≡ checkNumbers (makes (openingOf width edition) (rulesIn (now (rules .entry)))) (now (links .entry)) ⌝ }
 {
-    let made = making::make(handing::opening(width, edition), rules);
+    let made = made_of(width, edition, rules);
     let place = made.place as u64;
     if made.number != 0 {
         *answer = [0, place];
         return made.number;
     }
-    let sheet = made.sheet;
-    *answer = [checker::accepts(sheet, links) as u64, place];
+    *answer = [checker::accepts(made.sheet, links) as u64, place];
     0
 }
 
@@ -48,14 +55,13 @@ pub fn count(width: u64, edition: u64, rules: &[[u64; NUMBERS]], answer: &mut [u
     ensures { λ r. ⌜ r ≡ shareIn (makes (openingOf width edition) (rulesIn (now (rules .entry)))) .number ⌝ }
     ensures { λ _. ⌜ now (answer .exit) ≡ countNumbers (makes (openingOf width edition) (rulesIn (now (rules .entry)))) ⌝ }
 {
-    let made = making::make(handing::opening(width, edition), rules);
+    let made = made_of(width, edition, rules);
     let place = made.place as u64;
     if made.number != 0 {
         *answer = [0, 0, place];
         return made.number;
     }
-    let sheet = made.sheet;
-    let share = counting::count(sheet);
+    let share = counting::count(made.sheet);
     *answer = [share.quotient, share.remainder, place];
     share.number
 }
@@ -71,14 +77,13 @@ pub fn list(
 ) -> u64
     ensures { λ r. ⌜ ListedIn (makes (openingOf width edition) (rulesIn (now (rules .entry)))) start (now (words .entry)) (now (words .exit)) (now (answer .exit)) r ⌝ }
 {
-    let made = making::make(handing::opening(width, edition), rules);
+    let made = made_of(width, edition, rules);
     let place = made.place as u64;
     if made.number != 0 {
         *answer = [0, place];
         return made.number;
     }
-    let sheet = made.sheet;
-    let listing = listing::list(sheet, start, &mut *words);
+    let listing = listing::list(made.sheet, start, &mut *words);
     *answer = [listing.written as u64, place];
     listing.number
 }
