@@ -20,8 +20,7 @@ pub fn accepts(sheet: Sheet, links: &[u64]) -> bool
         return false;
     }
     let mut rows = [[0; NUMBERS]; Rule::LIMIT];
-    let mut marks: [usize; Sheet::MARKS] = [0; Sheet::MARKS];
-    let head = sheet::laid::lay_out(sheet, &mut rows, &mut marks);
+    let head = laid_rows::lay_out(sheet, &mut rows);
     let width = head.opening.width;
     let count = head.counts.count;
     let fixed = head.fixed;

@@ -17,8 +17,7 @@ pub fn first(sheet: Sheet, links: &[u64]) -> Finding
     ensures { λ r. ⌜ isYes r ≡ accepts sheet (now (links .entry)) ⌝ }
 {
     let mut rows = [[0; NUMBERS]; Rule::LIMIT];
-    let mut marks: [usize; Sheet::MARKS] = [0; Sheet::MARKS];
-    let head = sheet::laid::lay_out(sheet, &mut rows, &mut marks);
+    let head = laid_rows::lay_out(sheet, &mut rows);
     let width = head.opening.width;
     let count = head.counts.count;
     let fixed = head.fixed;

@@ -20,8 +20,7 @@ pub fn count(sheet: Sheet) -> Share
     ensures { λ r. ⌜ Counted sheet r ⌝ }
 {
     let mut rows = [[0; NUMBERS]; Rule::LIMIT];
-    let mut marks: [usize; Sheet::MARKS] = [0; Sheet::MARKS];
-    let head = sheet::laid::lay_out(sheet, &mut rows, &mut marks);
+    let head = laid_rows::lay_out(sheet, &mut rows);
     let number = slate::refuses(head);
     if 0 < number {
         return refusal(number);

@@ -23,8 +23,7 @@ pub fn all_at(sheet: Sheet, column: u64) -> Cell
     ensures { λ r. ⌜ r ≡ allCell sheet column ⌝ }
 {
     let mut rows = [[0; NUMBERS]; Rule::LIMIT];
-    let mut marks: [usize; Sheet::MARKS] = [0; Sheet::MARKS];
-    let head = sheet::laid::lay_out(sheet, &mut rows, &mut marks);
+    let head = laid_rows::lay_out(sheet, &mut rows);
     let bits = head.opening.width;
     let count = head.counts.count;
     let fixed = head.fixed;
@@ -46,8 +45,7 @@ pub fn rule_at(sheet: Sheet, number: usize, column: u64) -> Cell
     ensures { λ r. ⌜ r ≡ ruleCell sheet number column ⌝ }
 {
     let mut rows = [[0; NUMBERS]; Rule::LIMIT];
-    let mut marks: [usize; Sheet::MARKS] = [0; Sheet::MARKS];
-    let head = sheet::laid::lay_out(sheet, &mut rows, &mut marks);
+    let head = laid_rows::lay_out(sheet, &mut rows);
     let bits = head.opening.width;
     let in_force = head.counts.count;
     if !is_drawn(head.stands, bits, column) {

@@ -1,5 +1,5 @@
 -- `all_at` meets its contract: what is drawn of the record as it is laid out is drawn of the record. Assumes nothing.
-use mathlib.Core.Path.{_≡_, sym, ap, _∙_, subst}
+use mathlib.Core.Path.{_≡_, refl, sym, ap, _∙_, subst}
 use Prim.Native.Nat.{ℕ, _≤_, _<_}
 use mathlib.Core.Bool.{true, false}
 use native.Mathlib.Omega.{arith}
@@ -11,7 +11,6 @@ use Rattle.band.specs.declared.Run.{Run}
 use Rattle.rows.specs.route.Rows.{rulesIn}
 use Rattle.sheet.specs.declared.Sheet.{Sheet}
 use Rattle.sheet.specs.route.Held.{packed}
-use Rattle.sheet.proofs.ByValue.{empty-room}
 use Rattle.checker.proofs.Held.{lie-so, own-rules, tidy-so, width-so}
 use Rattle.shade.specs.declared.Cell.{Cell}
 use Rattle.shade.specs.Cell.{cellOf}
@@ -23,43 +22,43 @@ use Rattle.picture.proofs.all_at.Statement.{statement}
 use Rattle.picture.proofs.all_at.Tie as tie
 
 abbrev sheet-of : tie.After-lay-out → Sheet
-sheet-of o = packed (o .lay-out .result) (o .lay-out .last .1 .0) (o .lay-out .last .1 .1 .0)
+sheet-of o = packed (o .lay-out .result) (o .lay-out .last .1 .0) (o .lay-out .ensures .marks)
 
 abbrev column : tie.After-lay-out → ℕ
-column o = o .before .before .before .args .column
+column o = o .before .before .args .column
 
 -- what is right of the record as it is laid out is right of the record
-right : (o : tie.After-lay-out) (r : Cell) → r ≡ allCell (sheet-of o) (column o) → r ≡ allCell (o .before .before .before .args .sheet) (column o)
-right o r e = subst (λ (s : Sheet). r ≡ allCell s (column o)) (o .lay-out .ensures .0) e
+right : (o : tie.After-lay-out) (r : Cell) → r ≡ allCell (sheet-of o) (column o) → r ≡ allCell (o .before .before .args .sheet) (column o)
+right o r e = subst (λ (s : Sheet). r ≡ allCell s (column o)) (o .lay-out .ensures .packs) e
 
 lay-out-requires : tie.Need-lay-out-requires
-lay-out-requires c κs = empty-room
+lay-out-requires c κs = refl
 
 is-drawn-requires : tie.Need-is-drawn-requires
-is-drawn-requires c κs = width-so (c .lay-out .ensures .1)
+is-drawn-requires c κs = width-so (c .lay-out .ensures .held)
 
 -- the test, as it is defined
 told : (a : tie.After-is-drawn) → let o = a .before in a .is-drawn .result ≡ drawable (sheet-of o) (column o)
-told a = let o = a .before in a .is-drawn .ensures ∙ drawn-so (o .lay-out .ensures .1) (column o)
+told a = let o = a .before in a .is-drawn .ensures ∙ drawn-so (o .lay-out .ensures .held) (column o)
 
 returns : tie.Need-returns
 returns c =
     let a = c .before in
     let o = a .before in
-    right o _ (all-as (o .lay-out .ensures .1) (column o) false (sym (not-true _ (c .if1 .taken)) ∙ told a))
+    right o _ (all-as (o .lay-out .ensures .held) (column o) false (sym (not-true _ (c .if1 .taken)) ∙ told a))
 
 -- what the test shows
 drawn : (e : tie.Else1) → let o = e .before .before in let h = o .lay-out .result in
     (h .stands ≡ true) × (h .opening .width ≡ 0 → ⊥) × (column o < columns (h .opening .width))
 drawn e =
     let o = e .before .before in
-    of-drawn (o .lay-out .ensures .1) (column o) (sym (e .before .is-drawn .ensures) ∙ not-false _ (e .if1 .left))
+    of-drawn (o .lay-out .ensures .held) (column o) (sym (e .before .is-drawn .ensures) ∙ not-false _ (e .if1 .left))
 
 words-requires : tie.Need-words-requires
 words-requires c κs =
     let o = c .before .before in
     let d = drawn c in
-    (width-so (o .lay-out .ensures .1) (d .0) (d .1), d .2)
+    (width-so (o .lay-out .ensures .held) (d .0) (d .1), d .2)
 
 -- the words of the column
 module _ (d : tie.After-words) where
@@ -84,7 +83,7 @@ module _ (d : tie.After-words) where
 stretch-requires : tie.Need-stretch-requires
 stretch-requires c κs =
     let d = c .before in
-    let h = laid d .lay-out .ensures .1 in
+    let h = laid d .lay-out .ensures .held in
     let s = drawn (found d) .0 in
     let z = drawn (found d) .1 in
     (width-so h s z, (lie-so h s z, (tidy-so h s z, omega (arith, ends d, from-is d, to-is d), omega (arith, ends d, to-is d))))
@@ -94,7 +93,7 @@ unfolding columnCell
 returns-2 c =
     let d = c .before .before in
     let o = laid d in
-    let h = o .lay-out .ensures .1 in
+    let h = o .lay-out .ensures .held in
     let s = drawn (found d) .0 in
     let z = drawn (found d) .1 in
     let rs = take (o .lay-out .result .counts .count) (rulesIn (o .lay-out .last .1 .0)) in

@@ -16,7 +16,6 @@ use Rattle.chain.specs.Links.{nth}
 use Rattle.covering.proofs.Reasons.{lawful-at}
 use Rattle.sheet.specs.declared.Sheet.{Sheet}
 use Rattle.sheet.specs.route.Held.{packed}
-use Rattle.sheet.proofs.ByValue.{empty-room}
 use Rattle.checker.proofs.Held.{lie-so, own-rules, width-so}
 use Rattle.shade.specs.declared.Cell.{Cell}
 use Rattle.shade.specs.Cell.{cellOf}
@@ -28,40 +27,40 @@ use Rattle.picture.proofs.rule_at.Statement.{statement}
 use Rattle.picture.proofs.rule_at.Tie as tie
 
 abbrev sheet-of : tie.After-lay-out → Sheet
-sheet-of o = packed (o .lay-out .result) (o .lay-out .last .1 .0) (o .lay-out .last .1 .1 .0)
+sheet-of o = packed (o .lay-out .result) (o .lay-out .last .1 .0) (o .lay-out .ensures .marks)
 
 abbrev column : tie.After-lay-out → ℕ
-column o = o .before .before .before .args .column
+column o = o .before .before .args .column
 
 abbrev number : tie.After-lay-out → ℕ
-number o = o .before .before .before .args .number
+number o = o .before .before .args .number
 
 -- what is right of the record as it is laid out is right of the record
-right : (o : tie.After-lay-out) (r : Cell) → r ≡ ruleCell (sheet-of o) (number o) (column o) → r ≡ ruleCell (o .before .before .before .args .sheet) (number o) (column o)
-right o r e = subst (λ (s : Sheet). r ≡ ruleCell s (number o) (column o)) (o .lay-out .ensures .0) e
+right : (o : tie.After-lay-out) (r : Cell) → r ≡ ruleCell (sheet-of o) (number o) (column o) → r ≡ ruleCell (o .before .before .args .sheet) (number o) (column o)
+right o r e = subst (λ (s : Sheet). r ≡ ruleCell s (number o) (column o)) (o .lay-out .ensures .packs) e
 
 lay-out-requires : tie.Need-lay-out-requires
-lay-out-requires c κs = empty-room
+lay-out-requires c κs = refl
 
 is-drawn-requires : tie.Need-is-drawn-requires
-is-drawn-requires c κs = width-so (c .lay-out .ensures .1)
+is-drawn-requires c κs = width-so (c .lay-out .ensures .held)
 
 -- the test, as it is defined
 told : (a : tie.After-is-drawn) → let o = a .before in a .is-drawn .result ≡ drawable (sheet-of o) (column o)
-told a = let o = a .before in a .is-drawn .ensures ∙ drawn-so (o .lay-out .ensures .1) (column o)
+told a = let o = a .before in a .is-drawn .ensures ∙ drawn-so (o .lay-out .ensures .held) (column o)
 
 returns : tie.Need-returns
 returns c =
     let a = c .before in
     let o = a .before in
-    right o _ (rule-as (o .lay-out .ensures .1) (column o) false (sym (not-true _ (c .if1 .taken)) ∙ told a) (number o) refl)
+    right o _ (rule-as (o .lay-out .ensures .held) (column o) false (sym (not-true _ (c .if1 .taken)) ∙ told a) (number o) refl)
 
 -- what the test shows
 drawn : (e : tie.Else1) → let o = e .before .before in let h = o .lay-out .result in
     (h .stands ≡ true) × (h .opening .width ≡ 0 → ⊥) × (column o < columns (h .opening .width))
 drawn e =
     let o = e .before .before in
-    of-drawn (o .lay-out .ensures .1) (column o) (sym (e .before .is-drawn .ensures) ∙ not-false _ (e .if1 .left))
+    of-drawn (o .lay-out .ensures .held) (column o) (sym (e .before .is-drawn .ensures) ∙ not-false _ (e .if1 .left))
 
 drawn-true : (e : tie.Else1) → let o = e .before .before in true ≡ drawable (sheet-of o) (column o)
 drawn-true e = sym (not-false _ (e .if1 .left)) ∙ told (e .before)
@@ -71,13 +70,13 @@ returns-2 c =
     let e = c .before in
     let o = e .before .before in
     right o _
-    (rule-as (o .lay-out .ensures .1) (column o) true (drawn-true e) (number o)
+    (rule-as (o .lay-out .ensures .held) (column o) true (drawn-true e) (number o)
     (le-ltb (number o) (o .lay-out .result .counts .count) (omega (arith, c .if2 .taken))))
 
 words-requires : tie.Need-words-requires
 words-requires c κs =
     let d = drawn (c .before) in
-    (width-so (c .before .before .before .lay-out .ensures .1) (d .0) (d .1), d .2)
+    (width-so (c .before .before .before .lay-out .ensures .held) (d .0) (d .1), d .2)
 
 -- the words of the column, and the rule at its place
 module _ (d : tie.After-words) where
@@ -107,19 +106,19 @@ module _ (d : tie.After-words) where
 
   count-is : length own ≡ laid .lay-out .result .counts .count
   count-is =
-      let h = laid .lay-out .ensures .1 in
+      let h = laid .lay-out .ensures .held in
       let l = lie-so h (drawn found .0) (drawn found .1) in
       length-take-le _ (rulesIn (laid .lay-out .last .1 .0)) (omega (arith, l .count, h .room .rows-places, length-map (laid .lay-out .last .1 .0) ruleIn))
 
   lawful : Lawful bits (nth own (number laid))
   lawful =
-      let h = laid .lay-out .ensures .1 in
+      let h = laid .lay-out .ensures .held in
       lawful-at bits own (number laid) (omega (arith, count-is, there)) (own-rules h (drawn found .0) (drawn found .1) .0)
 
 rule-at-requires : tie.Need-rule-at-requires
 rule-at-requires c κs =
     let d = c .before in
-    let h = laid d .lay-out .ensures .1 in
+    let h = laid d .lay-out .ensures .held in
     omega (arith, there d, lie-so h (drawn (found d) .0) (drawn (found d) .1) .count)
 
 -- the rule that is read
@@ -131,7 +130,7 @@ read a =
 alone-requires : tie.Need-alone-requires
 alone-requires c κs =
     let d = c .before .before in
-    let h = laid d .lay-out .ensures .1 in
+    let h = laid d .lay-out .ensures .held in
     (width-so h (drawn (found d) .0) (drawn (found d) .1), (subst (Lawful (bits d)) (sym (read c)) (lawful d), omega (arith, ends d, from-is d, to-is d), omega (arith, ends d, to-is d)))
 
 returns-3 : tie.Need-returns-3
@@ -140,7 +139,7 @@ returns-3 c =
     let a = c .before in
     let d = a .before .before in
     let o = laid d in
-    let h = o .lay-out .ensures .1 in
+    let h = o .lay-out .ensures .held in
     right o _
     (c .alone .ensures
     ∙ ap (λ (r : Rule). cellOf (meets (bits d) r) (d .words .result .from) (d .words .result .to)) (read a)
