@@ -2,28 +2,16 @@
 ghost use mathlib.Core.Path.{_≡_};
 ghost use Prim.Native.Nat.{_≤_};
 ghost use lib.ListN.{length, take};
-ghost use Rattle.slate.specs.route.Held.{Held};
-ghost use Rattle.sheet.specs.route.Held.{packed};
 ghost use Rattle.batch.specs.Batch.{Gives, MOST, batches};
-ghost use Rattle.batch.specs.route.Course.{Came};
 ghost use Rattle.batch.specs.route.Route.{batchAt};
 use crate::Batch;
+use adds::add_all;
 use page::Opening;
 use rows::NUMBERS;
 use rule::Rule;
-use sheet::Head;
 use sheet::Reply;
 use sheet::Sheet;
 use sheet::laid;
-use word::Edition;
-
-// How far the adds came: 0 or the number of the first refusal, the head as it is then, and the place of the refused rule or how many rules
-// there were.
-pub struct Course {
-    pub number: u64,
-    pub head: Head,
-    pub place: usize,
-}
 
 // Opens the blank sheet, adds the first rules and asks, up to the first refusal. A refused opening is said at how many rules were given.
 pub fn vet(
@@ -55,43 +43,6 @@ pub fn vet(
     }
     let reply = laid::ask(head, &rows, &marks, &mut *out);
     placed(reply, place)
-}
-
-// Adds the first rules in order, up to the first refusal.
-fn add_all(
-    head: Head,
-    rows: &mut [[u64; NUMBERS]; Rule::LIMIT],
-    marks: &mut [usize; Sheet::MARKS],
-    edition: Edition,
-    rules: [Rule; Batch::MOST],
-    count: usize,
-) -> Course
-    requires { ⌜ Held head (now rows) (now marks) ⌝ }
-    requires { ⌜ count ≤ MOST ⌝ }
-    ensures { λ r. ⌜ Came edition (take count rules) (packed head (now (rows .entry)) (now (marks .entry))) (packed (r .head) (now (rows .exit)) (now (marks .exit))) (r .number) (r .place) ⌝ }
-    ensures { λ r. ⌜ Held (r .head) (now (rows .exit)) (now (marks .exit)) ⌝ }
-{
-    let mut head = head;
-    let mut place = 0;
-    while 0 < count - place {
-        let said = laid::add(head, &mut *rows, &mut *marks, edition, rules[place]);
-        head = said.head;
-        let number = said.number;
-        let next = place + 1;
-        if number != 0 {
-            return Course {
-                number,
-                head,
-                place,
-            };
-        }
-        place = next;
-    }
-    Course {
-        number: 0,
-        head,
-        place,
-    }
 }
 
 // What a batch answers, with the place beside it.

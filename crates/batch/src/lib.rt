@@ -7,6 +7,7 @@ ghost use Rattle.batch.specs.route.Route.{batchAt, few};
 
 mod course;
 
+use adds::Course;
 use page::Opening;
 use rule::Rule;
 use sheet::Reply;
@@ -19,7 +20,7 @@ pub struct Batch {
 
 impl Batch {
     // One rule more than a sheet takes.
-    pub const MOST: usize = Rule::LIMIT + 1;
+    pub const MOST: usize = Course::MOST;
 }
 
 // Opens a sheet, adds each rule in order and asks, up to the first refusal. The adds are of the opening's edition. The rule after as many

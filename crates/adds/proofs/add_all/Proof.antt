@@ -9,11 +9,11 @@ use Rattle.page.specs.Reached.{Reached}
 use Rattle.slate.specs.route.Held.{Held}
 use Rattle.sheet.specs.route.Held.{packed}
 use Rattle.sheet.specs.Record.{fresh}
-use Rattle.batch.specs.route.Course.{Under}
+use Rattle.adds.specs.route.Course.{Under}
 use Rattle.sheet.proofs.Added.{add-after}
-use Rattle.batch.proofs.UnderWay.{begun-way, first-at, first-inside, step-way, stop-way}
-use Rattle.batch.proofs.course.add_all.Statement.{statement}
-use Rattle.batch.proofs.course.add_all.Tie as tie
+use Rattle.adds.proofs.UnderWay.{begun-way, first-at, first-inside, step-way, stop-way}
+use Rattle.adds.proofs.add_all.Statement.{statement}
+use Rattle.adds.proofs.add_all.Tie as tie
 
 abbrev Inv-loop : tie.InvT-loop
 Inv-loop rows₀ marks₀ edition count rules head₀ place₀ rows marks head place =
@@ -58,7 +58,7 @@ returns c =
     let here = inside a in
     let done = add-after (l .loop .inv .1) (a .add .ensures) in (
       record {
-        refused = λ z pg r q. stop-way (s .edition) _ (l .loop .place) (first-inside (s .t5) (s .count) _ here (long (l .before))) (l .loop .inv .2 pg r q) (first-at (s .t5) (s .count) _ here) done z;
+        refused = λ z pg r q. stop-way (s .edition) _ (l .loop .place) (first-inside (s .t5) (s .count) _ here (long (l .before))) (l .loop .inv .2 pg r q) (first-at (s .t5) (s .count) _ here) done;
         went = λ e. absurd (c .if1 .taken e);
       },
       done .held,
