@@ -43,10 +43,11 @@ pub fn check(
     let made = made_of(width, edition, rules);
     let place = made.place as u64;
     if made.number != 0 {
-        *answer = [0, place];
+        *answer = [false as u64, place];
         return made.number;
     }
-    *answer = [checker::accepts(made.sheet, links) as u64, place];
+    let yes = checker::accepts(made.sheet, links) as u64;
+    *answer = [yes, place];
     0
 }
 
@@ -84,6 +85,7 @@ pub fn list(
         return made.number;
     }
     let listing = listing::list(made.sheet, start, &mut *words);
-    *answer = [listing.written as u64, place];
+    let written = listing.written as u64;
+    *answer = [written, place];
     listing.number
 }

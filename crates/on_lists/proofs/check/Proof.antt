@@ -7,6 +7,9 @@ use Rattle.on_lists.proofs.check.Tie as tie
 made-of-requires : tie.Need-made-of-requires
 made-of-requires c κs = search needs
 
+cast-t10 : tie.Need-cast-t10
+cast-t10 c = search needs
+
 returns : tie.Need-returns
 returns c =
     let made = c .before .before .before in
@@ -16,8 +19,8 @@ returns c =
 accepts-requires : tie.Need-accepts-requires
 accepts-requires c κs = search needs
 
-cast-t9 : tie.Need-cast-t9
-cast-t9 c = search needs
+cast-yes : tie.Need-cast-yes
+cast-yes c = search needs
 
 returns-2 : tie.Need-returns-2
 returns-2 c =
@@ -27,4 +30,4 @@ returns-2 c =
 
 pub check-spec : {M : Type 1} → statement M
 check-spec =
-    tie.close (tie.spec made-of-requires returns accepts-requires cast-t9 returns-2)
+    tie.close (tie.spec made-of-requires cast-t10 returns accepts-requires cast-yes returns-2)
