@@ -1,19 +1,19 @@
 // A slate: a sheet laid out in rows and marks that are lent, and a small head by value. Here are its head, and what the calls on
 // it share. Nothing here knows the record that it stands for.
 mod clearing;
-mod counting;
-mod making;
+mod heads;
+mod numbering;
 mod refusing;
 
 use bits::Fixed;
 pub use clearing::clear_all;
 pub use clearing::clear_waiting;
-pub use counting::in_force;
 pub use marks::set_marks;
 pub use noting::Note;
 pub use noting::no_rules;
 pub use noting::note_at;
 pub use noting::put_note;
+pub use numbering::in_force;
 use page::Opening;
 pub use refusing::refuses;
 pub use refusing::refuses_rule;

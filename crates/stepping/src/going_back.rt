@@ -1,7 +1,7 @@
 // Going back to the newest mark.
 ghost use Rattle.slate.specs.route.Held.{Held};
 ghost use Rattle.stepping.specs.route.Steps.{Backs};
-use crate::finding;
+use crate::seeking;
 use page::MARKS;
 use rows::NUMBERS;
 use rule::Rule;
@@ -35,7 +35,7 @@ pub fn back(head: Head, rows: &[[u64; NUMBERS]; Rule::LIMIT], marks: &[usize; MA
         bits: opening.width,
     };
     let whole = slate::no_rules(bits).kept;
-    let note = finding::find(rows, left, bits, whole);
+    let note = seeking::find(rows, left, bits, whole);
     let kept = note.kept;
     let fixed = note.fixed;
     let counts = Counts {

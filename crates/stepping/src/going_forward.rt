@@ -1,7 +1,7 @@
 // Going forward again after a step back.
 ghost use Rattle.slate.specs.route.Held.{Held};
 ghost use Rattle.stepping.specs.route.Steps.{Forwards};
-use crate::finding;
+use crate::seeking;
 use page::MARKS;
 use rows::NUMBERS;
 use rule::Rule;
@@ -37,7 +37,7 @@ pub fn forward(head: Head, rows: &[[u64; NUMBERS]; Rule::LIMIT], marks: &[usize;
     let bits = Width {
         bits: opening.width,
     };
-    let note = finding::find(rows, count, bits, old);
+    let note = seeking::find(rows, count, bits, old);
     let kept = note.kept;
     let fixed = note.fixed;
     let counts = Counts {

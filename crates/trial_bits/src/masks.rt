@@ -5,7 +5,7 @@ use crate::called;
 use bits::Fixed;
 use rule::Rule;
 use trial_direct::rules::rule;
-use trial_direct::tally::Tally;
+use trial_tally::Tally;
 use word::Found;
 use word::Width;
 

@@ -5,7 +5,7 @@ use crate::masks::Sought;
 use crate::masks::Way;
 use crate::masks::compared;
 use trial_direct::draw;
-use trial_direct::tally::Tally;
+use trial_tally::Tally;
 use word::Found;
 use word::Width;
 

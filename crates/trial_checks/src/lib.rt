@@ -9,7 +9,6 @@ use sheet::Sheet;
 use trial_direct::direct;
 use trial_direct::draw;
 use trial_direct::rules;
-use trial_direct::tally::Split;
 use trial_editions::asked;
 use trial_links::by_words;
 use trial_links::changed;
@@ -18,6 +17,7 @@ use trial_links::counts;
 use trial_links::counts::Counts;
 use trial_sheets::expected::NUMBERS;
 use trial_sheets::walk;
+use trial_tally::Split;
 use word::Edition;
 use word::Width;
 

@@ -9,10 +9,10 @@ use sheet::Answer;
 use sheet::Reply;
 use sheet::Sheet;
 use trial_direct::rules;
-use trial_direct::tally::Tally;
 use trial_sheets::expected;
 use trial_sheets::expected::Expected;
 use trial_sheets::expected::NUMBERS;
+use trial_tally::Tally;
 use verdict::Kept;
 use word::Edition;
 

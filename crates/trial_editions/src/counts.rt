@@ -1,9 +1,9 @@
 // What was compared: sheets by their verdicts, the links of their chains, and words at both ends.
-use trial_direct::tally::Split;
-use trial_direct::tally::Tally;
 use trial_sheets::expected::Expected;
 use trial_sheets::expected::LINKS;
 use trial_sheets::expected::NUMBERS;
+use trial_tally::Split;
+use trial_tally::Tally;
 
 // The sheets; their links, those among them that name the bits, and the most that a sheet has; and how many sheets have 0 for their
 // smallest word, and the top word for their largest.

@@ -3,9 +3,9 @@ use crate::asked;
 use crate::asked::UNTOUCHED;
 use rule::Rule;
 use trial_direct::rules::rule;
-use trial_direct::tally::Tally;
 use trial_sheets::expected::Expected;
 use trial_sheets::expected::NUMBERS;
+use trial_tally::Tally;
 use word::Edition;
 
 // What is right of a sheet at width 64, six expectations that are wrong in one number each, and answers of two widths.

@@ -1,6 +1,6 @@
 // How many lists of each kind were compared, by the answer, and how many answers differ.
-use trial_direct::tally::Split;
-use trial_direct::tally::Tally;
+use trial_tally::Split;
+use trial_tally::Tally;
 
 // The kinds: the ways of a chain, the chain on the sheet without its last rule, the chain on a record that is no sheet, and a drawn
 // list on a sheet that a word fits.

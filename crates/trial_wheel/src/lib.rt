@@ -2,5 +2,5 @@
 // have the bits of form 7 rules.
 pub mod bit_rules;
 pub mod meaning;
-pub mod turns;
+pub mod turning;
 pub mod wheel;

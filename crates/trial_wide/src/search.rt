@@ -7,9 +7,9 @@ use trial_sheets::expected::NUMBERS;
 use trial_wheel::bit_rules;
 use trial_wheel::bit_rules::FEW;
 use trial_wheel::meaning;
-use trial_wheel::turns;
-use trial_wheel::turns::Stretch;
-use trial_wheel::turns::TURNS;
+use trial_wheel::turning;
+use trial_wheel::turning::Stretch;
+use trial_wheel::turning::TURNS;
 use trial_wheel::wheel::Wheel;
 use word::Found;
 
@@ -60,7 +60,7 @@ pub fn around(rules: [Rule; FEW], wheel: Wheel, x: u64) -> Stretch {
     let mut from = 0;
     let mut to = wheel.top;
     for i in 0..FEW {
-        let one = turns::around(wheel, rules[i], x);
+        let one = turning::around(wheel, rules[i], x);
         if from < one.from {
             from = one.from;
         }
@@ -163,10 +163,10 @@ fn link_at(rules: [Rule; FEW], wheel: Wheel, p: u64) -> Link {
     for i in 0..FEW {
         let rule = rules[i];
         if fails(wheel, rule, p) {
-            let to = turns::reach(wheel, rule, p);
+            let to = turning::reach(wheel, rule, p);
             if is_further(link, to) {
                 link = Link {
-                    from: turns::start(wheel, rule, p),
+                    from: turning::start(wheel, rule, p),
                     to,
                     reason: i as u64,
                 };

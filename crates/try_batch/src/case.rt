@@ -5,9 +5,9 @@ use rule::Rule;
 use sheet::Reply;
 use sheet::Sheet;
 use trial_calls::answers::kept;
-use trial_direct::tally::Tally;
 use trial_lists::alike;
 use trial_lists::calls;
+use trial_tally::Tally;
 
 // What a lent number is before the call. Every number is a word of 64 bits; at this one no link of these lists begins or ends.
 const UNTOUCHED: u64 = 0x5a5a_5a5a_5a5a_5a5a;

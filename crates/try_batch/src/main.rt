@@ -12,11 +12,11 @@ use page::Opening;
 use rule::Rule;
 use trial_direct::rules::NO_FORM;
 use trial_direct::rules::rule;
-use trial_direct::tally::Tally;
 use trial_lists::alike;
 use trial_lists::parts;
 use trial_lists::parts_of;
 use trial_lists::with;
+use trial_tally::Tally;
 use word::Edition;
 
 fn main() {

@@ -10,7 +10,7 @@ use trial_bits::masks::Way;
 use trial_bits::masks::same;
 use trial_direct::direct;
 use trial_direct::rules;
-use trial_direct::tally::Tally;
+use trial_tally::Tally;
 use word::Found;
 use word::Width;
 

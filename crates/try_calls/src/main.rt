@@ -25,7 +25,7 @@ use trial_calls::sheets::opened_in;
 use trial_direct::direct::UNTOUCHED;
 use trial_direct::rules::NO_FORM;
 use trial_direct::rules::rule;
-use trial_direct::tally::Tally;
+use trial_tally::Tally;
 use word::Edition;
 
 fn main() {

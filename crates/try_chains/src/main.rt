@@ -17,13 +17,13 @@ use trial_direct::direct;
 use trial_direct::direct::UNTOUCHED;
 use trial_direct::draw;
 use trial_direct::rules;
-use trial_direct::tally::Split;
 use trial_editions::asked;
 use trial_sheets::drawn;
 use trial_sheets::expected;
 use trial_sheets::expected::Expected;
 use trial_sheets::expected::NUMBERS;
 use trial_sheets::walk;
+use trial_tally::Split;
 use word::Edition;
 use word::Width;
 

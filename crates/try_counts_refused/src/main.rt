@@ -17,7 +17,7 @@ use trial_calls::sheets::opened_in;
 use trial_counts::pieces;
 use trial_counts::refused::count_refused;
 use trial_counts::refused::list_refused;
-use trial_direct::tally::Tally;
+use trial_tally::Tally;
 use word::Edition;
 use word::Width;
 

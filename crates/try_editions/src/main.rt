@@ -6,7 +6,6 @@
 use trial_direct::direct;
 use trial_direct::draw;
 use trial_direct::rules;
-use trial_direct::tally::Tally;
 use trial_editions::asked;
 use trial_editions::asked::UNTOUCHED;
 use trial_editions::counts::Both;
@@ -14,6 +13,7 @@ use trial_editions::known;
 use trial_sheets::drawn as draws;
 use trial_sheets::expected::NUMBERS;
 use trial_sheets::walk;
+use trial_tally::Tally;
 use trial_wheel::bit_rules::FEW;
 use trial_wheel::wheel::Wheel;
 use trial_wide::search;

@@ -1,8 +1,8 @@
 // The functions that the documents show to whoever writes a crate of his own, run on the paper's numbers.
 mod batch_call;
 mod lab;
+mod power;
 mod share;
-mod watts;
 mod words;
 
 use rule::Rule;
@@ -37,11 +37,11 @@ fn main() {
     number(b"the first of them: ", first[0]);
     said(
         b"some reading lies from 5.5 to 20 watts: ",
-        watts::some_reading(5.5, 20.0),
+        power::some_reading(5.5, 20.0),
     );
     said(
         b"some reading lies from 20 to 5.5 watts: ",
-        watts::some_reading(20.0, 5.5),
+        power::some_reading(20.0, 5.5),
     );
     let flags = words::flags();
     number(b"the flags are from ", flags.low);

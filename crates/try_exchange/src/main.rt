@@ -20,7 +20,7 @@ use trial_calls::sheets::opened;
 use trial_calls::sheets::opened_in;
 use trial_direct::cases;
 use trial_direct::direct::UNTOUCHED;
-use trial_direct::tally::Tally;
+use trial_tally::Tally;
 use word::Edition;
 
 // What asking wants of two rules.

@@ -1,6 +1,6 @@
 // The calls of sequences: gates by the number that they get, and the others.
-use trial_direct::tally::Split;
-use trial_direct::tally::Tally;
+use trial_tally::Split;
+use trial_tally::Tally;
 
 // Gates that are accepted, and those refused: on the blank sheet, for its width, for a limit, and for want of room; and other calls.
 pub struct Counts {

@@ -16,10 +16,10 @@ use trial_calls::sheets::gone_back;
 use trial_calls::sheets::marked;
 use trial_calls::sheets::opened;
 use trial_direct::draw::next;
-use trial_direct::tally::Tally;
 use trial_gates::direct;
 use trial_pages::clerk::Call;
 use trial_pages::clerk::Page;
+use trial_tally::Tally;
 use word::Edition;
 
 // Sequences from the blank sheet on, and sheets that are all but full, half of them in each edition; and the calls of each.

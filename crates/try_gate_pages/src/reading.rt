@@ -8,8 +8,8 @@ use trial_calls::sheets::opened_in;
 use trial_direct::draw::SPREAD;
 use trial_direct::draw::next;
 use trial_direct::rules::rule;
-use trial_direct::tally::Tally;
 use trial_gates::direct;
+use trial_tally::Tally;
 use word::Edition;
 
 // What is looked at: whether the limits are numbers, the words that fit, those that do not, or a sheet with the gate.

@@ -8,9 +8,9 @@ mod made;
 
 use gate::Four;
 use gate::Turned;
-use trial_direct::tally::Tally;
 use trial_gates::direct;
 use trial_gates::made::gate;
+use trial_tally::Tally;
 
 fn main() {
     over_kinds(direct::GATES).print(b"gates");

@@ -19,7 +19,7 @@ use trial_calls::sheets::case2;
 use trial_calls::sheets::gone_back;
 use trial_calls::sheets::marked;
 use trial_calls::sheets::opened_in;
-use trial_direct::tally::Tally;
+use trial_tally::Tally;
 use word::Edition;
 
 fn main() {

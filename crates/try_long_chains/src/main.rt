@@ -14,7 +14,6 @@ use tiles::Tiles;
 use trial_direct::direct;
 use trial_direct::draw;
 use trial_direct::rules;
-use trial_direct::tally::Tally;
 use trial_editions::asked;
 use trial_editions::asked::UNTOUCHED;
 use trial_editions::counts::Seen;
@@ -22,6 +21,7 @@ use trial_sheets::expected::Expected;
 use trial_sheets::expected::LINKS;
 use trial_sheets::expected::NUMBERS;
 use trial_sheets::walk;
+use trial_tally::Tally;
 use word::Edition;
 use word::Width;
 

@@ -9,10 +9,10 @@ mod refused;
 use net::Ended;
 use net::Net;
 use places::Way;
-use trial_direct::tally::Tally;
 use trial_nets::made;
 use trial_nets::plain;
 use trial_nets::search;
+use trial_tally::Tally;
 
 const DRAWN: u64 = 50;
 

@@ -4,9 +4,9 @@ use net::Ended;
 use net::Net;
 use span::Op;
 use std::num::wrapping_add_u64;
-use trial_direct::tally::Tally;
 use trial_nets::made;
 use trial_nets::plain;
+use trial_tally::Tally;
 
 pub enum Way {
     Empty,

@@ -3,9 +3,9 @@ use net::Ended;
 use net::Net;
 use span::Interval;
 use span::Op;
-use trial_direct::tally::Tally;
 use trial_nets::made;
 use trial_nets::plain;
+use trial_tally::Tally;
 
 pub fn over_ways() -> Tally {
     let mut tally = Tally::none();

@@ -19,7 +19,7 @@ use trial_calls::sheets::other;
 use trial_direct::direct::UNTOUCHED;
 use trial_direct::rules::NO_FORM;
 use trial_direct::rules::rule;
-use trial_direct::tally::Tally;
+use trial_tally::Tally;
 use word::Edition;
 
 fn main() {

@@ -6,10 +6,10 @@ use page::Opening;
 use rule::Rule;
 use sheet::Sheet;
 use trial_calls::sheets::opened_in;
-use trial_direct::tally::Split;
 use trial_draws::draw;
 use trial_pages::clerk::Call;
 use trial_pages::clerk::Page;
+use trial_tally::Split;
 use word::Edition;
 
 const SHEETS: u64 = 10;

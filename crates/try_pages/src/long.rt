@@ -11,11 +11,11 @@ use trial_calls::sheets::marked;
 use trial_calls::sheets::opened;
 use trial_calls::sheets::opened_in;
 use trial_direct::draw::next;
-use trial_direct::tally::Split;
-use trial_direct::tally::Tally;
 use trial_draws::draw;
 use trial_pages::clerk::Call;
 use trial_pages::clerk::Page;
+use trial_tally::Split;
+use trial_tally::Tally;
 use word::Edition;
 
 const SEQUENCES: u64 = 30;

@@ -16,7 +16,7 @@ use trial_direct::direct;
 use trial_direct::rules;
 use trial_direct::rules::negated;
 use trial_direct::rules::rule;
-use trial_direct::tally::Tally;
+use trial_tally::Tally;
 use word::Width;
 
 // What is looked at, of a rule and a word.

@@ -5,7 +5,7 @@ use rule::Rule;
 use trial_direct::cases;
 use trial_direct::cases::CASE2;
 use trial_direct::rules;
-use trial_direct::tally::Tally;
+use trial_tally::Tally;
 use word::Width;
 
 // The sheets of width 4 that have rules: cases 2 to 12, with case 3 as written and negated.

@@ -4,10 +4,10 @@
 // Seven corners have 28 intervals, which is 784 pairs, at four widths, with three intervals of h and four operations.
 use span::Interval;
 use span::Op;
-use trial_direct::tally::Tally;
 use trial_spans::expected;
 use trial_spans::expected::Way;
 use trial_spans::made;
+use trial_tally::Tally;
 
 fn main() {
     pairs_over_widths(Way::Words).print(b"pairs, word by word:");

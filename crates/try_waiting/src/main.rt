@@ -17,7 +17,7 @@ use trial_calls::sheets::opened;
 use trial_calls::sheets::opened_in;
 use trial_calls::sheets::other;
 use trial_direct::rules::rule;
-use trial_direct::tally::Tally;
+use trial_tally::Tally;
 use word::Edition;
 
 fn main() {

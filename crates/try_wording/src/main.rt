@@ -8,7 +8,7 @@ ghost use Rattle.trial_direct.specs.Trial.{Narrow};
 use line::Statement;
 use rule::Rule;
 use trial_direct::rules;
-use trial_direct::tally::Tally;
+use trial_tally::Tally;
 use word::Width;
 
 fn main() {

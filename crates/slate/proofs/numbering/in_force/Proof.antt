@@ -3,8 +3,8 @@ use mathlib.Core.Path.{sym}
 use native.Mathlib.Omega.{arith}
 use borrow.Author.Needs.{needs}
 use Rattle.slate.proofs.Shaped.{none-waits, some-wait}
-use Rattle.slate.proofs.counting.in_force.Statement.{statement}
-use Rattle.slate.proofs.counting.in_force.Tie as tie
+use Rattle.slate.proofs.numbering.in_force.Statement.{statement}
+use Rattle.slate.proofs.numbering.in_force.Tie as tie
 
 returns : tie.Need-returns
 returns c = sym (none-waits _ _ _ (c .if1 .taken))

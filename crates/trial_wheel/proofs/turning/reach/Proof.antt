@@ -2,8 +2,8 @@
 use Prim.Native.Nat.{_-_}
 use Rattle.trial_wheel.specs.Limits.{TURNS}
 use borrow.Author.Needs.{needs}
-use Rattle.trial_wheel.proofs.turns.reach.Statement.{statement}
-use Rattle.trial_wheel.proofs.turns.reach.Tie as tie
+use Rattle.trial_wheel.proofs.turning.reach.Statement.{statement}
+use Rattle.trial_wheel.proofs.turning.reach.Tie as tie
 
 pub reach-spec : {M : Type 1} → statement M
 reach-spec =

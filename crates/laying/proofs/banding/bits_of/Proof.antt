@@ -10,8 +10,8 @@ use Rattle.bits.specs.route.Fixed.{fixedBits, fixedFrom, joined}
 use Rattle.bits.proofs.Joined.{fixed-suc}
 use Rattle.accept.specs.Accept.{noRule}
 use Rattle.rows.specs.route.Rows.{ruleIn, rulesIn}
-use Rattle.laying.proofs.drawing.bits_of.Statement.{statement}
-use Rattle.laying.proofs.drawing.bits_of.Tie as tie
+use Rattle.laying.proofs.banding.bits_of.Statement.{statement}
+use Rattle.laying.proofs.banding.bits_of.Tie as tie
 
 abbrev Inv-loop : tie.InvT-loop
 Inv-loop rows n fixed₀ i₀ fixed i = (i ≤ n) × (fixed ≡ fixedBits (take i (rulesIn rows)))

@@ -15,8 +15,8 @@ use Rattle.rows.specs.route.Rows.{drawn, drawnRow, rowOf, ruleIn, rulesIn}
 use Rattle.rows.proofs.Copies.{copied}
 use Rattle.rows.proofs.Drawn.{drawn-rules}
 use Rattle.rows.proofs.Reading.{rule-in}
-use Rattle.laying.proofs.drawing.draw.Statement.{statement}
-use Rattle.laying.proofs.drawing.draw.Tie as tie
+use Rattle.laying.proofs.banding.draw.Statement.{statement}
+use Rattle.laying.proofs.banding.draw.Tie as tie
 
 abbrev Inv-loop : tie.InvT-loop
 Inv-loop rows₀ n width i₀ rows i = (i ≤ n) × (rows ≡ drawn (width .bits) i rows₀)

@@ -8,8 +8,8 @@ use Rattle.noting.specs.declared.Note.{Note}
 use Rattle.slate.specs.route.Held.{Drawn}
 use Rattle.slate.specs.route.Notes.{Noted}
 use Rattle.slate.proofs.Holding.{kept-found, swept}
-use Rattle.stepping.proofs.finding.find.Statement.{statement}
-use Rattle.stepping.proofs.finding.find.Tie as tie
+use Rattle.stepping.proofs.seeking.find.Statement.{statement}
+use Rattle.stepping.proofs.seeking.find.Tie as tie
 
 note-at-requires : tie.Need-note-at-requires
 note-at-requires c κs = (c .pre .width, c .pre .few)

@@ -2,8 +2,8 @@
 use Prim.Native.Nat.{_-_}
 use Rattle.trial_wheel.specs.Limits.{TURNS}
 use borrow.Author.Needs.{needs}
-use Rattle.trial_wheel.proofs.turns.around.Statement.{statement}
-use Rattle.trial_wheel.proofs.turns.around.Tie as tie
+use Rattle.trial_wheel.proofs.turning.around.Statement.{statement}
+use Rattle.trial_wheel.proofs.turning.around.Tie as tie
 
 pub around-spec : {M : Type 1} → statement M
 around-spec =

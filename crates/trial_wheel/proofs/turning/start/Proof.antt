@@ -2,8 +2,8 @@
 use Prim.Native.Nat.{_-_}
 use Rattle.trial_wheel.specs.Limits.{TURNS}
 use borrow.Author.Needs.{needs}
-use Rattle.trial_wheel.proofs.turns.start.Statement.{statement}
-use Rattle.trial_wheel.proofs.turns.start.Tie as tie
+use Rattle.trial_wheel.proofs.turning.start.Statement.{statement}
+use Rattle.trial_wheel.proofs.turning.start.Tie as tie
 
 pub start-spec : {M : Type 1} → statement M
 start-spec =
