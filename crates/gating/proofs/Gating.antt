@@ -1,10 +1,9 @@
--- What the tests for a gate say of the record, and what adding the four rules comes to: calls one after another, none of which is refused,
--- come to the page that the clerk has after the gate. Assumes nothing.
+-- What a gate comes to by the number that its tests gave, and what adding the four rules comes to: calls one after another, none of which is
+-- refused, come to the page that the clerk has after the gate. Assumes nothing.
 use mathlib.Core.Path.{_≡_, refl, sym, ap, subst, subst₂, _∙_}
-use mathlib.Core.Bool.{true, false, false≢true}
+use mathlib.Core.Bool.{true, false≢true}
 use mathlib.Core.List.{map}
-use Prim.Native.Nat.{ℕ, _≤_, _<_}
-use native.Mathlib.Omega.{arith}
+use Prim.Native.Nat.{ℕ}
 use Rattle.word.specs.declared.Edition.{Edition}
 use Rattle.gate.specs.declared.Four.{Four}
 use Rattle.gate.specs.declared.Gate.{Gate}
@@ -12,49 +11,17 @@ use Rattle.gate.specs.Gate.{fourOf, gateRules, listed, notNumbers, through}
 use Rattle.page.specs.Calls.{add, refusal, set-gate, written}
 use Rattle.page.specs.Page.{Page, page}
 use Rattle.page.proofs.Counted.{counts-as-rules}
-use Rattle.page.proofs.Gates.{blank-gate, gate-fits, gate-full, gate-limit, gate-set, gate-width}
+use Rattle.page.proofs.Gates.{blank-gate, gate-set}
 use Rattle.page.proofs.Replayed.{Leads}
 use Rattle.sheet.specs.declared.Answer.{Answer}
 use Rattle.sheet.specs.declared.Sheet.{Sheet}
 use Rattle.sheet.specs.Record.{fresh}
-use Rattle.sheet.specs.route.Stands.{Standing, Stands}
-use Rattle.sheet.specs.Statements.{AllAccepted, IsSheet, Outcome, Reads, Sequence, answers, calls, done}
-use Rattle.sheet.proofs.Stands.{has-page, has-width, is-blank, known, refused-standing}
+use Rattle.sheet.specs.route.Stands.{Standing}
+use Rattle.sheet.specs.Statements.{AllAccepted, Outcome, Reads, Sequence, answers, calls, done}
+use Rattle.sheet.proofs.Stands.{known, refused-standing}
 use Rattle.sheet.proofs.Ways.{accepted-reads, refused-reads}
 use Rattle.demands.proofs.Demand.{sequence-accepted, sequence-clerk}
-use Rattle.gating.specs.route.Seen.{GateSeen, before-table, by-table}
-
-module _ (s : Sheet) (g : Gate) where
-  pub seen-none : (IsSheet s → ⊥) → GateSeen s g 17
-  seen-none i = before-table (Stands.no-sheet i) (λ e. omega arith)
-
-  -- of a sheet
-  module _ (i : IsSheet s) where
-    pub seen-blank : s .width ≡ 0 → GateSeen s g 1
-    seen-blank z = before-table (is-blank i z) (λ e. omega arith)
-
-    module _ (z : s .width ≡ 0 → ⊥) where
-      stands : Standing s
-      stands = has-page (has-width i z) refl
-
-      seen : {n : ℕ} → refusal (page (stands .on)) (set-gate g) ≡ n → GateSeen s g n
-      seen e = subst (GateSeen s g) e (by-table stands)
-
-      pub seen-other : (s .width ≡ 32 → ⊥) → GateSeen s g 13
-      seen-other h = seen (gate-width _ g (λ e. h (known stands .width ∙ e)))
-
-      module _ (w : s .width ≡ 32) where
-        width : stands .on .opening .width ≡ 32
-        width = sym (known stands .width) ∙ w
-
-        pub seen-limit : notNumbers g ≡ true → GateSeen s g 14
-        seen-limit n = seen (gate-limit _ g width n)
-
-        pub seen-full : notNumbers g ≡ false → 196 < s .count → GateSeen s g 6
-        seen-full n h = seen (gate-full _ g width n (omega (arith, known stands .count)))
-
-        pub seen-fits : notNumbers g ≡ false → s .count ≤ 196 → GateSeen s g 0
-        seen-fits n h = seen (gate-fits _ g width n (omega (arith, known stands .count)))
+use Rattle.gate_refusal.specs.route.Seen.{GateSeen, before-table, by-table}
 
 -- a gate that is refused, and one that is not
 pub refused-gate : {s : Sheet} (g : Gate) {n : ℕ} → GateSeen s g n → (n ≡ 0 → ⊥) → Reads s (set-gate g) (answers n s)

@@ -9,7 +9,8 @@ use Rattle.gate.specs.declared.Gate.{Gate}
 use Rattle.gate.specs.declared.Turned.the-variants.{NotANumber, Rules}
 use Rattle.gate.specs.Gate.{fourOf, notNumbers, through, turned}
 use Rattle.sheet.specs.Statements.{Outcome}
-use Rattle.gating.specs.route.Seen.{AddedFor, SeenFor}
+use Rattle.gate_refusal.specs.route.Seen.{SeenFor}
+use Rattle.gating.specs.route.Added.{AddedFor}
 use Rattle.gating.proofs.Gating.{limit-refused, refused-gate}
 use Rattle.gating.proofs.set.Statement.{statement}
 use Rattle.gating.proofs.set.Tie as tie

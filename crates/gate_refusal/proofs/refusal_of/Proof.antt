@@ -7,10 +7,10 @@ use borrow.Author.Tests.{eqb-false, eqb-true, ltb-false, ltb-true, not-false, no
 use Rattle.sheet.specs.declared.Sheet.{Sheet}
 use Rattle.sheet.specs.route.Shape.{isSheet}
 use Rattle.sheet.specs.Statements.{IsSheet}
-use Rattle.gating.specs.route.Seen.{SeenFor}
-use Rattle.gating.proofs.Gating.{seen-blank, seen-fits, seen-full, seen-limit, seen-none, seen-other}
-use Rattle.gating.proofs.refusal_of.Statement.{statement}
-use Rattle.gating.proofs.refusal_of.Tie as tie
+use Rattle.gate_refusal.specs.route.Seen.{SeenFor}
+use Rattle.gate_refusal.proofs.Seen.{seen-blank, seen-fits, seen-full, seen-limit, seen-none, seen-other}
+use Rattle.gate_refusal.proofs.refusal_of.Statement.{statement}
+use Rattle.gate_refusal.proofs.refusal_of.Tie as tie
 
 module _ (s : Sheet) (t : Bool) (e : (t ≡ isSheet s) × ((t ≡ true) ↔ IsSheet s)) where
   told : t ≡ true → IsSheet s

@@ -1,16 +1,13 @@
 -- A route: the number that a gate is given by the tests of the code, "In the order 17, 1, 13, 14, 6".
 use mathlib.Core.Path.{_≡_}
-use mathlib.Core.Bool.{Bool, false}
+use mathlib.Core.Bool.{Bool}
 use Prim.Native.Nat.{ℕ}
-use Rattle.gate.specs.declared.Four.{Four}
 use Rattle.gate.specs.declared.Gate.{Gate}
-use Rattle.gate.specs.Gate.{fourOf, notNumbers, through}
+use Rattle.gate.specs.Gate.{notNumbers}
 use Rattle.page.specs.Calls.{refusal, set-gate}
 use Rattle.page.specs.Page.{page}
-use Rattle.sheet.specs.declared.Answer.{Answer}
 use Rattle.sheet.specs.declared.Sheet.{Sheet}
 use Rattle.sheet.specs.route.Stands.{Standing, Stands}
-use Rattle.sheet.specs.Statements.{Outcome}
 
 -- 17 or 1, which come before the table's other rows; or what the table says of the sheet's page
 pub data GateSeen (s : Sheet) (g : Gate) : ℕ → Type 0 where
@@ -20,7 +17,3 @@ pub data GateSeen (s : Sheet) (g : Gate) : ℕ → Type 0 where
 -- the number that is given to every gate whose limits are numbers, or to every other
 unfoldable pub SeenFor : Sheet → (none : Bool) → ℕ → Type 0
 SeenFor s none n = (g : Gate) → notNumbers g ≡ none → GateSeen s g n
-
--- what is answered to every gate with these rules
-unfoldable pub AddedFor : Sheet → Four → Answer → Type 0
-AddedFor s four r = (g : Gate) → notNumbers g ≡ false → four ≡ fourOf (through g) → Outcome s (set-gate g) r
