@@ -13,16 +13,12 @@ use Rattle.page.specs.Calls.{after, open-at, refusal}
 use Rattle.page.specs.declared.Opening.{Opening}
 use Rattle.page.specs.Page.{Page, no-page}
 use Rattle.page.specs.Reached.{Reached, start}
-use Rattle.slate.specs.declared.Head.{Head}
-use Rattle.sheet.specs.declared.Answer.{Answer}
 use Rattle.sheet.specs.declared.Reply.{Reply}
 use Rattle.sheet.specs.declared.Sheet.{Sheet}
-use Rattle.sheet.specs.route.Held.{packed}
-use Rattle.sheet.specs.route.Laid.{After}
-use Rattle.sheet.specs.Record.{blank, fresh}
-use Rattle.sheet.specs.Statements.{Asked, answers, refuses}
-use Rattle.demands.proofs.Demand.{after-reached, outcome-on}
-use Rattle.adds.specs.route.Course.{Came, Stopped, Under, Went, begun, further}
+use Rattle.sheet.specs.Statements.{Asked, refuses}
+use Rattle.demands.proofs.Demand.{after-reached}
+use Rattle.adds.specs.route.Course.{Stopped, Under, Went, begun, further}
+use Rattle.begun.specs.route.Begun.{Begun, opens}
 use Rattle.batch.specs.declared.Batch.{Batch}
 use Rattle.batch.specs.Batch.{Gives, added, batches, stops}
 use Rattle.batch.specs.route.Route.{batchAt}
@@ -41,7 +37,7 @@ module _ {e : Edition} {pg : Page} {us : List Rule} (m : ℕ) where
 
 module _ (e : Edition) (us : List Rule) where
   -- all are added, and the sheet is asked
-  pub asked-way : {pg : Page} {t : Sheet} (i : ℕ) → i ≡ length us → Under e us pg i t → {b b′ : List ℕ} {a : Reply} → Asked t b b′ a
+  asked-way : {pg : Page} {t : Sheet} (i : ℕ) → i ≡ length us → Under e us pg i t → {b b′ : List ℕ} {a : Reply} → Asked t b b′ a
       → Gives (added e pg 0 us (length b)) b b′ (batches a i)
   unfolding added
   asked-way {pg} i all w {b} {b′} {a} asked =
@@ -55,40 +51,31 @@ stopped : (k i : ℕ) (b : List ℕ) → Gives (stops k i) b b (batches (refuses
 unfolding numbersOf
 stopped k i b = record { answers = refl; writes = refl }
 
-module _ (g : Opening) (us : List Rule) (n : ℕ) {s : Sheet} (laid : s ≡ blank) {k : ℕ} {h : Head} {rows : List (List ℕ)} {marks : List ℕ}
-    (after-open : After s (open-at g) k h rows marks) where
-  abbrev t : Sheet
-  t = packed h rows marks
-
+module _ (g : Opening) (us : List Rule) (n : ℕ) where
   abbrev opened-page : Page
   opened-page = after no-page (open-at g)
 
-  said : answers k t ≡ answers (refusal no-page (open-at g)) (fresh opened-page)
-  unfolding fresh
-  said = outcome-on no-page laid start (open-at g) (after-open .outcome)
+  reached : Reached opened-page
+  reached = after-reached start (open-at g)
 
-  opened-number : refusal no-page (open-at g) ≡ k
-  opened-number = sym (ap (λ (a : Answer). a .number) said)
-
-  pub refused-opening : (k ≡ 0 → ⊥) → (b : List ℕ) {a : Reply} {r : Batch} → r ≡ batches a n → a ≡ refuses k
+  opening-stops : {k : ℕ} → refusal no-page (open-at g) ≡ k → (k ≡ 0 → ⊥) → (b : List ℕ) {a : Reply} {r : Batch} → r ≡ batches a n → a ≡ refuses k
       → Gives (batchAt g us n (length b)) b b r
   unfolding batchAt
-  refused-opening z b e f = rw (e, f, ne-eqb (refusal no-page (open-at g)) 0 (λ q. z (sym opened-number ∙ q)), opened-number) (stopped k n b)
+  opening-stops {k} q z b e f = rw (e, f, ne-eqb (refusal no-page (open-at g)) 0 (λ p. z (sym q ∙ p)), q) (stopped k n b)
 
-  module _ (z : k ≡ 0) where
-    on-page : Reached opened-page × (t ≡ fresh opened-page)
-    on-page = (after-reached start (open-at g), ap (λ (a : Answer). a .sheet) said)
+  goes-on : refusal no-page (open-at g) ≡ 0 → (m : ℕ) → batchAt g us n m ≡ added (g .edition) opened-page 0 us m
+  unfolding batchAt
+  goes-on z m = rw (eq-eqb (refusal no-page (open-at g)) 0 z)
 
-    goes-on : (m : ℕ) → batchAt g us n m ≡ added (g .edition) opened-page 0 us m
-    unfolding batchAt
-    goes-on m = rw (eq-eqb (refusal no-page (open-at g)) 0 (opened-number ∙ z))
+  pub refused-batch : {t : Sheet} {k i : ℕ} → Begun g us n t k i → (k ≡ 0 → ⊥) → (b : List ℕ) {a : Reply} {r : Batch} → r ≡ batches a i → a ≡ refuses k
+      → Gives (batchAt g us n (length b)) b b r
+  refused-batch (Begun.refuses q z) y b e f = opening-stops q z b e f
+  refused-batch {k = k} {i = i} (opens z came) y b e f =
+      rw (e, f, goes-on z (length b), stop-way (length b) (came .refused y opened-page reached refl) y) (stopped k i b)
 
-    module _ {t′ : Sheet} {j i : ℕ} (came : Came (g .edition) us t t′ j i) where
-      pub refused-adding : (j ≡ 0 → ⊥) → (b : List ℕ) {a : Reply} {r : Batch} → r ≡ batches a i → a ≡ refuses j
-          → Gives (batchAt g us n (length b)) b b r
-      refused-adding y b e f = rw (e, f, goes-on (length b), stop-way (length b) (came .refused y opened-page (on-page .0) (on-page .1)) y) (stopped j i b)
-
-      pub all-added : j ≡ 0 → {b b′ : List ℕ} {a : Reply} → Asked t′ b b′ a → {r : Batch} → r ≡ batches a i → Gives (batchAt g us n (length b)) b b′ r
-      all-added y {b} asked e =
-          let w = came .went y opened-page (on-page .0) (on-page .1) in
-          rw (e, goes-on (length b)) (asked-way (g .edition) us i (w .0) (w .1) asked)
+  pub asked-batch : {t : Sheet} {k i : ℕ} → Begun g us n t k i → k ≡ 0 → {b b′ : List ℕ} {a : Reply} → Asked t b b′ a → {r : Batch} → r ≡ batches a i
+      → Gives (batchAt g us n (length b)) b b′ r
+  asked-batch (Begun.refuses q z) y asked e = absurd (z y)
+  asked-batch {i = i} (opens z came) y {b} asked e =
+      let w = came .went y opened-page reached refl in
+      rw (e, goes-on z (length b)) (asked-way (g .edition) us i (w .0) (w .1) asked)

@@ -1,11 +1,11 @@
-// A batch on its slate: the sheet is laid out once, opened, given each rule in order, and asked.
+// A batch on its slate: a sheet is opened there, given each rule in order, and asked.
 ghost use mathlib.Core.Path.{_≡_};
 ghost use Prim.Native.Nat.{_≤_};
 ghost use lib.ListN.{length, take};
 ghost use Rattle.batch.specs.Batch.{Gives, MOST, batches};
 ghost use Rattle.batch.specs.route.Route.{batchAt};
 use crate::Batch;
-use adds::add_all;
+use begun::begin;
 use page::Opening;
 use rows::NUMBERS;
 use rule::Rule;
@@ -24,17 +24,9 @@ pub fn vet(
     requires { ⌜ count ≤ MOST ⌝ }
     ensures { λ r. ⌜ Gives (batchAt opening (take count rules) given (length (now (out .entry)))) (now (out .entry)) (now (out .exit)) r ⌝ }
 {
-    let edition = opening.edition;
     let mut rows = [[0; NUMBERS]; Rule::LIMIT];
     let mut marks: [usize; Sheet::MARKS] = [0; Sheet::MARKS];
-    let head = laid::lay_out(Sheet::blank(), &mut rows, &mut marks);
-    let said = laid::open(head, &mut rows, &mut marks, opening);
-    let refused = said.number;
-    if refused != 0 {
-        return placed(sheet::refusal(refused), given);
-    }
-    let head = said.head;
-    let course = add_all(head, &mut rows, &mut marks, edition, rules, count);
+    let course = begin(opening, rules, count, given, &mut rows, &mut marks);
     let stopped = course.number;
     let head = course.head;
     let place = course.place;

@@ -7,7 +7,7 @@ ghost use Rattle.batch.specs.route.Route.{batchAt, few};
 
 mod course;
 
-use adds::Course;
+use begun::Course;
 use page::Opening;
 use rule::Rule;
 use sheet::Reply;

@@ -1,0 +1,36 @@
+-- The opening of a batch: it is made on the record of no page, so that its number is that of the table, and where it is accepted the slate stands
+-- for the fresh page. Assumes nothing.
+use mathlib.Core.Path.{_≡_, sym, ap, _∙_, subst}
+use mathlib.Core.List.{List}
+use Prim.Native.Nat.{ℕ}
+use Rattle.rule.specs.declared.Rule.{Rule}
+use Rattle.page.specs.Calls.{after, open-at, refusal}
+use Rattle.page.specs.declared.Opening.{Opening}
+use Rattle.page.specs.Page.{no-page}
+use Rattle.page.specs.Reached.{start}
+use Rattle.slate.specs.declared.Head.{Head}
+use Rattle.sheet.specs.declared.Answer.{Answer}
+use Rattle.sheet.specs.declared.Sheet.{Sheet}
+use Rattle.sheet.specs.route.Held.{packed}
+use Rattle.sheet.specs.route.Laid.{After}
+use Rattle.sheet.specs.Record.{blank, fresh}
+use Rattle.sheet.specs.Statements.{answers}
+use Rattle.demands.proofs.Demand.{outcome-on}
+use Rattle.adds.specs.route.Course.{Came}
+use Rattle.begun.specs.route.Begun.{Begun, opens, refuses}
+
+module _ (g : Opening) (us : List Rule) (n : ℕ) {s : Sheet} (laid : s ≡ blank) {k : ℕ} {h : Head} {rows : List (List ℕ)} {marks : List ℕ}
+    (after-open : After s (open-at g) k h rows marks) where
+  said : answers k (packed h rows marks) ≡ answers (refusal no-page (open-at g)) (fresh (after no-page (open-at g)))
+  unfolding fresh
+  said = outcome-on no-page laid start (open-at g) (after-open .outcome)
+
+  number-is : refusal no-page (open-at g) ≡ k
+  number-is = sym (ap (λ (a : Answer). a .number) said)
+
+  pub refused-opening : (k ≡ 0 → ⊥) → {t : Sheet} → Begun g us n t k n
+  refused-opening z = refuses number-is z
+
+  pub opened-so : k ≡ 0 → {t : Sheet} {j i : ℕ} → Came (g .edition) us (packed h rows marks) t j i → Begun g us n t j i
+  opened-so z {t} {j} {i} came =
+      opens (number-is ∙ z) (subst (λ (v : Sheet). Came (g .edition) us v t j i) (ap (λ (a : Answer). a .sheet) said) came)
