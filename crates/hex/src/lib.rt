@@ -3,7 +3,7 @@ ghost use mathlib.Core.Path.{_≡_};
 ghost use Prim.Native.Nat.{_+_, _≤_, _<_};
 ghost use lib.ListN.{length};
 ghost use lib.Seq.{slice};
-ghost use Rattle.hex.specs.Hex.{MOST, Written, allDigits, glyph, hex, isDigit, number, value};
+ghost use Rattle.hex.specs.Hex.{MOST, Written, allDigits, glyph, hex, isDigit, isLetter, isNumeral, number, value};
 
 // Writes the last so many digits of x, the last one first.
 pub fn put(out: &mut [u8], at: usize, digits: usize, x: u64)
@@ -19,16 +19,15 @@ pub fn put(out: &mut [u8], at: usize, digits: usize, x: u64)
     }
 }
 
-// Whether all bytes are digits.
+// Whether all bytes are digits. Nothing stops at one that is none, so that many bytes are looked at together.
 pub fn all_digits(s: &[u8]) -> bool
     ensures { λ r. ⌜ r ≡ allDigits (now (s .entry)) ⌝ }
 {
+    let mut all = true;
     for i in 0..s.len() {
-        if !is_digit(s[i]) {
-            return false;
-        }
+        all = all & is_digit(s[i]);
     }
-    true
+    all
 }
 
 // The number that the digits from one place up to another write.
@@ -58,32 +57,29 @@ pub fn glyph(d: u64) -> u8
 fn is_digit(b: u8) -> bool
     ensures { λ r. ⌜ r ≡ isDigit b ⌝ }
 {
-    if b < 48 {
-        return false;
-    }
-    if b <= 57 {
-        return true;
-    }
-    if b < 97 {
-        return false;
-    }
-    b <= 102
+    is_numeral(b) | is_letter(b)
+}
+
+fn is_numeral(b: u8) -> bool
+    ensures { λ r. ⌜ r ≡ isNumeral b ⌝ }
+{
+    (48 <= b) & (b <= 57)
+}
+
+fn is_letter(b: u8) -> bool
+    ensures { λ r. ⌜ r ≡ isLetter b ⌝ }
+{
+    (97 <= b) & (b <= 102)
 }
 
 // What a digit stands for; 0 for a byte that is none.
 fn value(b: u8) -> u64
     ensures { λ r. ⌜ (r ≡ value b) × (r < 16) ⌝ }
 {
-    if b < 48 {
-        return 0;
-    }
-    if b <= 57 {
+    if is_numeral(b) {
         return b as u64 - 48;
     }
-    if 102 < b {
-        return 0;
-    }
-    if 97 <= b {
+    if is_letter(b) {
         return b as u64 - 87;
     }
     0

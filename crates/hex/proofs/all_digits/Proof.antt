@@ -1,12 +1,11 @@
--- `all_digits` meets its contract. The loop's invariant: the test of all bytes is that of the bytes left. Assumes nothing.
+-- `all_digits` meets its contract. The loop's invariant: all bytes are digits where those looked at are and those left are. Assumes nothing.
 use mathlib.Core.Path.{_≡_, refl, sym, ap, _∙_}
-use mathlib.Core.Bool.{Bool, _&&_}
+use mathlib.Core.Bool.{Bool, and-assoc, and-true, _&&_}
 use mathlib.Core.List.{List}
 use Prim.Native.Nat.{ℕ, suc, _-_, _≤_, _<_}
 use native.Mathlib.Numerals.{add-one}
 use native.Mathlib.Omega.{arith}
 use borrow.Author.Needs.{needs}
-use borrow.Author.Tests.{not-true, not-false}
 use lib.ListN.{drop, drop-of-length-le, getD, length}
 use lib.Seq.{drop-cons}
 use Rattle.hex.specs.Hex.{allDigits, isDigit}
@@ -14,10 +13,10 @@ use Rattle.hex.proofs.all_digits.Statement.{statement}
 use Rattle.hex.proofs.all_digits.Tie as tie
 
 abbrev Inv-loop : tie.InvT-loop
-Inv-loop s i₀ t i = (i ≤ length s) × (allDigits s ≡ allDigits (drop i s))
+Inv-loop s all₀ i₀ t all i = (i ≤ length s) × (allDigits s ≡ (all && allDigits (drop i s)))
 
 abbrev μ-loop : tie.MeasureT-loop
-μ-loop s i₀ t i = length s - i
+μ-loop s all₀ i₀ t all i = length s - i
 
 -- the test of the bytes from i on is that of byte i and of those after it
 opens : (s : List ℕ) (i : ℕ) → i < length s → allDigits (drop i s) ≡ (isDigit (getD s i 0) && allDigits (drop (suc i) s))
@@ -33,13 +32,6 @@ shared-slice-read-is-digit c = search needs
 is-digit-requires : tie.Need-is-digit-requires Inv-loop μ-loop
 is-digit-requires c κs = search needs
 
-returns : tie.Need-returns Inv-loop μ-loop
-returns c =
-    let l = c .before .before .before .before in
-    let s = l .before .before .args .s .now in
-    let t = sym (c .before .is-digit .ensures) ∙ not-true _ (c .if1 .taken) in
-    sym (l .loop .inv .1 ∙ opens s (l .loop .i) (omega arith) ∙ ap (λ (b : Bool). b && allDigits (drop (suc (l .loop .i)) s)) t)
-
 add-i : tie.Need-add-i Inv-loop μ-loop
 add-i c = search needs
 
@@ -48,19 +40,21 @@ loop-less c = omega arith
 
 loop-again : tie.Need-loop-again Inv-loop μ-loop
 loop-again c =
-    let l = c .before .before .before .before in
-    let s = l .before .before .args .s .now in
-    let t = sym (c .before .is-digit .ensures) ∙ not-false _ (c .if1 .left) in (
+    let l = c .before .before .before in
+    let s = l .before .before .args .s .now in (
       omega arith,
       l .loop .inv .1
-          ∙ opens s (l .loop .i) (omega arith)
-          ∙ ap (λ (b : Bool). b && allDigits (drop (suc (l .loop .i)) s)) t
-          ∙ ap (λ (i : ℕ). allDigits (drop i s)) (sym (add-one (l .loop .i))),
+          ∙ ap (λ (b : Bool). l .loop .all && b) (opens s (l .loop .i) (omega arith))
+          ∙ sym (and-assoc (l .loop .all) (isDigit (getD s (l .loop .i) 0)) (allDigits (drop (suc (l .loop .i)) s)))
+          ∙ rw (c .is-digit .ensures, add-one (l .loop .i)),
     )
 
-returns-2 : tie.Need-returns-2 Inv-loop μ-loop
+returns : tie.Need-returns Inv-loop μ-loop
 unfolding allDigits
-returns-2 c = sym (c .before .loop .inv .1 ∙ ap allDigits (drop-of-length-le (c .before .before .before .args .s .now) {i = c .before .loop .i} (omega arith)))
+returns c =
+    let l = c .before .loop in
+    let s = c .before .before .before .args .s .now in
+    sym (l .inv .1 ∙ ap (λ (bs : List ℕ). l .all && allDigits bs) (drop-of-length-le s {i = l .i} (omega arith)) ∙ and-true (l .all))
 
 pub all-digits-spec : {M : Type 1} → statement M
 all-digits-spec =
@@ -71,8 +65,7 @@ all-digits-spec =
     loop-holds
     shared-slice-read-is-digit
     is-digit-requires
-    returns
     add-i
     loop-less
     loop-again
-    returns-2)
+    returns)
