@@ -48,10 +48,17 @@ pub fn glyph(d: u64) -> u8
     requires { ⌜ d < 16 ⌝ }
     ensures { λ r. ⌜ r ≡ glyph d ⌝ }
 {
+    (ahead(d) + d) as u8
+}
+
+// How far the code of a digit stands after its number: picked by itself and added in full, it takes fewer steps than the code picked of two sums.
+fn ahead(d: u64) -> u64
+    ensures { λ r. ⌜ (r + d ≡ glyph d) × (r ≤ 87) ⌝ }
+{
     if d < 10 {
-        return 48 + d as u8;
+        return 48;
     }
-    87 + d as u8
+    87
 }
 
 fn is_digit(b: u8) -> bool
