@@ -1,34 +1,29 @@
--- `line_end` meets its contract. The loop's invariant: no byte 10 was passed, so the line's length is that of the bytes passed
--- and of the line that is left. Assumes nothing.
-use mathlib.Core.Path.{_≡_, refl, ap}
-use mathlib.Core.List.{List}
+-- `line_end` meets its contract. The loop's invariant: the line goes on up to the place, so it ends where what is left of it ends. Assumes nothing.
+use mathlib.Core.Path.{_≡_, refl, sym, _∙_}
 use Prim.Native.Nat.{ℕ, _+_, _-_, _≤_}
-use native.Mathlib.Numerals.{add-one}
 use native.Mathlib.Omega.{arith}
 use borrow.Author.Needs.{needs}
-use lib.ListN.{drop, drop-of-length-le, length}
+use borrow.Author.Tests.{leb-true, not-false}
+use lib.ListN.{drop, length}
 use Rattle.exchange.specs.Lines.{lineOf}
-use Rattle.exchange.proofs.Taking.{line-goes, line-stops}
+use Rattle.exchange.proofs.Eight.{further}
 use Rattle.exchange.proofs.lines.line_end.Statement.{statement}
 use Rattle.exchange.proofs.lines.line_end.Tie as tie
 
 abbrev Inv-loop : tie.InvT-loop
-Inv-loop bytes start i₀ n i = (start ≤ i) × (i ≤ length bytes) × (start + length (lineOf (drop start bytes)) ≡ i + length (lineOf (drop i bytes)))
+Inv-loop bytes start i₀ i = (start ≤ i) × (i ≤ length bytes) × (start + length (lineOf (drop start bytes)) ≡ i + length (lineOf (drop i bytes)))
 
 abbrev μ-loop : tie.MeasureT-loop
-μ-loop bytes start i₀ n i = length bytes - i
+μ-loop bytes start i₀ i = length bytes - i
 
 loop-holds : tie.Need-loop-holds Inv-loop μ-loop
 loop-holds c = (omega arith, omega arith, refl)
 
-shared-slice-read-if1 : tie.Need-shared-slice-read-if1 Inv-loop μ-loop
-shared-slice-read-if1 c = search needs
+sub-loop : tie.Need-sub-loop Inv-loop μ-loop
+sub-loop c = search needs
 
-returns : tie.Need-returns Inv-loop μ-loop
-returns c =
-    let l = c .before .before .before in
-    let s = l .before .args .bytes .now in
-    (omega (arith, ap length (line-stops s (l .loop .i) (omega arith) (c .if1 .taken))), omega arith)
+goes-on-requires : tie.Need-goes-on-requires Inv-loop μ-loop
+goes-on-requires c κs = search needs
 
 add-i : tie.Need-add-i Inv-loop μ-loop
 add-i c = search needs
@@ -39,16 +34,16 @@ loop-less c = omega arith
 loop-again : tie.Need-loop-again Inv-loop μ-loop
 loop-again c =
     let l = c .before .before .before in
-    let s = l .before .args .bytes .now in
-    let e = ap length (line-goes s (l .loop .i) (omega arith) (c .if1 .left)) in
-    (omega arith, omega arith, rw (add-one (l .loop .i)) (omega arith))
+    let s = l .before .before .args .bytes .now in
+    let t = sym (c .before .goes-on .ensures) ∙ not-false _ (c .if1 .left) in
+    let g = leb-true 8 (length (lineOf (drop (l .loop .i) s))) t in
+    (omega arith, omega arith, omega (arith, further s 8 (l .loop .i) (omega arith) g))
 
-returns-2 : tie.Need-returns-2 Inv-loop μ-loop
-unfolding lineOf
-returns-2 c =
-    let s = c .before .before .args .bytes .now in
-    let e = ap (λ (bs : List ℕ). length (lineOf bs)) (drop-of-length-le s {i = c .before .loop .i} (omega arith)) in
-    (omega arith, omega arith)
+end-near-requires : tie.Need-end-near-requires Inv-loop μ-loop
+end-near-requires c κs = search needs
+
+returns : tie.Need-returns Inv-loop μ-loop
+returns c = (omega (arith, c .end-near .ensures .0), c .end-near .ensures .1)
 
 pub line-end-spec : {M : Type 1} → statement M
 line-end-spec =
@@ -57,9 +52,10 @@ line-end-spec =
     Inv-loop
     μ-loop
     loop-holds
-    shared-slice-read-if1
-    returns
+    sub-loop
+    goes-on-requires
     add-i
     loop-less
     loop-again
-    returns-2)
+    end-near-requires
+    returns)
