@@ -6,12 +6,13 @@ use Prim.Native.Nat.{ℕ}
 use native.Mathlib.Omega.{arith}
 use borrow.Author.Tests.{le-leb, le-ltb}
 use Rattle.word.specs.Word.{IsWidth}
+use Rattle.line_width.specs.Width.{WIDEST, readingAt}
 use Rattle.line.specs.declared.Line.{Line}
 use Rattle.saying.specs.Says.{Lent}
 use Rattle.dialogue.specs.declared.Dialogue.{Dialogue}
 use Rattle.dialogue.specs.declared.Hearing.{Hearing}
 use Rattle.dialogue.specs.declared.Taken.{Taken}
-use Rattle.dialogue.specs.Hears.{Hears, WIDEST, readingAt}
+use Rattle.dialogue.specs.Hears.{Hears}
 use Rattle.dialogue.specs.Takes.{Takes}
 use Rattle.dialogue.proofs.Unique.{takes-unique}
 

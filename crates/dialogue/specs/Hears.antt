@@ -1,22 +1,13 @@
 -- What hearing a line does: it is read at the width of the sheet that is open, and its statement is taken.
 use mathlib.Core.Path.{_≡_}
-use mathlib.Core.Bool.{cond}
 use mathlib.Core.List.{List}
 use Prim.Native.Nat.{ℕ}
-use lib.Dec.{leb, ltb}
+use Rattle.line_width.specs.Width.{readingAt}
 use Rattle.line.specs.Line.{read}
 use Rattle.saying.specs.Says.{Lent}
 use Rattle.dialogue.specs.declared.Dialogue.{Dialogue}
 use Rattle.dialogue.specs.declared.Hearing.{Hearing}
 use Rattle.dialogue.specs.Takes.{Takes}
-
--- the most bits that a word has
-abbrev pub WIDEST : ℕ
-WIDEST = 64
-
--- the width at which a line is read: that of the sheet, and the widest where none is open or the record's width is none
-unfoldable pub readingAt : (width : ℕ) → ℕ
-readingAt w = cond (ltb w 1) WIDEST (cond (leb w WIDEST) w WIDEST)
 
 pub record Hears (d : Dialogue) (text : List ℕ) (b b′ : Lent) (r : Hearing) : Type 0 where
   pub line : r .line ≡ read (readingAt (d .sheet .width)) text

@@ -4,15 +4,14 @@ ghost use mathlib.Core.Path.{_≡_};
 ghost use mathlib.Core.Bool.{false};
 ghost use Rattle.sheet.specs.Record.{blank};
 ghost use Rattle.saying.specs.Says.{lent};
-ghost use Rattle.dialogue.specs.Hears.{Hears, readingAt};
+ghost use Rattle.dialogue.specs.Hears.{Hears};
 ghost use Rattle.dialogue.specs.Takes.{Takes, upshotOf};
-ghost use Rattle.word.specs.Word.{IsWidth};
 use line::Line;
 use line::Statement;
+use line_width::width_of;
 use sheet::Sheet;
 use upshot::Response;
 use upshot::Upshot;
-use word::Width;
 
 // The sheet as it is, and whether a mistake or a refusal came.
 pub struct Dialogue {
@@ -71,19 +70,6 @@ impl Dialogue {
         let taken = self.take(statement, &mut *numbers, &mut *words);
         Hearing { line, taken }
     }
-}
-
-// The width at which a line is read: the widest where no sheet is open.
-fn width_of(width: u64) -> Width
-    ensures { λ r. ⌜ (r .bits ≡ readingAt width) × IsWidth (r .bits) ⌝ }
-{
-    if width < 1 {
-        return Width { bits: 64 };
-    }
-    if 64 < width {
-        return Width { bits: 64 };
-    }
-    Width { bits: width }
 }
 
 impl Taken {

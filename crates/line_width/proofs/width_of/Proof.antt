@@ -1,9 +1,9 @@
 -- `width_of` meets its contract: the tests pick the case. Assumes nothing.
 use native.Mathlib.Omega.{arith}
 use borrow.Author.Tests.{le-leb, le-ltb, lt-leb, lt-ltb}
-use Rattle.dialogue.specs.Hears.{readingAt}
-use Rattle.dialogue.proofs.width_of.Statement.{statement}
-use Rattle.dialogue.proofs.width_of.Tie as tie
+use Rattle.line_width.specs.Width.{readingAt}
+use Rattle.line_width.proofs.width_of.Statement.{statement}
+use Rattle.line_width.proofs.width_of.Tie as tie
 
 returns : tie.Need-returns
 unfolding readingAt
