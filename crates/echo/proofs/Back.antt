@@ -20,8 +20,9 @@ use Rattle.grammar.specs.Kinds.{END, NAME, packedFrom}
 use Rattle.token.specs.Token.{BLANK, SIGN, WORD, begun, classOf, isBlank, isSign, isWord, kind, textKind, token}
 use Rattle.token.specs.Token as tokens
 use Rattle.scan.specs.declared.Scan.{Scan}
-use Rattle.scan.specs.Scan.{accepted, amount, closed, followed, isNumber, placed, scan, scanned, started, step, steps, withToken}
-use Rattle.scan.specs.Scan as scanning
+use Rattle.scan.specs.Scan.{amount, isNumber, placed, scan, started, withToken}
+use Rattle.scanning.specs.Scanning.{accepted, closed, followed, scanned, step, steps}
+use Rattle.scan.specs.Scan as sofar
 use Rattle.line.specs.Line.{LIMIT, read}
 use Rattle.wording.specs.Wording.{ROOM, ruleText}
 use Rattle.wording.proofs.Sizes.{few-rule}
@@ -48,7 +49,7 @@ atColon to =
     scan (begun SIGN 58 to) (follow (startAt ROWS) NAME) false (record { named = true; from = 0; to = to }) (amount 0) (amount 0) false (record { at = 0; expected = END })
 
 ends-name : (text : ℕ) (n : Numeral) (to : ℕ) → kind (token WORD 0 text n) false ≡ NAME → step (withToken started (token WORD 0 text n)) 58 to ≡ atColon to
-unfolding step closed withToken accepted followed scanning.named isNumber started classOf isWord isSign isBlank find follow isWatts
+unfolding step closed withToken accepted followed sofar.named isNumber started classOf isWord isSign isBlank find follow isWatts
 ends-name text n to e = ap (λ (k : ℕ). withToken (accepted (withToken started (token WORD 0 text n)) k to) (begun SIGN 58 to)) e
 
 -- and the blank ends the colon

@@ -21,7 +21,8 @@ use Rattle.grammar.specs.Kinds.{AMOUNT, NEGATIVE, NUMBER, texts}
 use Rattle.token.specs.declared.Token.{Token}
 use Rattle.token.specs.Token.{BLANK, COMMENT, SIGN, STRAY, WORD, begun, classOf, isBlank, isSign, isWord, kind, kindOfNumber, opened, textKind, token}
 use Rattle.scan.specs.declared.Scan.{Scan}
-use Rattle.scan.specs.Scan.{accepted, closed, step, steps, withToken}
+use Rattle.scan.specs.Scan.{withToken}
+use Rattle.scanning.specs.Scanning.{accepted, closed, step, steps}
 use Rattle.phrase.specs.Phrase.{decimal}
 use Rattle.echo.proofs.Tokens.{classed, one-token, single, steps-more, textOf}
 

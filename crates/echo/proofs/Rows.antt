@@ -14,8 +14,9 @@ use Rattle.scan.specs.declared.Amount.{Amount}
 use Rattle.scan.specs.declared.Mistake.{Mistake}
 use Rattle.scan.specs.declared.Name.{Name}
 use Rattle.scan.specs.declared.Scan.{Scan}
-use Rattle.scan.specs.Scan.{accepted, isNumber, negated, numbered, placed, scan, withToken}
-use Rattle.scan.specs.Scan as scanning
+use Rattle.scan.specs.Scan.{isNumber, negated, numbered, placed, scan, withToken}
+use Rattle.scanning.specs.Scanning.{accepted}
+use Rattle.scanning.specs.Scanning as scanning
 use Rattle.line.specs.declared.Line.{Line}
 use Rattle.line.specs.Line.{byRow, finished, nothingRead, ruleStatement, ruleWith}
 use Rattle.row_rules.specs.Rules.{ruleAt, ruleOf, signedWord}

@@ -13,7 +13,8 @@ use Rattle.numeral.specs.declared.Numeral.{Numeral}
 use Rattle.numeral.specs.Numeral.{next, numeralFrom, start}
 use Rattle.token.specs.Token.{BLANK, COMMENT, begun, classOf, more, opened, packed, token}
 use Rattle.scan.specs.declared.Scan.{Scan}
-use Rattle.scan.specs.Scan.{closed, step, steps, withToken}
+use Rattle.scan.specs.Scan.{withToken}
+use Rattle.scanning.specs.Scanning.{closed, step, steps}
 
 -- all letters have a class
 unfoldable pub classed : ℕ → List ℕ → Bool

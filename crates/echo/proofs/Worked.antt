@@ -11,7 +11,8 @@ use Rattle.numeral.specs.Numeral.{bad, belowZero, digit, next, pointed, valueOf
 use Rattle.grammar.specs.Grammar.{find, kindOf}
 use Rattle.grammar.specs.Kinds.{packedFrom}
 use Rattle.token.specs.Token.{begun, classOf, isBlank, isSign, isWord, kind, more, opened, packed, textKind}
-use Rattle.scan.specs.Scan.{closed, started, step, steps, withToken}
+use Rattle.scan.specs.Scan.{started, withToken}
+use Rattle.scanning.specs.Scanning.{closed, step, steps}
 use Rattle.phrase.specs.Phrase.{signedly}
 use Rattle.forms.specs.Forms.{formText}
 use Rattle.figure.specs.Figure.{numberText}

@@ -9,7 +9,8 @@ use Rattle.numeral.specs.declared.Numeral.{Numeral}
 use Rattle.grammar.specs.Kinds.{NAME}
 use Rattle.token.specs.Token.{WORD, kind, token}
 use Rattle.scan.specs.declared.Name.{Name}
-use Rattle.scan.specs.Scan.{started, steps, withToken}
+use Rattle.scan.specs.Scan.{started, withToken}
+use Rattle.scanning.specs.Scanning.{steps}
 use Rattle.line.specs.declared.Line.{Line}
 use Rattle.line.specs.declared.Statement.the-variants as said
 

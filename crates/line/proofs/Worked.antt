@@ -7,24 +7,8 @@ use Rattle.numeral.specs.Numeral.{afterZero, belowZero, digit, next, pastDigit,
 use Rattle.grammar.specs.Grammar.{expected, find, follow, isWatts, isWhole, kindOf, rowAt}
 use Rattle.grammar.specs.Kinds.{packedFrom}
 use Rattle.token.specs.Token.{begun, classOf, isBlank, isSign, isWord, kind, kindOfNumber, more, opened, packed, textKind}
-use Rattle.scan.specs.Scan.{
-  accepted,
-  closed,
-  failed,
-  followed,
-  insteadOf,
-  isNumber,
-  named,
-  negated,
-  numbered,
-  placed,
-  scanned,
-  started,
-  step,
-  steps,
-  takesNumber,
-  withToken,
-}
+use Rattle.scan.specs.Scan.{failed, insteadOf, isNumber, named, negated, numbered, placed, started, takesNumber, withToken}
+use Rattle.scanning.specs.Scanning.{accepted, closed, followed, scanned, step, steps}
 use Rattle.row_rules.specs.Rules.{ruleAt, ruleOf, signedWord}
 use Rattle.line.specs.Line.{byRow, finished, nothingRead, other, read, ruleStatement, ruleWith}
 use Rattle.line.specs.Examples.{Example, examples}

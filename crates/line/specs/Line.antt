@@ -12,7 +12,7 @@ use Rattle.grammar.specs.Kinds.{SHORTER-LINE, SIGNED-WORD}
 use Rattle.scan.specs.declared.Amount.{Amount}
 use Rattle.scan.specs.declared.Mistake.{Mistake}
 use Rattle.scan.specs.declared.Scan.{Scan}
-use Rattle.scan.specs.Scan.{scanned}
+use Rattle.scanning.specs.Scanning.{scanned}
 use Rattle.line.specs.declared.Line.{Line}
 use Rattle.line.specs.declared.Statement.{Statement}
 use Rattle.line.specs.declared.Statement.the-variants.{

@@ -66,7 +66,7 @@ pub fn read(line: &[u8], width: Width) -> Line
             },
         };
     }
-    let scan = scan::whole(line);
+    let scan = scanning::whole(line);
     let name = scan.name;
     Line {
         statement: finish(scan, line.len(), width),

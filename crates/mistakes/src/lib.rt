@@ -139,7 +139,7 @@ fn row_of(number: u64, statement: Statement, width: u64) -> u64 {
 
 // Where a refusal is told: at the number that is at fault, the first of two where that is too large, and where none is at the beginning of the statement.
 fn place_of(text: &[u8], row: u64, width: u64) -> usize {
-    let scan = scan::whole(text);
+    let scan = scanning::whole(text);
     let name = scan.name;
     let first = scan.first;
     let second = scan.second;

@@ -1,6 +1,7 @@
-// A line read letter by letter, up to its first mistake: how far its kinds follow the grammar, its name, and its numbers.
+// What is read of a line so far: how far its kinds follow the grammar, its name, its numbers and its first mistake; what a token adds to it; and what is
+// said to be expected where a token is wrong.
 ghost use mathlib.Core.Path.{_≡_};
-ghost use Rattle.scan.specs.Scan.{accepted, closed, failed, followed, insteadOf, isNumber, named, negated, numbered, placed, scanned, started, step, takesNumber, withToken};
+ghost use Rattle.scan.specs.Scan.{failed, insteadOf, isNumber, named, negated, numbered, placed, started, takesNumber, withToken};
 use grammar::Place;
 use grammar::kind;
 use numeral::Numeral;
@@ -38,20 +39,9 @@ pub struct Scan {
     pub mistake: Mistake,
 }
 
-// The whole line.
-pub fn whole(line: &[u8]) -> Scan
-    ensures { λ r. ⌜ r ≡ scanned (now (line .entry)) ⌝ }
-{
-    let mut s = Scan::start();
-    for i in 0..line.len() {
-        s = s.step(line[i], i);
-    }
-    s.close(line.len())
-}
-
 impl Scan {
     // Nothing is read.
-    fn start() -> Scan
+    pub fn start() -> Scan
         ensures { λ r. ⌜ r ≡ started ⌝ }
     {
         let numeral = Numeral::start();
@@ -81,79 +71,14 @@ impl Scan {
         }
     }
 
-    // A letter more, at a place: of the token's class it is one more of it, and a comment takes all; else the token ends there.
-    fn step(self, b: u8, at: usize) -> Scan
-        ensures { λ r. ⌜ r ≡ step self b at ⌝ }
-    {
-        let class = token::class_of(b);
-        let token = self.token;
-        if token.class == class {
-            return self.with_token(token.more(b));
-        }
-        if token.class == Token::COMMENT {
-            return self.with_token(token.more(b));
-        }
-        self.close(at).with_token(Token::begin(class, b, at))
-    }
-
-    // The token ends before a place; blanks and comments are none.
-    fn close(self, at: usize) -> Scan
-        ensures { λ r. ⌜ r ≡ closed self at ⌝ }
-    {
-        let token = self.token;
-        let place = self.place;
-        if self.wrong {
-            return self;
-        }
-        if token.class == Token::BLANK {
-            return self;
-        }
-        if token.class == Token::COMMENT {
-            return self;
-        }
-        self.accept(token.kind(place.is_watts()), at)
-    }
-
-    // The token has a kind, and ends before a place.
-    fn accept(self, kind: u8, at: usize) -> Scan
-        ensures { λ r. ⌜ r ≡ accepted self kind at ⌝ }
-    {
-        let token = self.token;
-        let before = self.place;
-        let place = before.follow(kind);
-        if place.limit <= place.row {
-            return self.failed(token.from, instead_of(kind, before.expected()));
-        }
-        self.follow(kind, place, at)
-    }
-
-    // The line goes on: what the kind of the token adds to it.
-    fn follow(self, kind: u8, place: Place, at: usize) -> Scan
-        ensures { λ r. ⌜ r ≡ followed self kind place at ⌝ }
-    {
-        if kind == kind::NOT {
-            return self.negated(Place::start(Place::NOT));
-        }
-        if kind == kind::COLON {
-            return self.placed(Place::start(Place::NAME));
-        }
-        if kind == kind::NAME {
-            return self.named(place, at);
-        }
-        if is_number(kind) {
-            return self.numbered(place);
-        }
-        self.placed(place)
-    }
-
-    fn with_token(mut self, token: Token) -> Scan
+    pub fn with_token(mut self, token: Token) -> Scan
         ensures { λ r. ⌜ r ≡ withToken self token ⌝ }
     {
         self.token = token;
         self
     }
 
-    fn failed(mut self, at: usize, expected: u8) -> Scan
+    pub fn failed(mut self, at: usize, expected: u8) -> Scan
         ensures { λ r. ⌜ r ≡ failed self at expected ⌝ }
     {
         let mistake = Mistake { at, expected };
@@ -162,14 +87,14 @@ impl Scan {
         self
     }
 
-    fn placed(mut self, place: Place) -> Scan
+    pub fn placed(mut self, place: Place) -> Scan
         ensures { λ r. ⌜ r ≡ placed self place ⌝ }
     {
         self.place = place;
         self
     }
 
-    fn negated(mut self, place: Place) -> Scan
+    pub fn negated(mut self, place: Place) -> Scan
         ensures { λ r. ⌜ r ≡ negated self place ⌝ }
     {
         self.negated = true;
@@ -178,7 +103,7 @@ impl Scan {
     }
 
     // The token is a name.
-    fn named(mut self, place: Place, at: usize) -> Scan
+    pub fn named(mut self, place: Place, at: usize) -> Scan
         ensures { λ r. ⌜ r ≡ named self place at ⌝ }
     {
         let token = self.token;
@@ -193,7 +118,7 @@ impl Scan {
     }
 
     // The token is a number: it is the second now, and the second the first.
-    fn numbered(mut self, place: Place) -> Scan
+    pub fn numbered(mut self, place: Place) -> Scan
         ensures { λ r. ⌜ r ≡ numbered self place ⌝ }
     {
         let token = self.token;
@@ -211,7 +136,7 @@ impl Scan {
 }
 
 // Whether a kind is one of numbers.
-fn is_number(kind: u8) -> bool
+pub fn is_number(kind: u8) -> bool
     ensures { λ r. ⌜ r ≡ isNumber kind ⌝ }
 {
     if kind < kind::NUMBER {
@@ -221,7 +146,7 @@ fn is_number(kind: u8) -> bool
 }
 
 // What is said to be expected where a kind stands: of a number past 64 bits, where a number may stand, one within them.
-fn instead_of(kind: u8, expected: u8) -> u8
+pub fn instead_of(kind: u8, expected: u8) -> u8
     ensures { λ r. ⌜ r ≡ insteadOf kind expected ⌝ }
 {
     if kind != kind::LARGE {

@@ -1,11 +1,12 @@
--- `Scan::accept` meets its contract: the test picks the case. Assumes nothing.
+-- `accept` meets its contract: the test picks the case. Assumes nothing.
 use native.Mathlib.Omega.{arith}
 use mathlib.Core.Path.{ap, _∙_}
 use borrow.Author.Tests.{le-leb, lt-leb}
-use Rattle.scan.specs.Scan.{accepted, failed, insteadOf}
+use Rattle.scan.specs.Scan.{failed, insteadOf}
+use Rattle.scanning.specs.Scanning.{accepted}
 use borrow.Author.Needs.{needs}
-use Rattle.scan.proofs.Scan.accept.Statement.{statement}
-use Rattle.scan.proofs.Scan.accept.Tie as tie
+use Rattle.scanning.proofs.accept.Statement.{statement}
+use Rattle.scanning.proofs.accept.Tie as tie
 
 follow-requires : tie.Need-follow-requires
 follow-requires c κs = search needs
@@ -25,7 +26,7 @@ returns c =
     let a = c .before .before .before .before .before .before .before .before .args in
     let q = c .before .before .before .before .before .follow .result in
     rw (← c .before .before .before .before .before .follow .ensures, le-leb (q .limit) (q .row) (omega arith))
-    (c .failed .ensures ∙ ap (failed (a .self) (a .self .token .from)) (c .before .instead-of .ensures ∙ ap (insteadOf (a .kind)) (c .before .before .expected .ensures)))
+    (c .failed .ensures ∙ ap (failed (a .s) (a .s .token .from)) (c .before .instead-of .ensures ∙ ap (insteadOf (a .kind)) (c .before .before .expected .ensures)))
 
 follow-requires-2 : tie.Need-follow-requires-2
 follow-requires-2 c κs = search needs

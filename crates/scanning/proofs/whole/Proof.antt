@@ -6,10 +6,11 @@ use native.Mathlib.Omega.{arith}
 use borrow.Author.Needs.{needs}
 use lib.ListN.{drop, length}
 use lib.Seq.{drop-cons, drop-length}
 use Rattle.scan.specs.declared.Scan.{Scan}
-use Rattle.scan.specs.Scan.{closed, scanned, started, step, steps}
-use Rattle.scan.proofs.whole.Statement.{statement}
-use Rattle.scan.proofs.whole.Tie as tie
+use Rattle.scan.specs.Scan.{started}
+use Rattle.scanning.specs.Scanning.{closed, scanned, step, steps}
+use Rattle.scanning.proofs.whole.Statement.{statement}
+use Rattle.scanning.proofs.whole.Tie as tie
 
 abbrev Inv-loop : tie.InvT-loop
 Inv-loop line s₀ i₀ i-end s i = (i ≤ length line) × (steps started 0 line ≡ steps s i (drop i line))

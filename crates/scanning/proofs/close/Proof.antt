@@ -1,4 +1,4 @@
--- `Scan::close` meets its contract: the tests pick the row. Assumes nothing.
+-- `close` meets its contract: the tests pick the row. Assumes nothing.
 use native.Mathlib.Omega.{arith}
 use mathlib.Core.Path.{_≡_, ap, sym, _∙_}
 use mathlib.Core.Bool.{false}
@@ -6,11 +6,11 @@ use Prim.Native.Nat.{ℕ}
 use borrow.Author.Tests.{eq-eqb, ne-eqb}
 use Rattle.grammar.specs.Grammar.{isWatts}
 use Rattle.token.specs.Token.{BLANK, COMMENT, kind}
 use Rattle.scan.specs.declared.Scan.{Scan}
-use Rattle.scan.specs.Scan.{accepted, closed}
+use Rattle.scanning.specs.Scanning.{accepted, closed}
 use borrow.Author.Needs.{needs}
-use Rattle.scan.proofs.Scan.close.Statement.{statement}
-use Rattle.scan.proofs.Scan.close.Tie as tie
+use Rattle.scanning.proofs.close.Statement.{statement}
+use Rattle.scanning.proofs.close.Tie as tie
 
 -- a token that ends has its kind
 goes : (s : Scan) (at : ℕ) → s .wrong ≡ false → (s .token .class ≡ BLANK → ⊥) → (s .token .class ≡ COMMENT → ⊥)
@@ -26,12 +26,12 @@ returns c =
 returns-2 : tie.Need-returns-2
 unfolding closed
 returns-2 c =
-    let a = c .before .before .before .before .before .args in rw (c .before .before .if1 .left, eq-eqb (a .self .token .class) 0 (omega arith))
+    let a = c .before .before .before .before .before .args in rw (c .before .before .if1 .left, eq-eqb (a .s .token .class) 0 (omega arith))
 
 returns-3 : tie.Need-returns-3
 unfolding closed
 returns-3 c =
-    let a = c .before .before .before .before .before .before .before .args in rw (c .before .before .before .before .if1 .left, ne-eqb (a .self .token .class) 0 (λ e. omega arith), eq-eqb (a .self .token .class) 3 (omega arith))
+    let a = c .before .before .before .before .before .before .before .args in rw (c .before .before .before .before .if1 .left, ne-eqb (a .s .token .class) 0 (λ e. omega arith), eq-eqb (a .s .token .class) 3 (omega arith))
 
 is-watts-requires : tie.Need-is-watts-requires
 is-watts-requires c κs = search needs
@@ -46,8 +46,8 @@ returns-4 : tie.Need-returns-4
 returns-4 c =
     let a = c .before .before .before .before .before .before .before .before .before .before .args in
     c .accept .ensures
-    ∙ ap (λ (k : ℕ). accepted (a .self) k (a .at)) (c .before .kind .ensures ∙ ap (kind (a .self .token)) (c .before .before .is-watts .ensures))
-    ∙ sym (goes (a .self) (a .at) (c .before .before .before .before .before .before .before .if1 .left) (λ e. omega arith) (λ e. omega arith))
+    ∙ ap (λ (k : ℕ). accepted (a .s) k (a .at)) (c .before .kind .ensures ∙ ap (kind (a .s .token)) (c .before .before .is-watts .ensures))
+    ∙ sym (goes (a .s) (a .at) (c .before .before .before .before .before .before .before .if1 .left) (λ e. omega arith) (λ e. omega arith))
 
 pub close-spec : {M : Type 1} → statement M
 close-spec =

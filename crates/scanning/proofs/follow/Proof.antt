@@ -1,11 +1,12 @@
--- `Scan::follow` meets its contract: the kind picks the row. Assumes nothing.
+-- `follow` meets its contract: the kind picks the row. Assumes nothing.
 use native.Mathlib.Omega.{arith}
 use mathlib.Core.Path.{ap, sym, _∙_}
 use borrow.Author.Tests.{eq-eqb, ne-eqb}
-use Rattle.scan.specs.Scan.{followed, negated, placed}
+use Rattle.scan.specs.Scan.{negated, placed}
+use Rattle.scanning.specs.Scanning.{followed}
 use borrow.Author.Needs.{needs}
-use Rattle.scan.proofs.Scan.follow.Statement.{statement}
-use Rattle.scan.proofs.Scan.follow.Tie as tie
+use Rattle.scanning.proofs.follow.Statement.{statement}
+use Rattle.scanning.proofs.follow.Tie as tie
 
 start-requires : tie.Need-start-requires
 start-requires c κs = search needs
@@ -16,7 +17,7 @@ negated-requires c κs = search needs
 returns : tie.Need-returns
 unfolding followed
 returns c =
-    let a = c .before .before .before .args in rw (eq-eqb (a .kind) 11 (omega arith)) (c .negated .ensures ∙ ap (negated (a .self)) (c .before .start .ensures))
+    let a = c .before .before .before .args in rw (eq-eqb (a .kind) 11 (omega arith)) (c .negated .ensures ∙ ap (negated (a .s)) (c .before .start .ensures))
 
 start-requires-2 : tie.Need-start-requires-2
 start-requires-2 c κs = search needs
@@ -27,7 +28,7 @@ placed-requires c κs = search needs
 returns-2 : tie.Need-returns-2
 unfolding followed
 returns-2 c =
-    let a = c .before .before .before .before .args in rw (ne-eqb (a .kind) 11 (λ e. omega arith), eq-eqb (a .kind) 10 (omega arith)) (c .placed .ensures ∙ ap (placed (a .self)) (c .before .start2 .ensures))
+    let a = c .before .before .before .before .args in rw (ne-eqb (a .kind) 11 (λ e. omega arith), eq-eqb (a .kind) 10 (omega arith)) (c .placed .ensures ∙ ap (placed (a .s)) (c .before .start2 .ensures))
 
 named-requires : tie.Need-named-requires
 named-requires c κs = search needs
