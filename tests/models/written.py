@@ -95,7 +95,7 @@ def read(line, width):
     if not sofar and limit == len(ROWS):
         return [0], name
     if sofar not in ROWS[:limit]:
-        return [14, len(line), wanted(sofar, limit)], name
+        return [14, len(line.split(b"#")[0].rstrip(b" \t\r")), wanted(sofar, limit)], name
     return said(ROWS.index(sofar), negated, numbers, width), name
 
 

@@ -23,7 +23,7 @@ use Rattle.row_rules.specs.Rules.{ruleAt, ruleOf, signedWord}
 use Rattle.echo.specs.Echo.{says}
 use Rattle.echo.proofs.Pieces.{Piece, below, followed, number, the}
 
--- where a rule begins in a line: what a scan holds there that no rule depends on, the place, and the line's end
+-- where a rule begins in a line: what a scan holds there that no rule depends on, the place, the line's end, and where what it says ends
 pub record Opening : Type 0 where
   pub token : Token
   pub name : Name
@@ -32,6 +32,7 @@ pub record Opening : Type 0 where
   pub mistake : Mistake
   pub at : ℕ
   pub end : ℕ
+  pub last : ℕ
 
 -- nothing is read, or a name and its colon
 abbrev pub opened : (after : Bool) → Opening → Scan
@@ -42,7 +43,7 @@ lineOf w s end = record { statement = finished w s end; name = s .name }
 
 -- the pieces say just a rule
 abbrev pub Say : Bool → Opening → ℕ → List Piece → Rule → Type 0
-Say after z w ps r = lineOf w (followed (opened after z) (z .at) ps (z .end)) (z .end) ≡ says (z .name) r
+Say after z w ps r = lineOf w (followed (opened after z) (z .at) ps (z .end)) (z .last) ≡ says (z .name) r
 
 -- in either sense
 abbrev pub Both : Bool → Opening → ℕ → List Piece → (form c1 c2 : ℕ) → Type 0

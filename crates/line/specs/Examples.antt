@@ -135,6 +135,7 @@ examples =
     ∷ wrong "x + 5 < 3" 6 AT-MOST
     ∷ wrong "x <= 9 x" 7 END
     ∷ wrong "x <=" 4 NUMBER
+    ∷ wrong "list from 3 # words" 11 NUMBER
     ∷ wrong "x <= 18446744073709551616" 5 LARGE
     ∷ plain 8 (bytesOf "signed x <= 200") (Wrong (mistake 12 SIGNED-WORD))
     ∷ wrong "not mark" 4 RULE
@@ -155,6 +156,8 @@ examples =
     ∷ wrong "watts at least 0.1234567890" 15 AMOUNT
     ∷ wrong "list from 3" 11 NUMBER
     ∷ wrong "ask 3" 4 END
+    ∷ wrong "not# x" 3 RULE
+    ∷ plain 16 (bytesOf "x <= " ++ 9 ∷ 13 ∷ []) (Wrong (mistake 4 NUMBER))
     ∷ wrong "x 18446744073709551616" 2 AT-MOST
     ∷ wrong "18446744073709551616 <= x + 5" 0 LARGE
     ∷ plain 4 (bytesOf "-9 <= signed x") (Wrong (mistake 0 SIGNED-WORD))

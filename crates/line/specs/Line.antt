@@ -31,6 +31,7 @@ use Rattle.line.specs.declared.Statement.the-variants.{
   Wrong,
 }
 use Rattle.line.specs.declared.Statement.the-variants as said
+use Rattle.line_end.specs.End.{endOf}
 use Rattle.row_rules.specs.Rules.{ruleOf, signedWord}
 
 -- the most bytes that a line may have
@@ -83,7 +84,7 @@ unfoldable pub nothingRead : Place → Bool
 nothingRead p = eqb (p .shape) 0 && eqb (p .limit) ROWS
 
 -- What a line says that was scanned to its end: its first mistake; nothing, where nothing was read; what its row says; or that more was
--- expected at its end.
+-- expected where it ends.
 unfoldable pub finished : ℕ → Scan → ℕ → Statement
 finished w s end =
     cond (s .wrong) (Wrong (s .mistake))
@@ -94,4 +95,4 @@ finished w s end =
 unfoldable pub read : ℕ → List ℕ → Line
 read w l =
     cond (ltb LIMIT (length l)) (record { statement = Wrong (mistake LIMIT SHORTER-LINE); name = record { named = false; from = 0; to = 0 } })
-    (record { statement = finished w (scanned l) (length l); name = scanned l .name })
+    (record { statement = finished w (scanned l) (endOf l); name = scanned l .name })

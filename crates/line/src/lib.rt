@@ -4,6 +4,7 @@ ghost use Rattle.word.specs.Word.{IsWidth};
 ghost use Rattle.line.specs.Line.{byRow, finished, nothingRead, other, read, ruleStatement};
 use grammar::Place;
 use grammar::kind;
+use line_end::end_of;
 use row_rules::rule_of;
 use row_rules::signed_word;
 use rule::Rule;
@@ -69,12 +70,12 @@ pub fn read(line: &[u8], width: Width) -> Line
     let scan = scanning::whole(line);
     let name = scan.name;
     Line {
-        statement: finish(scan, line.len(), width),
+        statement: finish(scan, end_of(line), width),
         name,
     }
 }
 
-// What a line that was scanned to its end says.
+// What a line that was scanned to its end says; what was left out was expected where what it says ends.
 fn finish(scan: Scan, end: usize, width: Width) -> Statement
     requires { ⌜ IsWidth (width .bits) ⌝ }
     ensures { λ r. ⌜ r ≡ finished (width .bits) scan end ⌝ }

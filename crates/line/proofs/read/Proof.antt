@@ -1,9 +1,11 @@
 -- `read` meets its contract: a line that is too long, or one that is scanned. Assumes nothing.
 use native.Mathlib.Omega.{arith}
 use mathlib.Core.Path.{ap, _∙_}
+use Prim.Native.Nat.{ℕ}
 use borrow.Author.Tests.{le-ltb, lt-ltb}
 use lib.ListN.{length}
 use Rattle.scan.specs.declared.Scan.{Scan}
+use Rattle.line_end.specs.End.{endOf}
 use Rattle.line.specs.declared.Line.{Line}
 use Rattle.line.specs.declared.Statement.{Statement}
 use Rattle.line.specs.Line.{finished, read}
@@ -23,16 +25,22 @@ returns c =
 whole-requires : tie.Need-whole-requires
 whole-requires c κs = search needs
 
+end-of-requires : tie.Need-end-of-requires
+end-of-requires c κs = search needs
+
 finish-requires : tie.Need-finish-requires
 finish-requires c κs = search needs
 
 returns-2 : tie.Need-returns-2
 unfolding read
 returns-2 c =
-    let a = c .before .before .before .before .before .args in
+    let a = c .before .before .before .before .before .before .args in
     let l = a .line .now in
+    let s = c .before .before .before .whole in
     rw (le-ltb 1024 (length l) (omega arith))
-    (ap (said (c .before .before .whole .result)) (c .finish .ensures) ∙ ap (λ (s : Scan). said s (finished (a .width .bits) s (length l))) (c .before .before .whole .ensures))
+    (ap (said (s .result)) (c .finish .ensures)
+    ∙ ap (λ (end : ℕ). said (s .result) (finished (a .width .bits) (s .result) end)) (c .before .end-of .ensures)
+    ∙ ap (λ (z : Scan). said z (finished (a .width .bits) z (endOf l))) (s .ensures))
 
 pub read-spec : {M : Type 1} → statement M
-read-spec = tie.close (tie.spec returns whole-requires finish-requires returns-2)
+read-spec = tie.close (tie.spec returns whole-requires end-of-requires finish-requires returns-2)
