@@ -1,10 +1,10 @@
 -- A line looked at eight bytes at a step: it goes on so far where no byte so far is a byte 10. Assumes nothing.
-use mathlib.Core.Path.{_≡_, refl, sym, ap, _∙_}
+use mathlib.Core.Path.{_≡_, ap}
 use mathlib.Core.Bool.{Bool, and-true, not, _&&_}
 use mathlib.Core.List.{List}
 use Prim.Native.Nat.{ℕ, zero, suc, _+_, _≤_, _<_}
 use native.Mathlib.Decide.{ℕ-discrete}
-use native.Mathlib.Nat.{add-suc, add-zero, suc-add}
+use native.Mathlib.Nat.{add-zero}
 use native.Mathlib.Omega.{arith}
 use borrow.Author.Tests.{eq-eqb, ne-eqb}
 use lib.Dec.{eqb, leb, leb·suc-suc, leb·suc-zero, leb·zero}
@@ -19,13 +19,14 @@ goes s i = not (eqb (getD s i 0) NEWLINE)
 
 module _ (s : List ℕ) (i j k : ℕ) (h : i < length s) (e : j ≡ suc i) where
   -- a line has one byte more than k where this one is no byte 10 and k follow
-  pub one-more : leb (suc k) (length (lineOf (drop i s))) ≡ (goes s i && leb k (length (lineOf (drop j s))))
+  one-more : leb (suc k) (length (lineOf (drop i s))) ≡ (goes s i && leb k (length (lineOf (drop j s))))
   one-more = go (ℕ-discrete (getD s i 0) NEWLINE)
     where
       go : Dec (getD s i 0 ≡ NEWLINE) → leb (suc k) (length (lineOf (drop i s))) ≡ (goes s i && leb k (length (lineOf (drop j s))))
       go (yes q) = rw (line-stops s i h q, eq-eqb (getD s i 0) NEWLINE q) (leb·suc-zero k)
       go (no n) = rw (line-goes s i h n, ne-eqb (getD s i 0) NEWLINE n, e) (leb·suc-suc k (length (lineOf (drop (suc i) s))))
 
+-- a line has eight bytes where none of the next eight is a byte 10
 pub eight-more : (s : List ℕ) (i : ℕ) → i + 8 ≤ length s → leb 8 (length (lineOf (drop i s)))
     ≡ (goes s i && (goes s (i + 1) && (goes s (i + 2) && (goes s (i + 3) && (goes s (i + 4) && (goes s (i + 5) && (goes s (i + 6) && goes s (i + 7))))))))
 eight-more s i h =
