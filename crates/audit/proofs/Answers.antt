@@ -3,8 +3,6 @@ use mathlib.Core.Path.{_≡_, sym, ap, _∙_}
 use mathlib.Core.Bool.{false}
 use mathlib.Core.List.{List}
 use Prim.Native.Nat.{ℕ}
-use native.Mathlib.Decide.{ℕ-discrete}
-use borrow.Author.Tests.{eq-eqb, ne-eqb}
 use lib.ListN.{length}
 use Rattle.verdict.specs.Kept.{kept}
 use Rattle.chain.specs.Findings.{findings}
@@ -14,25 +12,17 @@ use Rattle.page.specs.Reached.{Reached}
 use Rattle.sheet.specs.declared.Reply.{Reply}
 use Rattle.sheet.specs.declared.Sheet.{Sheet}
 use Rattle.sheet.specs.Record.{fresh}
-use Rattle.sheet.specs.Statements.{Asked, reply}
-use Rattle.sheet.proofs.WaysOfAsking.{accepted-reply}
+use Rattle.sheet.specs.Statements.{Asked}
+use Rattle.sheet.proofs.WaysOfAsking.{accepted-reply, reply-number}
 use Rattle.fitting.specs.Words.{howMany}
 use Rattle.counting.specs.declared.Share.{Share}
 use Rattle.counting.specs.Share.{together}
 use Rattle.counting.proofs.Free.{together-shares}
 use Rattle.counting.specs.Counted.{Counted, countGrounds, shareOf}
 
-number-of : (pg : Page) (m : ℕ) → reply pg m .number ≡ refusal pg (ask m)
-unfolding reply
-number-of pg m = go (ℕ-discrete (refusal pg (ask m)) 0)
-  where
-    go : Dec (refusal pg (ask m) ≡ 0) → reply pg m .number ≡ refusal pg (ask m)
-    go (yes e) = rw (eq-eqb (refusal pg (ask m)) 0 e) (sym e)
-    go (no n) = rw (ne-eqb (refusal pg (ask m)) 0 n)
-
 module _ {s : Sheet} (pg : Page) (h : Reached pg) (e : s ≡ fresh pg) {b b′ : List ℕ} {r : Reply} (a : Asked s b b′ r) where
   pub asked-number : r .number ≡ refusal pg (ask (length b))
-  asked-number = ap Reply.number (a .on-page pg h e .0) ∙ number-of pg (length b)
+  asked-number = ap Reply.number (a .on-page pg h e .0) ∙ reply-number pg (length b)
 
   pub asked-kept : r .number ≡ 0 → r .kept ≡ kept (widthOf pg) (rulesOf pg)
   unfolding findings

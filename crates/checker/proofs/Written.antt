@@ -1,12 +1,11 @@
 -- "Every chain that we write is accepted": a chain covers every word with links that show their words, and the buffer holds its links
 -- three numbers each. Assumes nothing.
-use mathlib.Core.Path.{_≡_, refl, sym, ap, ap₂, _∙_}
-use mathlib.Core.Bool.{Bool, true, false, not, _&&_}
+use mathlib.Core.Path.{_≡_, sym, ap, ap₂, _∙_}
+use mathlib.Core.Bool.{true, not, _&&_}
 use mathlib.Core.List.{List}
 use Prim.Native.Nat.{ℕ, _*_}
 use native.Mathlib.Omega.{arith}
-use borrow.Author.Tests.{eq-eqb, eqb-true, ne-eqb}
-use lib.Dec.{eqb}
+use borrow.Author.Tests.{eq-eqb, ne-eqb}
 use lib.ListN.{length, take}
 use lib.Seq.{take-at}
 use Rattle.rule.specs.declared.Rule.{Rule}
@@ -29,7 +28,7 @@ use Rattle.sheet.proofs.Fresh.{given}
 use Rattle.page.proofs.Lawful.{reached-lawful, reached-page}
 use Rattle.page.proofs.Refusals.{blank-ask}
 use Rattle.sheet.proofs.Tested.{sheet-dec, sheet-passes}
-use Rattle.sheet.proofs.WaysOfAsking.{accepted-reply, the-chain}
+use Rattle.sheet.proofs.WaysOfAsking.{accepted-reply, reply-number, the-chain}
 use Rattle.covering.specs.Check.{shown, shownBy}
 use Rattle.checker.specs.Check.{accepts}
 use Rattle.covering.proofs.Covering.{covers-shown}
@@ -51,15 +50,6 @@ shown-accepted {s} o h e ns d =
     let open-sheet : s .width ≡ 0 → ⊥ = λ z. omega (arith, g .width) in
     ap₂ _&&_ (sheet-passes s (record { on = page o; reached = h; gives = e }))
     (ap₂ _&&_ (ap not (ne-eqb (s .width) 0 open-sheet)) (ap₂ (λ (v : ℕ) (us : List Rule). shownBy v us ns) (g .width) (g .rules) ∙ d))
-
--- asking answers the number of the table
-reply-number : (pg : Page) (m : ℕ) → reply pg m .number ≡ refusal pg (ask m)
-unfolding reply
-reply-number pg m = go (eqb (refusal pg (ask m)) 0) refl
-  where
-    go : (b : Bool) → eqb (refusal pg (ask m)) 0 ≡ b → reply pg m .number ≡ refusal pg (ask m)
-    go true d = rw (d) (sym (eqb-true (refusal pg (ask m)) 0 d))
-    go false d = rw (d)
 
 on-page : {s : Sheet} (b : List ℕ) {b′ : List ℕ} {r : Reply} (pg : Page) → Reached pg → s ≡ fresh pg → r ≡ reply pg (length b) → b′ ≡ overlaid (chainOn pg (length b)) b
     → r .number ≡ 0 → r .kept .verdict ≡ 0 → accepts s (take (3 * r .links) b′) ≡ true

@@ -4,6 +4,7 @@ use mathlib.Core.Path.{_≡_, refl, sym, ap, ap₂, _∙_, subst}
 use mathlib.Core.Bool.{Bool, cond}
 use mathlib.Core.List.{List, [], _++_}
 use Prim.Native.Nat.{ℕ, _*_, _≤_, _<_}
+use native.Mathlib.Decide.{ℕ-discrete}
 use native.Mathlib.Omega.{arith}
 use borrow.Author.Tests.{eq-eqb, ne-eqb}
 use lib.ListN.{drop, length, take}
@@ -59,6 +60,14 @@ module _ (pg : Page) (m : ℕ) where
   pub accepted-reply : refusal pg (ask m) ≡ 0 → replies 0 (findings (widthOf pg) (rulesOf pg) .kept) (length said) ≡ reply pg m
   unfolding reply
   accepted-reply q = sym (ap₂ (λ (b : Bool) (ls : List Link). choice b (refusal pg (ask m)) ls) (eq-eqb _ 0 q) (the-chain q))
+
+  -- asking answers the number of the table
+  pub reply-number : reply pg m .number ≡ refusal pg (ask m)
+  reply-number = go (ℕ-discrete (refusal pg (ask m)) 0)
+    where
+      go : Dec (refusal pg (ask m) ≡ 0) → reply pg m .number ≡ refusal pg (ask m)
+      go (yes q) = sym (ap Reply.number (accepted-reply q)) ∙ sym q
+      go (no z) = sym (ap Reply.number (refused-reply refl z))
 
 overlaid-none : (b : List ℕ) → b ≡ overlaid [] b
 unfolding numbersOf
