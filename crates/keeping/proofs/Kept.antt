@@ -17,12 +17,11 @@ use Rattle.rule.specs.declared.Rule.{Rule}
 use Rattle.rule.specs.Meaning.{RULES}
 use Rattle.page.specs.Page.{MARKS, Page, no-page, page}
 use Rattle.page.specs.Reached.{Reached}
-use Rattle.page.proofs.Lawful.{LawfulPage, reached-lawful, reached-page}
+use Rattle.page.proofs.Lawful.{reached-lawful, reached-page}
 use Rattle.sheet.specs.declared.Sheet.{Sheet}
 use Rattle.sheet.specs.Record.{fresh}
 use Rattle.sheet.specs.Statements.{IsSheet}
-use Rattle.sheet.proofs.Fresh.{given}
-use Rattle.sheet.proofs.Tested.{sheet-dec}
+use Rattle.sheet.proofs.Tested.{places, sheet-dec}
 use Rattle.handing.specs.Handed.{editionOf}
 use Rattle.keeping.specs.Numbers.{HEAD, IsKept, NUMBERS, RULES-AT, flat, numberOf, numbersOf}
 use Rattle.keeping.specs.route.Reading.{marksIn, rulesFrom, rulesIn, sheetIn}
@@ -143,18 +142,13 @@ module _ (ns : List ℕ) (many : length ns ≡ NUMBERS) where
 
 -- ---- a sheet's numbers
 
-sized : (pg : Page) → LawfulPage pg → (length (fresh pg .rules) ≡ RULES) × (length (fresh pg .marks) ≡ MARKS)
-unfolding fresh
-sized no-page l = (refl, refl)
-sized (page o) l = let g = given o refl l in (g .rules-length, g .marks-length)
-
 -- numbers that are a sheet's are read as this sheet
 pub kept-read : {ns : List ℕ} {pg : Page} → Reached pg → ns ≡ numbersOf (fresh pg) → sheetIn ns ≡ fresh pg
-kept-read {ns} {pg} h e = let z = sized pg (reached-page h) in ap sheetIn e ∙ written-read (fresh pg) (z .0) (z .1)
+kept-read {ns} {pg} h e = let z = places pg (reached-page h) in ap sheetIn e ∙ written-read (fresh pg) (z .0) (z .1)
 
 kept-many : {ns : List ℕ} → IsKept ns → length ns ≡ NUMBERS
 kept-many {ns} k =
-    let z = sized (k .on) (reached-page (k .reached)) in ap length (k .gives) ∙ numbers-many (fresh (k .on)) (z .0) (z .1)
+    let z = places (k .on) (reached-page (k .reached)) in ap length (k .gives) ∙ numbers-many (fresh (k .on)) (z .0) (z .1)
 
 -- no page is of the new edition without a width
 no-width : (pg : Page) → Reached pg → fresh pg .width ≡ 0 → fresh pg .edition ≡ New → ⊥

@@ -143,7 +143,7 @@ passes-sheet s a b e = go (ℕ-discrete (s .width) 0)
 
 -- ---- so it can be told
 
-places : (pg : Page) → LawfulPage pg → (length (fresh pg .rules) ≡ RULES) × (length (fresh pg .marks) ≡ MARKS)
+pub places : (pg : Page) → LawfulPage pg → (length (fresh pg .rules) ≡ RULES) × (length (fresh pg .marks) ≡ MARKS)
 unfolding fresh
 places no-page l = (refl, refl)
 places (page o) l = let g = given o refl l in (g .rules-length, g .marks-length)
