@@ -17,14 +17,10 @@ use Rattle.page.specs.Page.{Page, no-page}
 use Rattle.sheet.specs.Record.{fresh}
 use Rattle.sheet.specs.Statements.{Asked, IsSheet, Outcome, Reads, chainOn, opened, overlaid, reply}
 use Rattle.page.proofs.Refusals.{after-refused}
-use Rattle.sheet.proofs.Tested.{sheet-dec}
+use Rattle.sheet.proofs.Tested.{same-outcome, sheet-dec, sheet-or-not}
 
 reads-unique : {s : Sheet} {c : Call} {r r′ : Answer} → Reads s c r → Reads s c r′ → r ≡ r′
-reads-unique {s} {c} {r} {r′} a a′ = go (sheet-dec s)
-  where
-    go : Dec (IsSheet s) → r ≡ r′
-    go (yes h) = a .on-page (h .on) (h .reached) (h .gives) ∙ sym (a′ .on-page (h .on) (h .reached) (h .gives))
-    go (no n) = a .no-sheet n ∙ sym (a′ .no-sheet n)
+reads-unique {s} a a′ = sheet-or-not s (λ pg h e. a .on-page pg h e ∙ sym (a′ .on-page pg h e)) (λ n. a .no-sheet n ∙ sym (a′ .no-sheet n))
 
 pub outcome-unique : (s : Sheet) (c : Call) {r r′ : Answer} → Outcome s c r → Outcome s c r′ → r ≡ r′
 unfolding Outcome
@@ -38,14 +34,8 @@ outcome-unique s (set-gate g) a a′ = reads-unique a a′
 
 pub asked-unique : {s : Sheet} {b b₁ b₂ : List ℕ} {r₁ r₂ : Reply} → Asked s b b₁ r₁ → Asked s b b₂ r₂
     → (r₁ ≡ r₂) × (b₁ ≡ b₂)
-asked-unique {s} {b} {b₁} {b₂} {r₁} {r₂} a a′ = go (sheet-dec s)
-  where
-    go : Dec (IsSheet s) → (r₁ ≡ r₂) × (b₁ ≡ b₂)
-    go (yes h) =
-        let p = a .on-page (h .on) (h .reached) (h .gives) in
-        let q = a′ .on-page (h .on) (h .reached) (h .gives) in
-        (p .0 ∙ sym (q .0), p .1 ∙ sym (q .1))
-    go (no n) = let p = a .no-sheet n in let q = a′ .no-sheet n in (p .0 ∙ sym (q .0), p .1 ∙ sym (q .1))
+asked-unique {s} a a′ =
+    sheet-or-not s (λ pg h e. same-outcome (a .on-page pg h e) (a′ .on-page pg h e)) (λ n. same-outcome (a .no-sheet n) (a′ .no-sheet n))
 
 opened-leaves : (s : Sheet) (g : Opening) → (opened s g .number ≡ 0 → ⊥) → opened s g .sheet ≡ s
 unfolding opened

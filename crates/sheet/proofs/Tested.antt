@@ -25,7 +25,7 @@ use Rattle.slate.proofs.Shaped.{none-waits, passes-same, same-passes}
 use Rattle.sheet.specs.route.Shape.{isSheet}
 use Rattle.page.specs.route.Shape.{marksShaped, rising, rulesShaped}
 use Rattle.sheet.specs.Statements.{IsSheet}
-use Rattle.page.specs.Reached.Reached.{start}
+use Rattle.page.specs.Reached.{Reached, start}
 use Rattle.sheet.proofs.Fresh.{given, in-force}
 use Rattle.page.proofs.Lawful.{LawfulPage, LawfulPile, reached-page}
 use Rattle.page.proofs.Replayed.{lawful-reached}
@@ -159,3 +159,15 @@ sheet-dec s = go (ℕ-discrete (length (s .rules)) RULES) (ℕ-discrete (length 
     go (yes a) (no b) t e = no (λ h. b (sized h .1))
     go (yes a) (yes b) true e = yes (passes-sheet s a b e)
     go (yes a) (yes b) false e = no (λ h. false≢true (sym e ∙ sheet-passes s h))
+
+-- what follows where a page gives the record, and where the record is no sheet, follows
+pub sheet-or-not : (s : Sheet) {A : Type 0} → ((pg : Page) → Reached pg → s ≡ fresh pg → A) → ((IsSheet s → ⊥) → A) → A
+sheet-or-not s {A} on none = go (sheet-dec s)
+  where
+    go : Dec (IsSheet s) → A
+    go (yes h) = on (h .on) (h .reached) (h .gives)
+    go (no n) = none n
+
+-- two outcomes with a buffer each are the same where both are a third
+pub same-outcome : {A B : Type 0} {x y z : A} {u v w : B} → (x ≡ z) × (u ≡ w) → (y ≡ z) × (v ≡ w) → (x ≡ y) × (u ≡ v)
+same-outcome p q = (p .0 ∙ sym (q .0), p .1 ∙ sym (q .1))
