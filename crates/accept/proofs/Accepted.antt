@@ -1,25 +1,17 @@
 -- Rules that would be accepted are what the verdict asks of rules. Assumes nothing.
-use mathlib.Core.Path.{_≡_, refl, sym, _∙_}
-use mathlib.Core.Bool.{Bool, true, false, true≢false, not, _&&_, _||_}
+use mathlib.Core.Path.{_≡_}
+use mathlib.Core.Bool.{true, false, not, _&&_, _||_}
 use mathlib.Core.List.{List, [], _∷_}
 use Prim.Native.Nat.{ℕ, _≤_}
 use native.Mathlib.Omega.{arith}
 use borrow.Author.Tests.{eq-eqb, eqb-false, eqb-true, ltb-false}
 use lib.Dec.{eqb, leb, ltb}
 use Rattle.word.specs.Word.{top}
-use Rattle.word.proofs.Tests.{both-pass}
+use Rattle.word.proofs.Tests.{both-fail, both-pass, first-fails}
 use Rattle.rule.specs.declared.Rule.{Rule}
 use Rattle.rule.specs.Meaning.{AllLawful, Lawful}
 use Rattle.accept.specs.Accept.{acceptable, badConstant, badSense, every, refusalOf, ruleGrounds, strayBit}
 use Rattle.accept.proofs.Grounds.{none-given}
-
-both-fail : (a b : Bool) → (a || b) ≡ false → (a ≡ false) × (b ≡ false)
-both-fail true b e = absurd (true≢false e)
-both-fail false b e = (refl, e)
-
-first-fails : (a b : Bool) → b ≡ true → (a && b) ≡ false → a ≡ false
-first-fails true b h e = absurd (true≢false (sym h ∙ e))
-first-fails false b h e = refl
 
 plain-sense : (r : Rule) → badSense r ≡ false → r .form ≡ 7 → r .sense ≡ 0
 unfolding badSense

@@ -1,7 +1,7 @@
 -- The four rules of a gate by their closed form: at least a limit is within it and the infinity above all, at most a limit within the
 -- infinity below all and it, since every number lies between the infinities. Assumes nothing.
 use mathlib.Core.Path.{_≡_, refl, sym, ap, ap₂, fun-ext, subst, _∙_}
-use mathlib.Core.Bool.{Bool, true, false, not, _&&_, _||_, and-true, cond, false≢true}
+use mathlib.Core.Bool.{Bool, true, false, not, _&&_, and-true, cond, false≢true}
 use Prim.Native.Nat.{ℕ, _+_, _%_, _^_}
 use native.Mathlib.Omega.{arith}
 use lib.Dec.{T}
@@ -10,6 +10,7 @@ use lib.Ieee.Bits.{nanBits-above, nanBits-is, ofBits-toBits, toBits-lt}
 use lib.Ieee.Compare.{differs-from-itself, nan-differs}
 use borrow.Author.Tests.{ltb-false}
 use Rattle.word.specs.Word.{half, top}
+use Rattle.word.proofs.Tests.{both-fail}
 use Rattle.gate.specs.declared.Four.{Four}
 use Rattle.gate.specs.declared.Gate.{Gate}
 use Rattle.gate.specs.declared.Gate.the-variants.{AtLeast, AtMost, Within}
@@ -71,10 +72,6 @@ pub infinity-limits : IsLimit 0x7f800000 × IsLimit 0xff800000
 unfolding top
 infinity-limits = (record { word = omega arith; number = omega arith }, record { word = omega arith; number = omega arith })
 
-neither : (a b : Bool) → (a || b) ≡ false → (a ≡ false) × (b ≡ false)
-neither true b e = absurd (false≢true (sym e))
-neither false b e = (refl, e)
-
 -- a gate whose limits are single-precision numbers
 module _ (g : Gate) (single : Single g) (numbers : notNumbers g ≡ false) where
   pub limits : IsLimit (lowOf g) × IsLimit (highOf g)
@@ -85,7 +82,7 @@ module _ (g : Gate) (single : Single g) (numbers : notNumbers g ≡ false) where
       go (AtLeast l) s n = (is-limit l s n, infinity-limits .0)
       go (AtMost h) s n = (infinity-limits .1, is-limit h s n)
       go (Within i) s n =
-          let two = neither (isNan (i .low)) (isNan (i .high)) n in
+          let two = both-fail (isNan (i .low)) (isNan (i .high)) n in
           (is-limit (i .low) (s .0) (two .0), is-limit (i .high) (s .1) (two .1))
 
   pub gate-rules : fourOf (through g) ≡ betweenRules (lowOf g) (highOf g)

@@ -9,6 +9,7 @@ use native.Mathlib.Nat.{mod-lt}
 use native.Mathlib.Omega.{arith}
 use lib.ListN.{length}
 use borrow.Author.Tests.{ltb-true}
+use Rattle.word.proofs.Tests.{both-fail}
 use Rattle.interval.specs.declared.Interval.{Interval}
 use Rattle.span.specs.declared.Joined.{Joined}
 use Rattle.interval.specs.declared.Op.{Op}
@@ -18,7 +19,6 @@ use Rattle.span.specs.Join.{allCut, anyHollow, asGiven, isWidth}
 use Rattle.span.specs.Join as join
 use Rattle.interval.specs.Op.{second}
 use Rattle.interval.proofs.Intervals.{hollow-none}
-use Rattle.span.proofs.Joining.{both-fail}
 use Rattle.span.proofs.Outcome.{else-cut, empty-gives-back}
 use Rattle.net_step.specs.declared.Join.{Join}
 use Rattle.net.specs.declared.Net.{Net}

@@ -7,6 +7,7 @@ use native.Mathlib.Decide.{ℕ-discrete}
 use native.Mathlib.Omega.{arith}
 use lib.Dec.{eqb}
 use Rattle.word.specs.Word.{top}
+use Rattle.word.proofs.Tests.{both-fail}
 use Rattle.interval.specs.declared.Interval.{Interval}
 use Rattle.interval.specs.declared.Op.{Op}
 use Rattle.interval.specs.declared.Op.the-variants.{And, Not, Or, Xor}
@@ -16,7 +17,6 @@ use Rattle.span.specs.Join.{allCut, allWithin, anyHollow, asGiven, isWidth, joi
 use Rattle.interval.specs.Op.{inverted, result, second}
 use Rattle.span.specs.Join as join
 use Rattle.interval.proofs.Intervals.{both-within, in-cut, not-hollow, ordered}
-use Rattle.span.proofs.Joining.{both-fail}
 use Rattle.span.proofs.Outcome as outcome
 use Rattle.net_step.specs.declared.Join.{Join}
 use Rattle.net.specs.Demand.{AllIn}

@@ -1,11 +1,11 @@
 -- What a join asks before it cuts, and its three ways out. Assumes nothing.
 use mathlib.Core.Path.{_≡_, refl, sym, ap, _∙_}
-use mathlib.Core.Bool.{Bool, true, false, _&&_, _||_, cond, true≢false}
+use mathlib.Core.Bool.{Bool, true, false, _&&_, _||_, cond}
 use Prim.Native.Nat.{ℕ, _≤_}
 use native.Mathlib.Omega.{arith}
 use borrow.Author.Tests.{eq-eqb, ne-eqb}
 use Rattle.word.specs.Word.{IsWidth, top}
-use Rattle.word.proofs.Tests.{both-pass}
+use Rattle.word.proofs.Tests.{both-fail, both-pass}
 use Rattle.interval.specs.declared.Interval.{Interval}
 use Rattle.span.specs.declared.Joined.{Joined}
 use Rattle.interval.specs.declared.Op.{Op}
@@ -28,10 +28,6 @@ rows true true false e = (refl, (refl, refl))
 rows true true true e = absurd (omega arith)
 rows true false c e = absurd (omega arith)
 rows false b c e = absurd (omega arith)
-
-pub both-fail : (a b : Bool) → (a || b) ≡ false → (a ≡ false) × (b ≡ false)
-both-fail true b e = absurd (true≢false e)
-both-fail false b e = (refl, e)
 
 -- where y is cut there is a y
 pub has-y : (op : Op) (i : Interval) → 2 ≤ inverted op → second op i ≡ i

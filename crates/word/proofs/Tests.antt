@@ -1,7 +1,8 @@
--- Two tests are the same test where each passes when the other does, and a test of two things passes where both do.
+-- Two tests are the same test where each passes when the other does, a test of two things passes where both do, and a test of one of two
+-- things fails where both do.
 -- Assumes nothing.
-use mathlib.Core.Path.{_≡_, refl, sym}
-use mathlib.Core.Bool.{Bool, true, false, _&&_, false≢true}
+use mathlib.Core.Path.{_≡_, refl, sym, _∙_}
+use mathlib.Core.Bool.{Bool, true, false, _&&_, _||_, false≢true, true≢false}
 use Prim.Native.Nat.{ℕ, _-_, _≤_, _<_}
 use native.Mathlib.Omega.{arith}
 use borrow.Author.Tests.{le-leb, leb-true, lt-ltb, ltb-true}
@@ -15,6 +16,15 @@ same-test false false f g = refl
 pub both-pass : (a b : Bool) → (a && b) ≡ true → (a ≡ true) × (b ≡ true)
 both-pass true b e = (refl, e)
 both-pass false b e = absurd (false≢true e)
+
+pub both-fail : (a b : Bool) → (a || b) ≡ false → (a ≡ false) × (b ≡ false)
+both-fail true b e = absurd (true≢false e)
+both-fail false b e = (refl, e)
+
+-- of two tests that do not both pass the first fails where the second passes
+pub first-fails : (a b : Bool) → b ≡ true → (a && b) ≡ false → a ≡ false
+first-fails true b h e = absurd (true≢false (sym h ∙ e))
+first-fails false b h e = refl
 
 pub leb-same : (a b c d : ℕ) → (a ≤ b → c ≤ d) → (c ≤ d → a ≤ b) → leb a b ≡ leb c d
 leb-same a b c d f g = same-test (leb a b) (leb c d) (λ e. le-leb c d (f (leb-true a b e))) (λ e. le-leb a b (g (leb-true c d e)))
