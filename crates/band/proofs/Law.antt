@@ -61,10 +61,9 @@ module _ (w : ℕ) (b : Band) (words : Words w b) where
 
 -- a band by the sense, where s says that it is as written
 module _ (b : Band) where
-  side-holds : (s : Bool) (x : ℕ) → holds (cond s b (otherSide b)) x ≡ cond s (holds b x) (not (holds b x))
+  pub other-holds : (x : ℕ) → holds (otherSide b) x ≡ not (holds b x)
   unfolding holds
-  side-holds true x = refl
-  side-holds false x = go (b .inside)
+  other-holds x = go (b .inside)
     where
       v : Bool
       v = within (b .from) (b .to) x
@@ -72,6 +71,10 @@ module _ (b : Band) where
       go : (i : Bool) → cond (not i) (not v) v ≡ not (cond i (not v) v)
       go true = sym (Bool·not-not v)
       go false = refl
+
+  side-holds : (s : Bool) (x : ℕ) → holds (cond s b (otherSide b)) x ≡ cond s (holds b x) (not (holds b x))
+  side-holds true x = refl
+  side-holds false x = other-holds x
 
   side-laid : (t : ℕ) → Laid t b → (s : Bool) → Laid t (cond s b (otherSide b))
   side-laid t l true = l

@@ -18,6 +18,7 @@ use Rattle.word.proofs.Search.{count-two}
 use Rattle.word.proofs.Tests.{both-pass}
 use Rattle.band.specs.declared.Band.{Band}
 use Rattle.band.specs.route.Band.{AllLaid, Laid, allHold, holds, otherSide}
+use Rattle.band.proofs.Law.{other-holds}
 use Rattle.band.proofs.Runs.{edge, run-ends}
 use Rattle.rows.specs.route.Bands.{Lie}
 use Rattle.section.specs.declared.Section.{Section}
@@ -25,7 +26,6 @@ use Rattle.section.specs.route.Section.{sectionAt}
 use Rattle.section.specs.route.Sides.{fails, firstFailing, someFails}
 use Rattle.section.specs.route.Turns.{mostSections, sectionEnds, turns, turnsFrom}
 use Rattle.section.proofs.Alike.{fail-section, first-fails, held-section, section-alike}
-use Rattle.section.proofs.Scan.{other-holds}
 
 -- where a band turns, its run ends or that of its other side
 turn-edge : (b : Band) (t x : ℕ) → Laid t b → x < t → turns b x ≡ true → (x ≡ edge b) ⊎ (x ≡ edge (otherSide b))

@@ -1,7 +1,7 @@
 -- The bands looked at one after another, with the nearest end so far, come to the section by search: where two tests are taken
 -- together a climb goes as far as the nearer of the two goes. Assumes nothing.
 use mathlib.Core.Path.{_≡_, refl, sym, ap, _∙_}
-use mathlib.Core.Bool.{Bool, true, false, not, _&&_, cond, Bool·not-not}
+use mathlib.Core.Bool.{Bool, true, false, not, _&&_, cond}
 use mathlib.Core.Logic.{inl}
 use mathlib.Core.List.{List, [], _∷_}
 use Prim.Native.Nat.{ℕ, zero, suc, min, _+_, _-_, _≤_}
@@ -10,24 +10,15 @@ use Rattle.word.specs.Search.{climb}
 use Rattle.word.proofs.Climb.{climb-is}
 use Rattle.word.proofs.Search.{climb-same, climb-to}
 use Rattle.band.specs.declared.Band.{Band}
-use Rattle.band.specs.route.Band.{allHold, holds, otherSide, within}
+use Rattle.band.specs.route.Band.{allHold, holds, otherSide}
+use Rattle.band.proofs.Law.{other-holds}
 use Rattle.section.specs.declared.Section.{Section}
 use Rattle.section.specs.route.Section.{section, sectionAt}
 use Rattle.section.specs.route.Sides.{fails, firstFailing, someFails}
 
--- the band whose other side fails
-pub other-holds : (b : Band) (x : ℕ) → holds (otherSide b) x ≡ fails b x
-unfolding holds fails
-other-holds b x = go (b .inside)
-  where
-    v : Bool
-    v = within (b .from) (b .to) x
-
-    go : (i : Bool) → cond (not i) (not v) v ≡ not (cond i (not v) v)
-    go true = sym (Bool·not-not v)
-    go false = refl
-
+-- where the other side of a band holds, the band fails
 pub other-climb : (b : Band) (k p : ℕ) → climb (holds (otherSide b)) k p ≡ climb (fails b) k p
+unfolding fails
 other-climb b k p = climb-same (holds (otherSide b)) (fails b) k p (λ y l h. other-holds b y)
 
 -- the nearer of two ends

@@ -1,13 +1,12 @@
 -- `last_held` meets its contract: the words that the band holds are those that its other side fails. Assumes nothing.
 use mathlib.Core.Path.{ap, _∙_}
 use mathlib.Core.Bool.{not}
-use Rattle.section.specs.route.Sides.{fails}
-use Rattle.section.proofs.Scan.{other-climb, other-holds}
+use Rattle.band.proofs.Law.{other-holds}
+use Rattle.section.proofs.Scan.{other-climb}
 use Rattle.section.proofs.last_held.Statement.{statement}
 use Rattle.section.proofs.last_held.Tie as tie
 
 run-requires : tie.Need-run-requires
-unfolding fails
 run-requires c κs =
     let s = c .before in
     let l = s .pre .0 in
