@@ -1,6 +1,6 @@
 -- `refusal` meets its contract: each way out is a row of the definition. Assumes nothing.
 use mathlib.Core.Path.{_≡_, sym, ap, _∙_}
-use mathlib.Core.Bool.{true}
+use mathlib.Core.Bool.{Bool, true, cond}
 use Prim.Native.Nat.{ℕ}
 use borrow.Author.Needs.{needs}
 use borrow.Author.Tests.{not-false, not-true}
@@ -62,29 +62,21 @@ returns-3 c =
 none-hollow-requires : tie.Need-none-hollow-requires
 none-hollow-requires c κs = count-fits _ _ _ (fit (c .before .before .before))
 
-returns-4 : tie.Need-returns-4
+-- past the refusal with 5 the last row decides
+by-last : (c : tie.After-none-hollow) →
+    let net = c .before .before .before .before .before .before .before .before .before .before .args .self in
+    refusal net ≡ cond (c .none-hollow .result) 0 15
 unfolding refusal
-returns-4 c =
-    let n = c .before .before .before in
+by-last c =
+    let n = c .before .before in
     let b = n .before .before in
-    simp (
-      fit b,
-      wide b,
-      inside n ∙ not-false _ (c .before .before .if3 .left),
-      sym (c .before .none-hollow .ensures) ∙ not-true _ (c .if4 .taken),
-    )
+    simp (fit b, wide b, inside n ∙ not-false _ (c .before .if3 .left), sym (c .none-hollow .ensures))
+
+returns-4 : tie.Need-returns-4
+returns-4 c = sym (by-last (c .before) ∙ ap (λ (v : Bool). cond v 0 15) (not-true (c .before .none-hollow .result) (c .if4 .taken)))
 
 returns-5 : tie.Need-returns-5
-unfolding refusal
-returns-5 c =
-    let n = c .before .before .before in
-    let b = n .before .before in
-    simp (
-      fit b,
-      wide b,
-      inside n ∙ not-false _ (c .before .before .if3 .left),
-      sym (c .before .none-hollow .ensures) ∙ not-false _ (c .if4 .left),
-    )
+returns-5 c = sym (by-last (c .before) ∙ ap (λ (v : Bool). cond v 0 15) (not-false (c .before .none-hollow .result) (c .if4 .left)))
 
 pub refusal-spec : {M : Type 1} → statement M
 refusal-spec =
