@@ -1,5 +1,4 @@
 // A list of rules added on a slate one after another, up to the first refusal.
-ghost use mathlib.Core.Path.{_≡_};
 ghost use Prim.Native.Nat.{_≤_};
 ghost use lib.ListN.{take};
 ghost use Rattle.slate.specs.route.Held.{Held};

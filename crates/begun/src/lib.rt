@@ -1,5 +1,4 @@
 // A batch on its slate before it is asked: the blank sheet is laid out, opened and given each rule in order, up to the first refusal.
-ghost use mathlib.Core.Path.{_≡_};
 ghost use Prim.Native.Nat.{_≤_};
 ghost use lib.ListN.{take};
 ghost use Rattle.slate.specs.route.Held.{Held, Room};
