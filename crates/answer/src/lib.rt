@@ -11,7 +11,7 @@ ghost use Rattle.sheet.specs.route.Held.{packed};
 ghost use Rattle.answer.specs.Statements.{ChainLeft, FrameAnswered};
 ghost use Rattle.answer.specs.route.Told.{ComesTo, numberTold};
 
-mod telling;
+mod writing;
 
 use bits::Fixed;
 use frame::Frame;
@@ -64,7 +64,7 @@ pub fn answer(
     let told = called.told;
     let opening = after.opening;
     let edition = opening.edition;
-    let end = telling::put(&mut *out, at, edition, told, &*chain);
+    let end = writing::put(&mut *out, at, edition, told, &*chain);
     let fixed = after.fixed;
     AfterFrame {
         head: after.found(after.stands, same(fixed)),

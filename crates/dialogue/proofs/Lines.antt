@@ -3,7 +3,6 @@
 use mathlib.Core.Path.{_≡_, refl, sym, ap₂, subst, _∙_}
 use mathlib.Core.List.{List}
 use Prim.Native.Nat.{ℕ}
-use native.Mathlib.Omega.{arith}
 use borrow.Author.Tests.{le-leb, le-ltb}
 use Rattle.word.specs.Word.{IsWidth}
 use Rattle.line_width.specs.Width.{WIDEST, readingAt}

@@ -1,13 +1,11 @@
 -- `put_either` meets its contract: the sense picks the text. Assumes nothing.
-use mathlib.Core.Path.{_≡_, sym, ap}
+use mathlib.Core.Path.{_≡_, sym}
 use mathlib.Core.Bool.{cond}
 use mathlib.Core.List.{List}
 use Prim.Native.Nat.{ℕ}
-use native.Mathlib.Omega.{arith}
 use borrow.Author.Needs.{needs}
 use borrow.Author.Tests.{eq-eqb, ne-eqb}
 use lib.Dec.{eqb}
-use lib.ListN.{length}
 use Rattle.phrase.proofs.Putting.{put-as}
 use Rattle.signs.proofs.put_either.Statement.{statement}
 use Rattle.signs.proofs.put_either.Tie as tie
