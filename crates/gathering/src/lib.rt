@@ -1,9 +1,9 @@
 // A lab's chain, read from a descriptor part by part and line by line: its links, and the line of each. A mistake is said on standard error.
-mod mistaken;
+mod errors;
 
 use chain::Link;
 use citing::Citation;
-use mistaken::RULE_NAME;
+use errors::RULE_NAME;
 use naming::MOST;
 use printing::up_to;
 use printing::within;
@@ -236,12 +236,12 @@ fn put_link(reading: Reading, links: &mut [u64; LENT], link: Link, named: u64) -
 
 // A link that there is no room for.
 fn too_many(reading: Reading) -> Reading {
-    mistaken::say_too_many(reading.line);
+    errors::say_too_many(reading.line);
     reading.stopped()
 }
 
 // A line that is wrong.
 fn mistaken(reading: Reading, text: &[u8], mistake: Mistake) -> Reading {
-    mistaken::say(reading.line, text, mistake);
+    errors::say(reading.line, text, mistake);
     reading.stopped()
 }

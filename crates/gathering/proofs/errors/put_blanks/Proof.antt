@@ -1,8 +1,8 @@
 -- `put_blanks` is safe and ends: the measure is the blanks left. Assumes nothing.
 use Prim.Native.Nat.{_-_, _≤_}
 use borrow.Author.Needs.{needs}
-use Rattle.gathering.proofs.mistaken.put_blanks.Statement.{statement}
-use Rattle.gathering.proofs.mistaken.put_blanks.Tie as tie
+use Rattle.gathering.proofs.errors.put_blanks.Statement.{statement}
+use Rattle.gathering.proofs.errors.put_blanks.Tie as tie
 
 abbrev Inv-loop : tie.InvT-loop
 Inv-loop n i₀ t3 i = i ≤ n
