@@ -35,6 +35,9 @@ module _ (e : Edition) (us : List Rule) where
     number-is : refusal (w .on) (add e u) ≡ n
     number-is = sym (ap (λ (a : Answer). a .number) told)
 
+    sheet-is : packed h rows marks ≡ fresh (after (w .on) (add e u))
+    sheet-is = ap (λ (a : Answer). a .sheet) told
+
     -- the rules that are left, this one first
     to-add : Went e pg us (w .on) i (u ∷ drop (i + 1) us)
     to-add =
@@ -46,12 +49,12 @@ module _ (e : Edition) (us : List Rule) where
         record {
           on = after (w .on) (add e u);
           reached = after-reached (w .reached) (add e u);
-          gives = ap (λ (a : Answer). a .sheet) told;
+          gives = sheet-is;
           went = further to-add (number-is ∙ z);
         }
 
-    pub stop-way : Stopped e us pg n i
-    stop-way = record { on = w .on; this = u; left = drop (i + 1) us; went = to-add; refuses = number-is }
+    pub stop-way : Stopped e us pg n i (packed h rows marks)
+    stop-way = record { on = w .on; this = u; left = drop (i + 1) us; went = to-add; refuses = number-is; gives = sheet-is }
 
 -- the first so many rules of a list
 module _ (rules : List Rule) (n i : ℕ) (h : i < n) where

@@ -1,9 +1,11 @@
 // A list of rules added on a slate one after another, up to the first refusal.
-ghost use Prim.Native.Nat.{_≤_};
+ghost use Prim.Native.Nat.{_+_, _≤_};
 ghost use lib.ListN.{take};
+ghost use Rattle.rule.specs.Meaning.{RULES};
 ghost use Rattle.slate.specs.route.Held.{Held};
 ghost use Rattle.sheet.specs.route.Held.{packed};
-ghost use Rattle.adds.specs.route.Course.{Came, MOST};
+ghost use Rattle.sheet.specs.Statements.{IsSheet};
+ghost use Rattle.adds.specs.route.Course.{Came};
 use rows::NUMBERS;
 use rule::Rule;
 use sheet::Head;
@@ -33,8 +35,8 @@ pub fn add_all(
     rules: [Rule; Course::MOST],
     count: usize,
 ) -> Course
-    requires { ⌜ Held head (now rows) (now marks) ⌝ }
-    requires { ⌜ count ≤ MOST ⌝ }
+    requires { ⌜ Held head (now rows) (now marks) × IsSheet (packed head (now rows) (now marks)) ⌝ }
+    requires { ⌜ count ≤ RULES + 1 ⌝ }
     ensures { λ r. ⌜ Came edition (take count rules) (packed head (now (rows .entry)) (now (marks .entry))) (packed (r .head) (now (rows .exit)) (now (marks .exit))) (r .number) (r .place) ⌝ }
     ensures { λ r. ⌜ Held (r .head) (now (rows .exit)) (now (marks .exit)) ⌝ }
 {

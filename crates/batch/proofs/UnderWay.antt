@@ -31,7 +31,7 @@ module _ {e : Edition} {pg : Page} {us : List Rule} (m : ℕ) where
   went-on begun = refl
   went-on (further w z) = went-on w ∙ add-goes e _ _ _ _ m z
 
-  stop-way : {n i : ℕ} → Stopped e us pg n i → (n ≡ 0 → ⊥) → added e pg 0 us m ≡ stops n i
+  stop-way : {n i : ℕ} {t : Sheet} → Stopped e us pg n i t → (n ≡ 0 → ⊥) → added e pg 0 us m ≡ stops n i
   stop-way {n} {i} s z =
       went-on (s .went) ∙ add-stops e (s .on) i (s .this) (s .left) m (λ q. z (sym (s .refuses) ∙ q)) ∙ ap (λ (k : ℕ). stops k i) (s .refuses)
 
@@ -69,13 +69,13 @@ module _ (g : Opening) (us : List Rule) (n : ℕ) where
 
   pub refused-batch : {t : Sheet} {k i : ℕ} → Begun g us n t k i → (k ≡ 0 → ⊥) → (b : List ℕ) {a : Reply} {r : Batch} → r ≡ batches a i → a ≡ refuses k
       → Gives (batchAt g us n (length b)) b b r
-  refused-batch (Begun.refuses q z) y b e f = opening-stops q z b e f
+  refused-batch (Begun.refuses q z g₁) y b e f = opening-stops q z b e f
   refused-batch {k = k} {i = i} (opens z came) y b e f =
       rw (e, f, goes-on z (length b), stop-way (length b) (came .refused y opened-page reached refl) y) (stopped k i b)
 
   pub asked-batch : {t : Sheet} {k i : ℕ} → Begun g us n t k i → k ≡ 0 → {b b′ : List ℕ} {a : Reply} → Asked t b b′ a → {r : Batch} → r ≡ batches a i
       → Gives (batchAt g us n (length b)) b b′ r
-  asked-batch (Begun.refuses q z) y asked e = absurd (z y)
+  asked-batch (Begun.refuses q z g₁) y asked e = absurd (z y)
   asked-batch {i = i} (opens z came) y {b} asked e =
       let w = came .went y opened-page reached refl in
       rw (e, goes-on z (length b)) (asked-way (g .edition) us i (w .0) (w .1) asked)

@@ -14,12 +14,12 @@ use Rattle.sheet.specs.declared.Sheet.{Sheet}
 use Rattle.sheet.specs.route.Held.{packed}
 use Rattle.sheet.specs.route.Laid.{After}
 use Rattle.sheet.specs.Record.{blank, fresh}
-use Rattle.sheet.specs.Statements.{answers}
-use Rattle.demands.proofs.Demand.{outcome-on}
+use Rattle.sheet.specs.Statements.{IsSheet, answers}
+use Rattle.demands.proofs.Demand.{after-reached, outcome-on}
 use Rattle.adds.specs.route.Course.{Came}
 use Rattle.begun.specs.route.Begun.{Begun, opens, refuses}
 
-module _ (g : Opening) (us : List Rule) (n : ℕ) {s : Sheet} (laid : s ≡ blank) {k : ℕ} {h : Head} {rows : List (List ℕ)} {marks : List ℕ}
+module _ (g : Opening) {s : Sheet} (laid : s ≡ blank) {k : ℕ} {h : Head} {rows : List (List ℕ)} {marks : List ℕ}
     (after-open : After s (open-at g) k h rows marks) where
   said : answers k (packed h rows marks) ≡ answers (refusal no-page (open-at g)) (fresh (after no-page (open-at g)))
   unfolding fresh
@@ -28,9 +28,15 @@ module _ (g : Opening) (us : List Rule) (n : ℕ) {s : Sheet} (laid : s ≡ blan
   number-is : refusal no-page (open-at g) ≡ k
   number-is = sym (ap (λ (a : Answer). a .number) said)
 
-  pub refused-opening : (k ≡ 0 → ⊥) → {t : Sheet} → Begun g us n t k n
-  refused-opening z = refuses number-is z
+  sheet-is : packed h rows marks ≡ fresh (after no-page (open-at g))
+  sheet-is = ap (λ (a : Answer). a .sheet) said
 
-  pub opened-so : k ≡ 0 → {t : Sheet} {j i : ℕ} → Came (g .edition) us (packed h rows marks) t j i → Begun g us n t j i
-  opened-so z {t} {j} {i} came =
-      opens (number-is ∙ z) (subst (λ (v : Sheet). Came (g .edition) us v t j i) (ap (λ (a : Answer). a .sheet) said) came)
+  pub opened-sheet : IsSheet (packed h rows marks)
+  opened-sheet = record { on = after no-page (open-at g); reached = after-reached start (open-at g); gives = sheet-is }
+
+  module _ (us : List Rule) (n : ℕ) where
+    pub refused-opening : (k ≡ 0 → ⊥) → Begun g us n (packed h rows marks) k n
+    refused-opening z = refuses number-is z sheet-is
+
+    pub opened-so : k ≡ 0 → {t : Sheet} {j i : ℕ} → Came (g .edition) us (packed h rows marks) t j i → Begun g us n t j i
+    opened-so z {t} {j} {i} came = opens (number-is ∙ z) (subst (λ (v : Sheet). Came (g .edition) us v t j i) sheet-is came)

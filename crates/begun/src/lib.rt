@@ -1,9 +1,9 @@
 // A batch on its slate before it is asked: the blank sheet is laid out, opened and given each rule in order, up to the first refusal.
-ghost use Prim.Native.Nat.{_≤_};
+ghost use Prim.Native.Nat.{_+_, _≤_};
 ghost use lib.ListN.{take};
+ghost use Rattle.rule.specs.Meaning.{RULES};
 ghost use Rattle.slate.specs.route.Held.{Held, Room};
 ghost use Rattle.sheet.specs.route.Held.{packed};
-ghost use Rattle.adds.specs.route.Course.{MOST};
 ghost use Rattle.begun.specs.route.Begun.{Begun};
 pub use adds::Course;
 use adds::add_all;
@@ -23,7 +23,7 @@ pub fn begin(
     marks: &mut [usize; Sheet::MARKS],
 ) -> Course
     requires { ⌜ Room (now rows) (now marks) ⌝ }
-    requires { ⌜ count ≤ MOST ⌝ }
+    requires { ⌜ count ≤ RULES + 1 ⌝ }
     ensures { λ r. ⌜ Begun opening (take count rules) given (packed (r .head) (now (rows .exit)) (now (marks .exit))) (r .number) (r .place) ⌝ }
     ensures { λ r. ⌜ Held (r .head) (now (rows .exit)) (now (marks .exit)) ⌝ }
 {

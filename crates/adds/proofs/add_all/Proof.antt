@@ -25,7 +25,7 @@ abbrev μ-loop : tie.MeasureT-loop
 μ-loop rows₀ marks₀ edition count rules head₀ place₀ rows marks head place = count - place
 
 loop-holds : tie.Need-loop-holds Inv-loop μ-loop
-loop-holds c = (omega arith, c .pre .0, λ pg r q. begun-way _ _ r q)
+loop-holds c = (omega arith, c .pre .0 .0, λ pg r q. begun-way _ _ r q)
 
 sub-loop : tie.Need-sub-loop Inv-loop μ-loop
 sub-loop c = omega arith

@@ -4,7 +4,7 @@ use borrow.Author.Needs.{needs}
 use Rattle.sheet.specs.route.Held.{packed}
 use Rattle.sheet.specs.Record.{blank}
 use Rattle.sheet.proofs.Opened.{open-after}
-use Rattle.begun.proofs.Opening.{opened-so, refused-opening}
+use Rattle.begun.proofs.Opening.{opened-sheet, opened-so, refused-opening}
 use Rattle.begun.proofs.begin.Statement.{statement}
 use Rattle.begun.proofs.begin.Tie as tie
 
@@ -25,20 +25,21 @@ returns : tie.Need-returns
 returns c =
     let o = c .before .before in
     let done = open-after (o .before .before .before .lay-out .ensures .1) _ (o .«open» .ensures) in
-    (refused-opening _ _ _ (blank-is o) done (c .if1 .taken), done .held)
+    (refused-opening _ (blank-is o) done _ _ (c .if1 .taken), done .held)
 
 add-all-requires : tie.Need-add-all-requires
 add-all-requires c κs =
     let o = c .before .before .before .before in
     let y = o .before .before .before in
-    (open-after (y .lay-out .ensures .1) _ (o .«open» .ensures) .held, y .before .before .before .before .pre .1)
+    let done = open-after (y .lay-out .ensures .1) _ (o .«open» .ensures) in
+    ((done .held, opened-sheet _ (blank-is o) done), y .before .before .before .before .pre .1)
 
 returns-2 : tie.Need-returns-2
 returns-2 c =
     let e = c .before .before .before in
     let o = e .before .before in
     let done = open-after (o .before .before .before .lay-out .ensures .1) _ (o .«open» .ensures) in
-    (opened-so _ _ _ (blank-is o) done (e .if1 .left) (c .add-all .ensures .0), c .add-all .ensures .1)
+    (opened-so _ (blank-is o) done _ _ (e .if1 .left) (c .add-all .ensures .0), c .add-all .ensures .1)
 
 pub begin-spec : {M : Type 1} → statement M
 begin-spec = tie.close (tie.spec blank-requires lay-out-requires open-requires returns add-all-requires returns-2)

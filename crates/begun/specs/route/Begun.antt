@@ -12,5 +12,5 @@ use Rattle.adds.specs.route.Course.{Came}
 
 -- the number, and the place where it is said, with the record that is left; n is where a refused opening is said
 pub data Begun (g : Opening) (us : List Rule) (n : ℕ) (t : Sheet) : (number place : ℕ) → Type 0 where
-  refuses : {k : ℕ} → refusal no-page (open-at g) ≡ k → (k ≡ 0 → ⊥) → Begun g us n t k n
+  refuses : {k : ℕ} → refusal no-page (open-at g) ≡ k → (k ≡ 0 → ⊥) → t ≡ fresh (after no-page (open-at g)) → Begun g us n t k n
   opens : {k i : ℕ} → refusal no-page (open-at g) ≡ 0 → Came (g .edition) us (fresh (after no-page (open-at g))) t k i → Begun g us n t k i
