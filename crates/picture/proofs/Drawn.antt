@@ -8,7 +8,7 @@ use native.Mathlib.Omega.{arith}
 use borrow.Author.Tests.{eq-eqb, ltb-true, not-true}
 use lib.Dec.{eqb, ltb}
 use lib.ListN.{length, length-map, length-set, set, take}
-use Rattle.word.specs.Word.{top}
+use Rattle.word.specs.Word.{IsWidth, top}
 use Rattle.word.proofs.Tests.{both-pass}
 use Rattle.rule.specs.declared.Rule.{Rule}
 use Rattle.rule.specs.Meaning.{AllLawful, Lawful, RULES, fits, meets}
@@ -56,13 +56,13 @@ by-meets w r p q = same-cell (fits w (r ∷ [])) (meets w r) p q (λ x a b. and-
     and-true false = refl
 
 -- a rule alone in the rows
-module _ (w : ℕ) (one : 1 ≤ w) (r : Rule) (lawful : Lawful w r) (rows rows′ : List (List ℕ)) (room : length rows ≡ RULES) (put : rows′ ≡ set rows 0 (rowOf r (bandOf w r))) where
+module _ (w : ℕ) (width : IsWidth w) (r : Rule) (lawful : Lawful w r) (rows rows′ : List (List ℕ)) (room : length rows ≡ RULES) (put : rows′ ≡ set rows 0 (rowOf r (bandOf w r))) where
   first-of : (bs : List Band) → 0 < length bs → take 1 (set bs 0 (bandOf w r)) ≡ bandOf w r ∷ []
   first-of [] h = absurd (omega arith)
   first-of (b ∷ bs) h = refl
 
   bands-so : bandsIn rows′ ≡ set (bandsIn rows) 0 (bandOf w r)
-  bands-so = ap bandsIn put ∙ bands-put rows 0 r (bandOf w r)
+  bands-so = ap bandsIn put ∙ bands-put w width r lawful rows 0
 
   own-band : take 1 (bandsIn rows′) ≡ map (bandOf w) (r ∷ [])
   own-band = ap (take 1) bands-so ∙ first-of (bandsIn rows) (omega (arith, room, length-map rows bandIn))
@@ -75,7 +75,7 @@ module _ (w : ℕ) (one : 1 ≤ w) (r : Rule) (lawful : Lawful w r) (rows rows�
   alone-lies = record {
     places = ap length bands-so ∙ length-set (bandsIn rows) 0 (bandOf w r) ∙ length-map rows bandIn ∙ room;
     count = omega arith;
-    laid = subst (AllLaid (top w)) (sym own-band) (bands-laid w one (r ∷ []) all-lawful);
+    laid = subst (AllLaid (top w)) (sym own-band) (bands-laid w (width .low) (r ∷ []) all-lawful);
   }
 
   pub alone-of : OfLawful w (take 1 (bandsIn rows′)) (joined (Bits 0 0) r) (r ∷ [])

@@ -3,25 +3,30 @@
 use mathlib.Core.Path.{_≡_, refl, sym, ap, _∙_, subst}
 use mathlib.Core.Bool.{Bool, true, false, cond}
 use mathlib.Core.List.{List, [], _∷_, map}
-use Prim.Native.Nat.{ℕ, zero, suc, _≤_, _<_}
+use Prim.Native.Nat.{ℕ, zero, suc, _+_, _^_, _%_, _≤_, _<_}
 use native.Mathlib.Omega.{arith}
 use lib.Dec.{eqb}
+use lib.Pow.{pow-mono}
 use lib.ListN.{List·getD-map, getD, length, length-map, set, take}
 use lib.Seq.{getD-take, length-take-le}
+use Rattle.word.specs.Word.{IsWidth, top}
+use Rattle.word.proofs.Widths.{top-suc}
 use Rattle.rule.specs.declared.Rule.{Rule}
+use Rattle.rule.specs.Meaning.{Lawful}
 use Rattle.accept.specs.Accept.{noRule}
 use Rattle.band.specs.declared.Band.{Band}
-use Rattle.band.specs.route.Band.{AllLaid, Laid, turnedBand}
-use Rattle.band.proofs.Turn.{turned-laid}
-use Rattle.rows.specs.route.Bands.{allSeen, blankBand, seen}
-use Rattle.rows.specs.route.Rows.{bandIn, bandsIn, rowOf, ruleIn, rulesIn}
+use Rattle.band.specs.route.Band.{AllLaid, Laid, bandOf, holds, turnedBand}
+use Rattle.band.proofs.Law.{laid}
+use Rattle.band.proofs.Turn.{turned-holds, turned-laid}
+use Rattle.rows.specs.route.Bands.{allSeen, blankBand, faced, seen}
+use Rattle.rows.specs.route.Rows.{away, bandIn, bandsIn, onward, rowOf, ruleIn, rulesIn}
 
 pub rule-in : (rows : List (List ℕ)) (i : ℕ) → getD (rulesIn rows) i noRule ≡ ruleIn (getD rows i [])
 unfolding ruleIn
 rule-in rows i = List·getD-map ruleIn rows i []
 
 pub band-in : (rows : List (List ℕ)) (i : ℕ) → getD (bandsIn rows) i blankBand ≡ bandIn (getD rows i [])
-unfolding bandIn
+unfolding bandIn onward
 band-in rows i = List·getD-map bandIn rows i []
 
 map-set : {A B : Type 0} (f : A → B) (l : List A) (i : ℕ) (x : A) → map f (set l i x) ≡ set (map f l) i (f x)
@@ -34,20 +39,41 @@ pub rule-of : (r : Rule) (b : Band) → ruleIn (rowOf r b) ≡ r
 unfolding ruleIn rowOf
 rule-of r b = refl
 
-pub band-of : (r : Rule) (b : Band) → bandIn (rowOf r b) ≡ b
+-- as far up from a machine word as another is, is the other
+there : (a b : ℕ) → a < 2 ^ 64 → b < 2 ^ 64 → onward a (away a b) ≡ b
+unfolding onward away
+there a b h k = omega arith
+
+-- the only number of the machine that is so far
+pub far-so : (a b d : ℕ) → a < 2 ^ 64 → d < 2 ^ 64 → (d + a) % 2 ^ 64 ≡ b → d ≡ away a b
+unfolding away
+far-so a b d h k e = omega arith
+
+band-of : (r : Rule) (b : Band) → b .from < 2 ^ 64 → b .to < 2 ^ 64 → bandIn (rowOf r b) ≡ b
 unfolding bandIn rowOf
-band-of r b = λ k. record { from = b .from; to = b .to; inside = side (b .inside) k }
+band-of r b h l = λ k. record { from = b .from; to = there (b .from) (b .to) h l k; inside = side (b .inside) k }
   where
     side : (v : Bool) → eqb (cond v 1 0) 1 ≡ v
     side true = refl
     side false = refl
 
+-- a word of any width is a machine word
+pub machine : (w x : ℕ) → w ≤ 64 → x ≤ top w → x < 2 ^ 64
+machine w x h l = omega (arith, pow-mono {i = w} {j = 64} h, top-suc w)
+
 -- putting a row is a store in both lists
 pub rules-put : (rows : List (List ℕ)) (i : ℕ) (r : Rule) (b : Band) → rulesIn (set rows i (rowOf r b)) ≡ set (rulesIn rows) i r
 rules-put rows i r b = map-set ruleIn rows i (rowOf r b) ∙ ap (set (rulesIn rows) i) (rule-of r b)
 
-pub bands-put : (rows : List (List ℕ)) (i : ℕ) (r : Rule) (b : Band) → bandsIn (set rows i (rowOf r b)) ≡ set (bandsIn rows) i b
-bands-put rows i r b = map-set bandIn rows i (rowOf r b) ∙ ap (set (bandsIn rows) i) (band-of r b)
+-- the band of a lawful rule is one of machine words
+module _ (w : ℕ) (width : IsWidth w) (r : Rule) (lawful : Lawful w r) where
+  pub own-of : bandIn (rowOf r (bandOf w r)) ≡ bandOf w r
+  own-of =
+      let l = laid w (width .low) r lawful in
+      band-of r (bandOf w r) (machine w _ (width .high) (l .from-word)) (machine w _ (width .high) (l .to-word))
+
+  pub bands-put : (rows : List (List ℕ)) (i : ℕ) → bandsIn (set rows i (rowOf r (bandOf w r))) ≡ set (bandsIn rows) i (bandOf w r)
+  bands-put rows i = map-set bandIn rows i (rowOf r (bandOf w r)) ∙ ap (set (bandsIn rows) i) own-of
 
 map-at : {A B : Type 0} (f : A → B) (l : List A) (i : ℕ) (d : A) (e : B) → i < length l → getD (map f l) i e ≡ f (getD l i d)
 map-at f [] i d e h = absurd (omega arith)
@@ -86,3 +112,12 @@ module _ (turned : Bool) (t : ℕ) where
   pub seen-plain : (b : Band) → turned ≡ false → b ≡ seen turned t b
   unfolding seen
   seen-plain b e = ap (λ (v : Bool). cond v (turnedBand t b) b) (sym e)
+
+  -- a word is held as it is seen where it is held as it stands
+  pub seen-holds : (b : Band) (x : ℕ) → Laid t b → x ≤ t → holds (seen turned t b) x ≡ holds b (faced turned t x)
+  unfolding seen faced
+  seen-holds b x l h = elim turned [ true ↦ turned-holds t b x l h | false ↦ refl ]
+
+  pub faced-word : (x : ℕ) → x ≤ t → faced turned t x ≤ t
+  unfolding faced
+  faced-word x h = elim turned [ true ↦ omega arith | false ↦ h ]

@@ -13,7 +13,7 @@ use lib.Seq.{take-set-le, take-suc-set}
 use Rattle.word.proofs.Tests.{both-pass}
 use Rattle.word.specs.declared.Edition.{Edition}
 use Rattle.rule.specs.declared.Rule.{Rule}
-use Rattle.rule.specs.Meaning.{AllLawful, RULES}
+use Rattle.rule.specs.Meaning.{AllLawful, Lawful, RULES}
 use Rattle.accept.specs.Accept.{acceptable, every, refusalOf}
 use Rattle.accept.proofs.Accepted.{all-lawful}
 use Rattle.accept.proofs.Choices.{never}
@@ -86,6 +86,10 @@ module _ {h : Head} {rows : List (List ℕ)} {marks : List ℕ} (held : Held h r
   more-lawful : AllLawful w (rs ++ u ∷ [])
   more-lawful = one-good w rs u good (number-clear h d u q .0)
 
+  own-lawful : Lawful w u
+  unfolding AllLawful every
+  own-lawful = one-good w [] u refl (number-clear h d u q .0) .0
+
   module _ (rows₁ rows₂ : List (List ℕ)) (band : Band) (fixed : Fixed) (bare : rows₁ ≡ bareRows h rows) (own-band : band ≡ bandOf (h .opening .width) u)
       (put : rows₂ ≡ set rows₁ (h .counts .count) (rowOf u band)) (bits : fixed ≡ joined (h .fixed) u) where
     abbrev bareThen : List (List ℕ)
@@ -101,7 +105,7 @@ module _ {h : Head} {rows : List (List ℕ)} {marks : List ℕ} (held : Held h r
         ∙ ap (λ (l : List Rule). set l (h .counts .count) u) (bare-rules held none-before)
 
     bands-then : bandsIn rows₂ ≡ set (bandsIn bareThen) (h .counts .count) (bandOf w u)
-    bands-then = ap bandsIn put-bare ∙ bands-put bareThen (h .counts .count) u (bandOf w u)
+    bands-then = ap bandsIn put-bare ∙ bands-put w (width-so held none-before) u own-lawful bareThen (h .counts .count)
 
     rules-more : take n (rulesIn rows₂) ≡ rs ++ u ∷ []
     rules-more =

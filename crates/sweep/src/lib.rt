@@ -86,26 +86,25 @@ fn walk(
     let top = width.top();
     let mut found = Walked::Nothing;
     let mut p = start;
-    let mut i = n;
+    let mut i = fewer(n);
     let mut left = patience;
     'words: loop {
         let Found::At(x) = fixed.next(width, p) else {
             break;
         };
         p = x;
-        if 0 < i {
-            i -= 1;
-        }
+        let q = rows::facing(x, turned, top);
         let mut all = false;
         loop {
             if i < n {
-                let band = rows::band_at(rows, i, turned, top);
-                if !band.holds(p) {
+                if rows::fails_at(rows, i, width, q) {
+                    let band = rows::band_at(rows, i, turned, top);
                     let reach = band.run(top, p).to;
                     if reach == top {
                         break 'words;
                     }
                     p = reach + 1;
+                    i = fewer(i);
                     break;
                 }
                 i += 1;
@@ -126,11 +125,11 @@ fn walk(
 }
 
 // One less, where there is one.
-fn fewer(patience: usize) -> usize
-    ensures { λ r. ⌜ (patience ≡ 0 → r ≡ 0) ⌝ }
+fn fewer(n: usize) -> usize
+    ensures { λ r. ⌜ r ≡ n - 1 ⌝ }
 {
-    if 0 < patience {
-        return patience - 1;
+    if 0 < n {
+        return n - 1;
     }
     0
 }

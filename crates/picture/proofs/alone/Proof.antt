@@ -36,7 +36,7 @@ stretch-requires : tie.Need-stretch-requires
 stretch-requires c κs =
     let p = c .before .before in
     let s = p .before .before .before in
-    (s .pre .0, (alone-lies _ (s .pre .0 .low) (s .args .rule) (s .pre .1 .0) (replicate RULES noRow) _ refl (laid p), (subst Tidy (sym (c .with .ensures)) (alone-tidy (s .args .rule)), s .pre .1 .1, s .pre .1 .2)))
+    (s .pre .0, (alone-lies _ (s .pre .0) (s .args .rule) (s .pre .1 .0) (replicate RULES noRow) _ refl (laid p), (subst Tidy (sym (c .with .ensures)) (alone-tidy (s .args .rule)), s .pre .1 .1, s .pre .1 .2)))
 
 returns : tie.Need-returns
 returns c =
@@ -46,7 +46,7 @@ returns c =
     let a = s .args in
     c .stretch .ensures
     ∙ ap (λ (f : Fixed). cellOf (passes (take 1 (bandsIn (p .put .last .0))) f) (a .from) (a .to)) (w .with .ensures)
-    ∙ by-fits _ (s .pre .0 .low) _ _ (a .rule ∷ []) (alone-of _ (s .pre .0 .low) (a .rule) (s .pre .1 .0) (replicate RULES noRow) _ refl (laid p)) (a .from) (a .to) (s .pre .1 .2)
+    ∙ by-fits _ (s .pre .0 .low) _ _ (a .rule ∷ []) (alone-of _ (s .pre .0) (a .rule) (s .pre .1 .0) (replicate RULES noRow) _ refl (laid p)) (a .from) (a .to) (s .pre .1 .2)
     ∙ by-meets (a .width .bits) (a .rule) (a .from) (a .to)
 
 pub alone-spec : {M : Type 1} → statement M

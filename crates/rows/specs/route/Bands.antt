@@ -3,7 +3,7 @@
 use mathlib.Core.Path.{_≡_}
 use mathlib.Core.Bool.{Bool, false, _&&_, cond}
 use mathlib.Core.List.{List, map}
-use Prim.Native.Nat.{ℕ, _≤_}
+use Prim.Native.Nat.{ℕ, _-_, _≤_}
 use lib.ListN.{length, take}
 use Rattle.rule.specs.Meaning.{RULES}
 use Rattle.band.specs.declared.Band.{Band}
@@ -28,6 +28,10 @@ pub record Lie (t n : ℕ) (bands : List Band) : Type 0 where
 -- a band as it stands, or on the wheel of words turned round
 unfoldable pub seen : (turned : Bool) → ℕ → Band → Band
 seen turned t b = cond turned (turnedBand t b) b
+
+-- the word that a search so comes to, as it stands
+unfoldable pub faced : (turned : Bool) → ℕ → ℕ → ℕ
+faced turned t x = cond turned (t - x) x
 
 -- the bands so
 unfoldable pub allSeen : (turned : Bool) → ℕ → List Band → List Band

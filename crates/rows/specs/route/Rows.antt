@@ -2,7 +2,7 @@
 -- said elsewhere.
 use mathlib.Core.Bool.{cond}
 use mathlib.Core.List.{List, [], _∷_, map, _++_}
-use Prim.Native.Nat.{ℕ}
+use Prim.Native.Nat.{ℕ, _+_, _-_, _^_, _%_}
 use lib.Dec.{eqb}
 use lib.ListN.{drop, getD, take}
 use Rattle.rule.specs.declared.Rule.{Rule}
@@ -15,9 +15,16 @@ use Rattle.rows.specs.route.Bands.{blankBand}
 unfoldable pub ruleIn : List ℕ → Rule
 ruleIn row = rule (getD row 0 0) (getD row 1 0) (getD row 2 0) (getD row 3 0)
 
--- where the band starts, where it ends, and 1 where the words inside it fail
+-- how far it is up from one machine word to another, and the word so far up from one
+unfoldable pub away : (from to : ℕ) → ℕ
+away from to = (to + (2 ^ 64 - from)) % 2 ^ 64
+
+unfoldable pub onward : (from far : ℕ) → ℕ
+onward from far = (from + far) % 2 ^ 64
+
+-- where the band starts, how far up from there it ends, and 1 where the words inside it fail
 unfoldable pub bandIn : List ℕ → Band
-bandIn row = record { from = getD row 4 0; to = getD row 5 0; inside = eqb (getD row 6 0) 1 }
+bandIn row = record { from = getD row 4 0; to = onward (getD row 4 0) (getD row 5 0); inside = eqb (getD row 6 0) 1 }
 
 -- the rules that lie in the rows, and their bands
 abbrev pub rulesIn : List (List ℕ) → List Rule
@@ -34,7 +41,7 @@ rowOf r b =
     ∷ r .c1
     ∷ r .c2
     ∷ b .from
-    ∷ b .to
+    ∷ away (b .from) (b .to)
     ∷ cond (b .inside) 1 0
     ∷ 0
     ∷ 0

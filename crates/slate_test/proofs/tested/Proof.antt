@@ -98,8 +98,8 @@ low a = count-low _ _ _ (rules-places (start a .pre)) (start a .pre .marks-place
 few : (a : tie.Else2) → start a .args .head .counts .given ≤ RULES
 few a = parts a .given-high
 
-lawful : (a : tie.Else2) → AllLawful (start a .args .head .opening .width) (take (start a .args .head .counts .count) (rulesIn (start a .args .rows .now)))
-lawful a = first-lawful _ _ _ (rules-places (start a .pre)) (start a .pre .marks-places) (parts a) _ (low a)
+lawful : (a : tie.Else2) (n : ℕ) → n ≤ start a .args .head .counts .given → AllLawful (start a .args .head .opening .width) (take n (rulesIn (start a .args .rows .now)))
+lawful a n h = first-lawful _ _ _ (rules-places (start a .pre)) (start a .pre .marks-places) (parts a) n h
 
 draw-requires : tie.Need-draw-requires
 draw-requires c κs = let a = c .before in (width a, (omega (arith, low a, few a), start a .pre .rows-places))
@@ -112,7 +112,7 @@ bits-of-requires : tie.Need-bits-of-requires
 bits-of-requires c κs =
     let d = c .before in
     let a = begun d in
-    (omega (arith, low a, few a), rows-long (start a .args .head) (start a .pre) (width a .low) (low a) (few a) (lawful a) _ (d .draw .ensures))
+    (omega (arith, low a, few a), rows-long (start a .args .head) (start a .pre) (width a) (low a) (few a) (lawful a) _ (d .draw .ensures))
 
 top-requires : tie.Need-top-requires
 top-requires c κs = width (begun (c .before .before .before))
@@ -123,7 +123,7 @@ solve-requires c κs =
     let d = b .before .before in
     let a = begun d in
     let w = start a .args .head .opening .width in
-    let t = may-sweep (start a .args .head) (start a .pre) (width a .low) (low a) (few a) (lawful a) _ (d .draw .ensures) _ (b .bits-of .ensures) in
+    let t = may-sweep (start a .args .head) (start a .pre) (width a) (low a) (few a) (lawful a) _ (d .draw .ensures) _ (b .bits-of .ensures) in
     (width a, (t .lie, ((t .tidy, t .within), subst (Ends w _ _ 0) (sym (c .top .ensures)) (whole-wheel w _ _))))
 
 put-note-requires : tie.Need-put-note-requires
@@ -149,19 +149,19 @@ returns-3 c =
     let f = b .bits-of .result in
     let kept = v .solve .result in
     let then = p .put-note .last .0 in
-    let rules-too = rules-same h (s .pre) (width a .low) (low a) (few a) (lawful a) _ (d .draw .ensures) f (b .bits-of .ensures) kept (v .solve .ensures) then (p .put-note .ensures) in
+    let rules-too = rules-same h (s .pre) (width a) (low a) (few a) (lawful a) _ (d .draw .ensures) f (b .bits-of .ensures) kept (v .solve .ensures) then (p .put-note .ensures) in
     subst (All s then) (sym (c .found3 .ensures)) (
       refl,
       (
         rules-too,
         record {
-          room = room-still h (s .pre) (width a .low) (low a) (few a) (lawful a) _ (d .draw .ensures) f (b .bits-of .ensures) kept (v .solve .ensures) then (p .put-note .ensures);
+          room = room-still h (s .pre) (width a) (low a) (few a) (lawful a) _ (d .draw .ensures) f (b .bits-of .ensures) kept (v .solve .ensures) then (p .put-note .ensures);
           tested = k .same-kept .ensures
-              ∙ ap (sameKept (h .kept)) (kept-so h (s .pre) (width a .low) (low a) (few a) (lawful a) _ (d .draw .ensures) f (b .bits-of .ensures) kept (v .solve .ensures))
+              ∙ ap (sameKept (h .kept)) (kept-so h (s .pre) (width a) (low a) (few a) (lawful a) _ (d .draw .ensures) f (b .bits-of .ensures) kept (v .solve .ensures))
               ∙ told-kept h _ _ (else-1 a .if1 .left) (good a)
               ∙ ap (λ (rs : List Rule). standsSo h rs (s .args .marks .now)) (sym rules-too)
               ∙ sym (unread h _ _ _ _);
-          beside = λ e z. beside h (s .pre) (width a .low) (low a) (few a) (lawful a) _ (d .draw .ensures) f (b .bits-of .ensures) kept (v .solve .ensures) then (p .put-note .ensures) _;
+          beside = λ e z. beside h (s .pre) (width a) (low a) (few a) (lawful a) _ (d .draw .ensures) f (b .bits-of .ensures) kept (v .solve .ensures) then (p .put-note .ensures) _;
         },
       ),
     )
