@@ -1,8 +1,8 @@
 // The picture of a sheet on standard output, as comment lines of a sheet: a row for each rule in force, and one for all.
 use column::COLUMNS;
 use libc::STDOUT_FILENO;
-use picture::Cell;
 use rule::Rule;
+use shade::Cell;
 use sheet::Sheet;
 
 // Draws nothing where no sheet is open.
@@ -26,7 +26,7 @@ fn rule_rows(sheet: Sheet) {
 fn rule_row(sheet: Sheet, number: usize) {
     put(b"# |");
     for column in 0..COLUMNS {
-        put_cell(picture::rule_at(sheet, number, column));
+        put_cell(rule_cells::rule_at(sheet, number, column));
     }
     put(b"| rule ");
     io::print_decimal(STDOUT_FILENO, number as u64);
@@ -37,7 +37,7 @@ fn rule_row(sheet: Sheet, number: usize) {
 fn all_row(sheet: Sheet) {
     put(b"# |");
     for column in 0..COLUMNS {
-        put_cell(picture::all_at(sheet, column));
+        put_cell(all_cells::all_at(sheet, column));
     }
     put(b"| all\n");
 }

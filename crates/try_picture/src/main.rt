@@ -2,8 +2,8 @@
 // of each column. The last sheet is the one before it with another rule kept in its first place, which is no sheet, and so nothing is drawn.
 use libc::STDOUT_FILENO;
 use page::Opening;
-use picture::Cell;
 use rule::Rule;
+use shade::Cell;
 use sheet::Sheet;
 use word::Edition;
 
@@ -44,14 +44,14 @@ fn rule_rows(sheet: Sheet) {
 
 fn rule_row(sheet: Sheet, number: usize) {
     for column in 0..PAST {
-        tell(picture::rule_at(sheet, number, column));
+        tell(rule_cells::rule_at(sheet, number, column));
     }
     io::write_all(STDOUT_FILENO, b"\n");
 }
 
 fn all_row(sheet: Sheet) {
     for column in 0..PAST {
-        tell(picture::all_at(sheet, column));
+        tell(all_cells::all_at(sheet, column));
     }
     io::write_all(STDOUT_FILENO, b"\n");
 }

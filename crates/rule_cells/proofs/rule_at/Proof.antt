@@ -20,11 +20,11 @@ use Rattle.checker.proofs.Held.{lie-so, own-rules, width-so}
 use Rattle.shade.specs.declared.Cell.{Cell}
 use Rattle.shade.specs.Cell.{cellOf}
 use Rattle.column.specs.Column.{columns, wordsOf}
 use Rattle.picture.specs.Picture.{columnCell, drawable, ruleCell}
 use Rattle.column.proofs.Columns.{column-words}
 use Rattle.picture.proofs.Drawn.{drawn-so, of-drawn, rule-as}
-use Rattle.picture.proofs.rule_at.Statement.{statement}
-use Rattle.picture.proofs.rule_at.Tie as tie
+use Rattle.rule_cells.proofs.rule_at.Statement.{statement}
+use Rattle.rule_cells.proofs.rule_at.Tie as tie
 
 abbrev sheet-of : tie.After-lay-out → Sheet
 sheet-of o = packed (o .lay-out .result) (o .lay-out .last .1 .0) (o .lay-out .ensures .marks)

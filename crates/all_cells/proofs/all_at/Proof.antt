@@ -15,11 +15,11 @@ use Rattle.checker.proofs.Held.{lie-so, own-rules, tidy-so, width-so}
 use Rattle.shade.specs.declared.Cell.{Cell}
 use Rattle.shade.specs.Cell.{cellOf}
 use Rattle.column.specs.Column.{columns, wordsOf}
 use Rattle.picture.specs.Picture.{allCell, columnCell, drawable}
 use Rattle.column.proofs.Columns.{column-words}
 use Rattle.picture.proofs.Drawn.{all-as, by-fits, drawn-so, of-drawn}
-use Rattle.picture.proofs.all_at.Statement.{statement}
-use Rattle.picture.proofs.all_at.Tie as tie
+use Rattle.all_cells.proofs.all_at.Statement.{statement}
+use Rattle.all_cells.proofs.all_at.Tie as tie
 
 abbrev sheet-of : tie.After-lay-out → Sheet
 sheet-of o = packed (o .lay-out .result) (o .lay-out .last .1 .0) (o .lay-out .ensures .marks)
