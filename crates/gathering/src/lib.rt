@@ -196,7 +196,7 @@ fn named(
     let name = cited.name;
     let to = within(name.to, text);
     let from = up_to(name.from, to);
-    let Found::At(number) = naming::number_of(names, reading.rules, &text[from..to]) else {
+    let Found::At(number) = by_name::number_of(names, reading.rules, &text[from..to]) else {
         return mistaken(
             reading,
             text,

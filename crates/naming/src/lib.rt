@@ -1,11 +1,10 @@
 // The names of rules, kept beside a sheet in a lent array: a row a rule, its name and then zero bytes. An empty row is no name.
 ghost use mathlib.Core.Path.{_≡_};
 ghost use lib.ListN.{length};
-ghost use Rattle.naming.specs.Names.{hasName, kept, nameIn, newRules, numberOf, put, rowOf};
+ghost use Rattle.naming.specs.Names.{kept, nameIn, newRules, put, rowOf};
 use gate::Gate;
 use line::Statement;
 use rule::Rule;
-use word::Found;
 
 // The bytes of a row: a name is shorter than a line, and has no zero byte.
 pub const MOST: usize = line::LIMIT;
@@ -68,36 +67,4 @@ pub fn length(row: &[u8; MOST]) -> usize
         }
     }
     MOST
-}
-
-// Whether the name in a row is this one.
-fn has_name(row: &[u8; MOST], name: &[u8]) -> bool
-    ensures { λ r. ⌜ r ≡ hasName (now (name .entry)) (now (row .entry)) ⌝ }
-{
-    let n = length(row);
-    if n != name.len() {
-        return false;
-    }
-    for i in 0..n {
-        if row[i] != name[i] {
-            return false;
-        }
-    }
-    0 < n
-}
-
-// The number of the first rule in force that has a name.
-pub fn number_of(names: &[[u8; MOST]; Rule::LIMIT], count: usize, name: &[u8]) -> Found
-    ensures { λ r. ⌜ r ≡ numberOf (now (names .entry)) count (now (name .entry)) ⌝ }
-{
-    for i in 0..Rule::LIMIT {
-        if count <= i {
-            return Found::Nothing;
-        }
-        let row = names[i];
-        if has_name(&row, name) {
-            return Found::At(i as u64);
-        }
-    }
-    Found::Nothing
 }

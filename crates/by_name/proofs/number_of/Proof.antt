@@ -8,10 +8,10 @@ use borrow.Author.Needs.{needs}
 use mathlib.Core.List.{[]}
 use lib.ListN.{drop, getD, take}
 use Rattle.rule.specs.Meaning.{RULES}
-use Rattle.naming.specs.Names.{hasName, numberFrom, numberOf}
-use Rattle.naming.proofs.Rows.{from-on, none-on}
-use Rattle.naming.proofs.number_of.Statement.{statement}
-use Rattle.naming.proofs.number_of.Tie as tie
+use Rattle.by_name.specs.Which.{hasName, numberFrom, numberOf}
+use Rattle.by_name.proofs.Rows.{from-on, none-on}
+use Rattle.by_name.proofs.number_of.Statement.{statement}
+use Rattle.by_name.proofs.number_of.Tie as tie
 
 abbrev Inv-loop : tie.InvT-loop
 Inv-loop names count name i₀ i = (i ≤ RULES) × (numberOf names count name ≡ numberFrom i (drop i (take (min count RULES) names)) name)

@@ -6,10 +6,11 @@ use native.Mathlib.Omega.{arith}
 use borrow.Author.Needs.{needs}
 use lib.Dec.{ltb}
 use lib.ListN.{drop, length}
-use Rattle.naming.specs.Names.{hasName, nameIn, same}
-use Rattle.naming.proofs.Rows.{alike-all, alike-on, byte-in, differ-on, unlike}
-use Rattle.naming.proofs.has_name.Statement.{statement}
-use Rattle.naming.proofs.has_name.Tie as tie
+use Rattle.naming.specs.Names.{nameIn}
+use Rattle.by_name.specs.Which.{hasName, same}
+use Rattle.by_name.proofs.Rows.{alike-all, alike-on, byte-in, differ-on, unlike}
+use Rattle.by_name.proofs.has_name.Statement.{statement}
+use Rattle.by_name.proofs.has_name.Tie as tie
 
 abbrev Inv-loop : tie.InvT-loop
 Inv-loop row name n i₀ i =
