@@ -4,7 +4,6 @@ ghost use Rattle.checker.specs.Check.{accepts};
 ghost use Rattle.finding.specs.Clauses.{isYes};
 ghost use Rattle.clause.specs.Finding.{finding};
 pub use breach::Finding;
-use chain::Link;
 use rows::InForce;
 use rows::NUMBERS;
 use rule::Rule;
@@ -18,26 +17,22 @@ pub fn first(sheet: Sheet, links: &[u64]) -> Finding
 {
     let mut rows = [[0; NUMBERS]; Rule::LIMIT];
     let head = laid_rows::lay_out(sheet, &mut rows);
-    let width = head.opening.width;
+    let bits = head.opening.width;
     let count = head.counts.count;
     let fixed = head.fixed;
-    let numbers = links.len();
-    if !head.stands {
-        return Finding::NoSheet;
+    let blank = bits == 0;
+    let early = outset::found(head.stands, blank, links.len());
+    if !early.is_yes() {
+        return early;
     }
-    if width == 0 {
-        return Finding::NoSheet;
-    }
-    if numbers == 0 {
-        return Finding::Empty;
-    }
-    if numbers % Link::NUMBERS != 0 {
-        return Finding::Ragged;
-    }
-    let force = InForce {
-        count,
-        fixed,
-        width: Width { bits: width },
-    };
-    breach::first(links, &rows, force)
+    let width = Width { bits };
+    breach::first(
+        links,
+        &rows,
+        InForce {
+            count,
+            fixed,
+            width,
+        },
+    )
 }
