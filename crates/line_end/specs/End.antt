@@ -1,18 +1,19 @@
--- Where what a line says ends: before its comment, and before the blanks that stand there or at its end.
+-- Where what a line says ends: right after its last letter that is no blank and stands before its comment.
 use mathlib.Core.Bool.{cond}
 use mathlib.Core.List.{List, [], _∷_}
 use Prim.Native.Nat.{ℕ, suc}
 use lib.Dec.{eqb}
 use Rattle.token.specs.Token.{BLANK, COMMENT, classOf}
 
--- the end after a letter of a class that ends before a place: blanks leave it as it is
-unfoldable pub past : (class to end : ℕ) → ℕ
-past k to e = cond (eqb k BLANK) e to
+-- the letters before a comment
+unfoldable pub uncommented : List ℕ → List ℕ
+uncommented [] = []
+uncommented (b ∷ bs) = cond (eqb (classOf b) COMMENT) [] (b ∷ uncommented bs)
 
--- the letters from a place on, up to a comment
-unfoldable pub endFrom : (end at : ℕ) → List ℕ → ℕ
-endFrom e at [] = e
-endFrom e at (b ∷ bs) = cond (eqb (classOf b) COMMENT) e (endFrom (past (classOf b) (suc at) e) (suc at) bs)
+-- the place right after the last letter that is no blank, or 0 where all are
+unfoldable pub pastLast : List ℕ → ℕ
+pastLast [] = 0
+pastLast (b ∷ bs) = cond (eqb (pastLast bs) 0) (cond (eqb (classOf b) BLANK) 0 1) (suc (pastLast bs))
 
 unfoldable pub endOf : List ℕ → ℕ
-endOf l = endFrom 0 0 l
+endOf l = pastLast (uncommented l)

@@ -1,6 +1,7 @@
-// Where what a line says ends: before its comment, and before the blanks that stand there or at its end.
+// Where what a line says ends: right after its last letter that is no blank and stands before its comment.
 ghost use mathlib.Core.Path.{_≡_};
-ghost use Rattle.line_end.specs.End.{endOf, past};
+ghost use Rattle.line_end.specs.End.{endOf};
+ghost use Rattle.line_end.specs.route.Course.{past};
 use token::Token;
 
 pub fn end_of(line: &[u8]) -> usize

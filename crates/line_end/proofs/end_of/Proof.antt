@@ -10,7 +10,9 @@ use lib.Dec.{eqb}
 use lib.ListN.{drop, drop-of-length-le, getD, length}
 use lib.Seq.{drop-cons}
 use Rattle.token.specs.Token.{COMMENT, classOf}
-use Rattle.line_end.specs.End.{endFrom, endOf, past}
+use Rattle.line_end.specs.End.{endOf}
+use Rattle.line_end.specs.route.Course.{endFrom, past}
+use Rattle.line_end.proofs.Ends.{ends}
 use Rattle.line_end.proofs.end_of.Statement.{statement}
 use Rattle.line_end.proofs.end_of.Tie as tie
 
@@ -21,8 +23,7 @@ abbrev μ-loop : tie.MeasureT-loop
 μ-loop line end₀ i₀ end i = length line - i
 
 loop-holds : tie.Need-loop-holds Inv-loop μ-loop
-unfolding endOf
-loop-holds c = refl
+loop-holds c = ends _
 
 shared-slice-read-class-of : tie.Need-shared-slice-read-class-of Inv-loop μ-loop
 shared-slice-read-class-of c = search needs

@@ -1,7 +1,7 @@
 -- `past` meets its contract: the test picks the case. Assumes nothing.
 use native.Mathlib.Omega.{arith}
 use borrow.Author.Tests.{eq-eqb, ne-eqb}
-use Rattle.line_end.specs.End.{past}
+use Rattle.line_end.specs.route.Course.{past}
 use Rattle.line_end.proofs.past.Statement.{statement}
 use Rattle.line_end.proofs.past.Tie as tie
 
