@@ -1,2 +1,1 @@
 pub mod Statements
-pub mod route

@@ -8,35 +8,16 @@ ghost use Rattle.fields.specs.Answers.{ROOM};
 ghost use Rattle.frame.specs.Calls.{callOf};
 ghost use Rattle.slate.specs.route.Held.{Held};
 ghost use Rattle.sheet.specs.route.Held.{packed};
-ghost use Rattle.answer.specs.Statements.{ChainLeft, FrameAnswered};
-ghost use Rattle.answer.specs.route.Told.{ComesTo, numberTold};
-
-mod writing;
-
+ghost use Rattle.frame_call.specs.Chain.{ChainLeft};
+ghost use Rattle.answer.specs.Statements.{FrameAnswered};
 use bits::Fixed;
 use frame::Frame;
+use frame_call::call;
 use rows::NUMBERS;
 use rule::Rule;
-use sheet::Reply;
 use sheet::Sheet;
-use sheet::laid;
 use slate::Head;
-use slate::Said;
-
-// The refusal of a line that is no frame.
-const NO_FRAME: u64 = 10;
-
-// What a frame's call comes to: a number, or what asking replies.
-pub enum Told {
-    Number(u64),
-    Asking(Reply),
-}
-
-// The head after a call, and what the call comes to.
-pub struct Called {
-    pub head: Head,
-    pub told: Told,
-}
+use told::put;
 
 // The head after a frame, and where its answer ends in the lent buffer.
 pub struct AfterFrame {
@@ -64,7 +45,7 @@ pub fn answer(
     let told = called.told;
     let opening = after.opening;
     let edition = opening.edition;
-    let end = writing::put(&mut *out, at, edition, told, &*chain);
+    let end = put(&mut *out, at, edition, told, &*chain);
     let fixed = after.fixed;
     AfterFrame {
         head: after.found(after.stands, same(fixed)),
@@ -80,51 +61,5 @@ fn same(fixed: Fixed) -> Fixed
     match fixed {
         Fixed::Bits { mask, value } => Fixed::Bits { mask, value },
         Fixed::Clash => Fixed::Clash,
-    }
-}
-
-// Makes a frame's call.
-fn call(
-    head: Head,
-    rows: &mut [[u64; NUMBERS]; Rule::LIMIT],
-    marks: &mut [usize; Sheet::MARKS],
-    chain: &mut [u64; Sheet::LENT],
-    frame: Frame,
-) -> Called
-    requires { ⌜ Held head (now rows) (now marks) ⌝ }
-    requires { ⌜ length (now chain) ≡ chainRoom RULES ⌝ }
-    ensures { λ r. ⌜ ComesTo (packed head (now (rows .entry)) (now (marks .entry))) (now (chain .entry)) (callOf frame) r (now (rows .exit)) (now (marks .exit)) (now (chain .exit)) ⌝ }
-{
-    match frame {
-        Frame::Open(opening) => numbered(laid::open(head, &mut *rows, &mut *marks, opening)),
-        Frame::Add(edition, rule) => numbered(laid::add(
-            head,
-            &mut *rows,
-            &mut *marks,
-            edition,
-            rule,
-        )),
-        Frame::Mark => numbered(laid::mark(head, &mut *rows, &mut *marks)),
-        Frame::Back => numbered(laid::back(head, &*rows, &*marks)),
-        Frame::Ask => Called {
-            head,
-            told: Told::Asking(laid::ask(head, &*rows, &*marks, &mut *chain)),
-        },
-        Frame::Forward => numbered(laid::forward(head, &*rows, &*marks)),
-        Frame::NoFrame => Called {
-            head,
-            told: Told::Number(NO_FRAME),
-        },
-    }
-}
-
-// What a call that answers a number comes to.
-fn numbered(said: Said) -> Called
-    ensures { λ r. ⌜ r ≡ numberTold (said .number) (said .head) ⌝ }
-{
-    let head = said.head;
-    Called {
-        head,
-        told: Told::Number(said.number),
     }
 }

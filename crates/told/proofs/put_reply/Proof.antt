@@ -6,8 +6,8 @@ use lib.ListN.{length}
 use Rattle.fields.specs.Answers.{LINE, lineBytes}
 use Rattle.fields.proofs.Lines.{length-kept, put-on}
 use Rattle.frame.proofs.Saying.{refusal-put, reply-put}
-use Rattle.answer.proofs.writing.put_reply.Statement.{statement}
-use Rattle.answer.proofs.writing.put_reply.Tie as tie
+use Rattle.told.proofs.put_reply.Statement.{statement}
+use Rattle.told.proofs.put_reply.Tie as tie
 
 put-number-requires : tie.Need-put-number-requires
 put-number-requires c κs = search needs

@@ -2,9 +2,9 @@
 use mathlib.Core.Path.{subst}
 use borrow.Author.Needs.{needs}
 use Rattle.fields.proofs.Lines.{one-line}
-use Rattle.answer.specs.route.Told.{Few, toldLines}
-use Rattle.answer.proofs.writing.put.Statement.{statement}
-use Rattle.answer.proofs.writing.put.Tie as tie
+use Rattle.told.specs.route.Told.{Few, toldLines}
+use Rattle.told.proofs.put.Statement.{statement}
+use Rattle.told.proofs.put.Tie as tie
 
 enum-known-told : tie.Need-enum-known-told
 enum-known-told c = search needs

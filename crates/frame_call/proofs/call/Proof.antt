@@ -8,9 +8,9 @@ use Rattle.sheet.proofs.Marked.{mark-after}
 use Rattle.sheet.proofs.Opened.{open-after}
 use Rattle.sheet.proofs.SteppedBack.{back-after}
 use Rattle.sheet.proofs.SteppedForward.{forward-after}
-use Rattle.answer.proofs.Coming.{no-frame-comes, number-comes, reply-comes}
-use Rattle.answer.proofs.call.Statement.{statement}
-use Rattle.answer.proofs.call.Tie as tie
+use Rattle.frame_call.proofs.Coming.{no-frame-comes, number-comes, reply-comes}
+use Rattle.frame_call.proofs.call.Statement.{statement}
+use Rattle.frame_call.proofs.call.Tie as tie
 
 enum-known-frame : tie.Need-enum-known-frame
 enum-known-frame c = search needs

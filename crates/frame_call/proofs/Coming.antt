@@ -1,9 +1,8 @@
 -- From what a call on the slate promises to what its frame comes to. Assumes nothing.
 use mathlib.Core.Path.{_≡_, ap, _∙_}
 use mathlib.Core.List.{List}
-use Prim.Native.Nat.{ℕ, _≤_}
+use Prim.Native.Nat.{ℕ}
 use lib.ListN.{length}
-use Rattle.word.specs.declared.Edition.{Edition}
 use Rattle.rule.specs.Meaning.{RULES}
 use Rattle.chain.specs.Links.{chainRoom}
 use Rattle.page.specs.Calls.{Call}
@@ -16,15 +15,15 @@ use Rattle.sheet.specs.declared.Sheet.{Sheet}
 use Rattle.sheet.specs.Statements.{Asked}
 use Rattle.frame.specs.declared.Frame.{Frame}
 use Rattle.frame.specs.declared.Frame.the-variants.{Ask, NoFrame}
-use Rattle.fields.specs.Answers.{NO-FRAME, ROOM, answerBytes}
+use Rattle.fields.specs.Answers.{NO-FRAME}
 use Rattle.frame.specs.Calls.{callOf, makes}
 use Rattle.frame.specs.Statements.{answered, asked, no-call}
-use Rattle.frame.proofs.Saying.{few-links, number-fits, reply-fits}
-use Rattle.answer.specs.declared.Called.{Called}
-use Rattle.answer.specs.declared.Told.{Told}
-use Rattle.answer.specs.declared.Told.the-variants.{Asking, Number}
-use Rattle.answer.specs.Statements.{by-asking, no-frame, untouched}
-use Rattle.answer.specs.route.Told.{ComesTo, Few, numberTold, toldLines}
+use Rattle.frame.proofs.Saying.{few-links}
+use Rattle.told.specs.declared.Called.{Called}
+use Rattle.told.specs.declared.Told.the-variants.{Asking}
+use Rattle.told.specs.route.Told.{Few, numberTold, toldLines}
+use Rattle.frame_call.specs.Chain.{by-asking, no-frame, untouched}
+use Rattle.frame_call.specs.route.Comes.{ComesTo}
 
 pub number-comes : {s : Sheet} {n : ℕ} {h : Head} {rows : List (List ℕ)} {marks b : List ℕ} {f g : Frame} {r : Called} (c : Call)
     → length b ≡ chainRoom RULES → f ≡ g → callOf g ≡ makes c → After s c n h rows marks → r ≡ numberTold n h
@@ -43,9 +42,3 @@ module _ {h : Head} {rows : List (List ℕ)} {marks b : List ℕ} (k : Held h ro
   pub no-frame-comes : f ≡ NoFrame → ComesTo (packed h rows marks) b (callOf f) (numberTold NO-FRAME h) rows marks b
   unfolding callOf toldLines Few
   no-frame-comes e = rw e (record { said = no-call; few = tt; held = k; lent = l; left = no-frame })
-
--- what is told fits the room for an answer
-pub told-fits : (e : Edition) (t : Told) (b : List ℕ) → Few t → length (answerBytes (toldLines e t b)) ≤ ROOM
-unfolding toldLines Few
-told-fits e (Number n) b k = number-fits n
-told-fits e (Asking r) b k = reply-fits e r b k

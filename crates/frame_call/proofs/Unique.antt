@@ -6,7 +6,7 @@ use Prim.Native.Nat.{ℕ}
 use Rattle.sheet.specs.declared.Sheet.{Sheet}
 use Rattle.demands.proofs.Unique.{asked-unique}
 use Rattle.frame.specs.Calls.{MadeCall}
-use Rattle.answer.specs.Statements.{ChainLeft, by-asking, no-frame, untouched}
+use Rattle.frame_call.specs.Chain.{ChainLeft, by-asking, no-frame, untouched}
 
 pub one-chain : {s : Sheet} {b b₁ b₂ : List ℕ} {c : MadeCall} → ChainLeft s b c b₁ → ChainLeft s b c b₂ → b₁ ≡ b₂
 one-chain (by-asking r a) (by-asking q d) = asked-unique a d .1
