@@ -8,7 +8,7 @@ use native.Mathlib.Numerals.{add-one}
 use native.Mathlib.Omega.{arith}
 use borrow.Author.Tests.{eq-eqb, le-ltb, lt-ltb, ne-eqb}
 use lib.ListN.{getD, length, length-append, set, take}
-use lib.Seq.{length-take-le, take-all, take-suc, take-suc-set}
+use lib.Seq.{take-all, take-suc, take-suc-set}
 use Rattle.word.specs.declared.Edition.{Edition}
 use Rattle.rule.specs.declared.Rule.{Rule}
 use Rattle.rule.specs.Meaning.{RULES}
@@ -17,10 +17,11 @@ use Rattle.page.specs.Calls.{add, changed, open-at, refusal, written}
 use Rattle.page.specs.declared.Opening.{Opening}
 use Rattle.page.specs.Page.{OpenPage, a-rule, newPage, no-page, page, rulesOn, withEntries}
 use Rattle.page.proofs.Refusals.{added-rule, after-accepted}
-use Rattle.batch.specs.declared.Batch.{Batch}
-use Rattle.batch.specs.Batch.{Batched, Ending, Gives, MOST, added, batch}
-use Rattle.batch.specs.route.Route.{batchAt, few}
-use Rattle.batch.proofs.Added.{add-goes, add-stops}
+use Rattle.course.specs.declared.Batch.{Batch}
+use Rattle.course.specs.Batch.{Batched, Ending, Gives, MOST, added, batch}
+use Rattle.course.specs.route.Route.{batchAt}
+use Rattle.course.proofs.Added.{add-goes, add-stops}
+use Rattle.few_rules.specs.route.Few.{few}
 
 module _ (e : Edition) (m : ℕ) where
   abbrev many : OpenPage → ℕ
@@ -70,23 +71,6 @@ module _ (g : Opening) (us : List Rule) (m : ℕ) where
       go (yes l) = rw (lt-ltb MOST n l) (first-read l)
       go (no l) = rw (le-ltb MOST n (omega arith)) (all-read (omega arith))
 
--- ---- the list that is read
-
-module _ (n : ℕ) where
-  pub few-low : few n ≤ n
-  few-low = go (decLt MOST n)
-    where
-      go : Dec (MOST < n) → few n ≤ n
-      go (yes l) = rw (lt-ltb MOST n l) (omega arith)
-      go (no l) = rw (le-ltb MOST n (omega arith)) (omega arith)
-
-  pub few-high : few n ≤ MOST
-  few-high = go (decLt MOST n)
-    where
-      go : Dec (MOST < n) → few n ≤ MOST
-      go (yes l) = rw (lt-ltb MOST n l) (omega arith)
-      go (no l) = rw (le-ltb MOST n (omega arith)) (omega arith)
-
 -- a rule more
 pub one-more : (us list : List Rule) (i : ℕ) → i < length us → i < length list → take i list ≡ take i us
     → take (i + 1) (set list i (getD us i noRule)) ≡ take (i + 1) us
@@ -99,22 +83,3 @@ pub read-so : (g : Opening) (us list : List Rule) {b b′ : List ℕ} {r : Batch
     → Gives (batchAt g (take (few (length us)) list) (length us) (length b)) b b′ r → Batched g us b b′ r
 read-so g us list {b} {b′} {r} e f =
     subst (λ (o : Ending). Gives o b b′ r) (ap (λ (vs : List Rule). batchAt g vs (length us) (length b)) e ∙ few-read g us (length b)) f
-
--- and so of the first rules of an array
-pub first-so : (g : Opening) (rules : List Rule) (n k : ℕ) {b b′ : List ℕ} {r : Batch} → length rules ≡ MOST → k ≡ few n
-    → Gives (batchAt g (take k rules) k (length b)) b b′ r → Batched g (take n rules) b b′ r
-unfolding batchAt batch
-first-so g rules n k {b} {b′} {r} long e f = subst (λ (o : Ending). Gives o b b′ r) (λ i. batchAt g (same i) (size i) (length b)) f
-  where
-    taken : (k : ℕ) → k ≤ MOST → length (take k rules) ≡ k
-    taken k l = length-take-le k rules (omega (arith, long))
-
-    by-room : Dec (MOST < n) → take (few n) rules ≡ take n rules
-    by-room (yes l) = rw (lt-ltb MOST n l) (take-all MOST rules (omega (arith, long)) ∙ sym (take-all n rules (omega (arith, long))))
-    by-room (no l) = rw (le-ltb MOST n (omega arith))
-
-    same : take k rules ≡ take n rules
-    same = ap (λ (j : ℕ). take j rules) e ∙ by-room (decLt MOST n)
-
-    size : k ≡ length (take n rules)
-    size = sym (taken k (omega (arith, e, few-high n))) ∙ ap length same

@@ -1,7 +1,5 @@
-pub mod Added
 pub mod Cut
 pub mod OneByOne
 pub mod Place
 pub mod There
-pub mod UnderWay
 pub mod Unique

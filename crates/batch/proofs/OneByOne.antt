@@ -17,10 +17,10 @@ use Rattle.sheet.specs.Record.{fresh}
 use Rattle.page.specs.Reached.{Reached, start}
 use Rattle.sheet.specs.Statements.{refuses}
 use Rattle.demands.proofs.Demand.{after-reached, outcome-on}
-use Rattle.batch.specs.declared.Batch.{Batch}
-use Rattle.batch.specs.Batch.{Batched, Gives, added, batches}
+use Rattle.course.specs.declared.Batch.{Batch}
+use Rattle.course.specs.Batch.{Batched, Gives, added, batches}
 use Rattle.batch.specs.OneByOne.{Adding, OneByOne, adds, asks, opens, refused-opening, refused-rule}
-use Rattle.batch.proofs.Added.{add-goes, add-stops, open-goes, open-stops}
+use Rattle.course.proofs.Added.{add-goes, add-stops, open-goes, open-stops}
 
 adding-gives : {d : Edition} {b b′ : List ℕ} {s : Sheet} {i : ℕ} {us : List Rule} {r : Batch} (pg : Page) → Reached pg → s ≡ fresh pg
     → Adding d b s i us b′ r → Gives (added d pg i us (length b)) b b′ r

@@ -17,8 +17,8 @@ use Rattle.page.specs.Calls.{add, changed, firstThatApplies, ground, grounds, i
 use Rattle.page.specs.declared.Opening.{Opening}
 use Rattle.page.specs.Page.{OpenPage, a-rule, editionOf, newPage, no-page, page, withEntries}
 use Rattle.page.proofs.Refusals.{after-accepted}
-use Rattle.batch.specs.Batch.{Ending, added, batch}
-use Rattle.batch.proofs.Added.{add-goes, add-stops, open-goes, open-stops}
+use Rattle.course.specs.Batch.{Ending, added, batch}
+use Rattle.course.proofs.Added.{add-goes, add-stops, open-goes, open-stops}
 
 -- the numbers that a rule is refused with, or for which there is no place left
 abbrev pub OfRule : ℕ → Type 0

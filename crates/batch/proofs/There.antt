@@ -18,7 +18,7 @@ use Rattle.sheet.specs.Statements.{Asked, Outcome, answers, chainOn, overlaid, 
 use Rattle.sheet.proofs.OnePage.{one-page}
 use Rattle.sheet.proofs.Ways.{accepted-open, refused-open, sheet-reads}
 use Rattle.demands.proofs.Demand.{after-reached}
-use Rattle.batch.specs.declared.Batch.{Batch}
+use Rattle.course.specs.declared.Batch.{Batch}
 use Rattle.batch.specs.OneByOne.{Adding, Comes, adds, asks, opens, refused-opening, refused-rule}
 
 record Goes (e : Edition) (b : List ℕ) (s : Sheet) (i : ℕ) (us : List Rule) : Type 0 where

@@ -14,9 +14,9 @@ use Rattle.page.specs.Calls.{add, after, ask, open-at, refusal}
 use Rattle.page.specs.declared.Opening.{Opening}
 use Rattle.page.specs.Page.{Page, no-page}
 use Rattle.sheet.specs.Statements.{chainOn, overlaid, reply}
-use Rattle.batch.specs.declared.Batch.{Batch}
-use Rattle.batch.specs.Batch.{Batched, Ending, added, batch}
-use Rattle.batch.proofs.Added.{add-goes, add-stops, open-goes, open-stops}
+use Rattle.course.specs.declared.Batch.{Batch}
+use Rattle.course.specs.Batch.{Batched, Ending, added, batch}
+use Rattle.course.proofs.Added.{add-goes, add-stops, open-goes, open-stops}
 
 pub batched-unique : (g : Opening) (us : List Rule) {b b₁ b₂ : List ℕ} {r₁ r₂ : Batch} → Batched g us b b₁ r₁ → Batched g us b b₂ r₂
     → (r₁ ≡ r₂) × (b₁ ≡ b₂)

@@ -1,3 +1,1 @@
-pub mod Batch
 pub mod OneByOne
-pub mod route

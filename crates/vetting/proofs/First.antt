@@ -9,8 +9,8 @@ use lib.Seq.{length-take-le, set-at, take-suc}
 use Rattle.rule.specs.declared.Rule.{Rule}
 use Rattle.page.specs.declared.Opening.{Opening}
 use Rattle.page.specs.Page.{padded}
-use Rattle.batch.specs.declared.Batch.{Batch}
-use Rattle.batch.specs.Batch.{Batched}
+use Rattle.course.specs.declared.Batch.{Batch}
+use Rattle.course.specs.Batch.{Batched}
 use Rattle.vetting.specs.Vetted.{Vetted, vetNumbers}
 
 -- one element more is copied

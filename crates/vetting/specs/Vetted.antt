@@ -6,8 +6,8 @@ use lib.ListN.{length}
 use Rattle.rule.specs.declared.Rule.{Rule}
 use Rattle.page.specs.declared.Opening.{Opening}
 use Rattle.sheet.specs.Statements.{overlaid}
-use Rattle.batch.specs.declared.Batch.{Batch}
-use Rattle.batch.specs.Batch.{batch}
+use Rattle.course.specs.declared.Batch.{Batch}
+use Rattle.course.specs.Batch.{batch}
 
 -- the verdict, the smallest and the largest word, how many links, and the place
 abbrev pub vetNumbers : Batch → List ℕ

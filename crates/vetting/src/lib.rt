@@ -3,7 +3,7 @@ ghost use mathlib.Core.Path.{_≡_};
 ghost use lib.ListN.{take};
 ghost use Rattle.accept.specs.Accept.{noRule};
 ghost use Rattle.page.specs.Page.{padded};
-ghost use Rattle.batch.specs.Batch.{MOST};
+ghost use Rattle.course.specs.Batch.{MOST};
 ghost use Rattle.handing.specs.Handed.{openingOf, rulesIn};
 ghost use Rattle.vetting.specs.Vetted.{Vetted};
 use batch::Batch;

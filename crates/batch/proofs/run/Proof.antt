@@ -57,24 +57,26 @@ use Rattle.accept.specs.Accept.{noRule}
 use Rattle.page.specs.declared.Opening.{Opening}
 use Rattle.page.proofs.Opening as O
 use Rattle.page.proofs.Opening.Laws as O′
-use Rattle.batch.specs.declared.Batch.{Batch}
-use Rattle.batch.specs.Batch.{Gives, MOST}
-use Rattle.batch.specs.route.Route.{batchAt, few}
-use Rattle.batch.proofs.Cut.{few-high, few-low, one-more, read-so}
-use Rattle.batch.proofs.Batch as B
-use Rattle.batch.proofs.Batch.Laws as B′
-use Rattle.batch.proofs.few as few′
-use Rattle.batch.proofs.few.Symbol as few-def
-use Rattle.batch.proofs.few.Symbol.{name as #few}
-use Rattle.batch.proofs.few.Met as few-thm
+use Rattle.course.specs.declared.Batch.{Batch}
+use Rattle.course.specs.Batch.{Gives, MOST}
+use Rattle.course.specs.route.Route.{batchAt}
+use Rattle.few_rules.specs.route.Few.{few}
+use Rattle.few_rules.proofs.Read.{few-high, few-low}
+use Rattle.batch.proofs.Cut.{one-more, read-so}
+use Rattle.course.proofs.Batch as B
+use Rattle.course.proofs.Batch.Laws as B′
+use Rattle.few_rules.proofs.few as few′
+use Rattle.few_rules.proofs.few.Symbol as few-def
+use Rattle.few_rules.proofs.few.Symbol.{name as #few}
+use Rattle.few_rules.proofs.few.Met as few-thm
 use Rattle.batch.proofs.none as none′
 use Rattle.batch.proofs.none.Symbol as none-def
 use Rattle.batch.proofs.none.Symbol.{name as #none}
 use Rattle.batch.proofs.none.Met as none-thm
-use Rattle.batch.proofs.course.vet as vet′
-use Rattle.batch.proofs.course.vet.Symbol as vet-def
-use Rattle.batch.proofs.course.vet.Symbol.{name as #vet}
-use Rattle.batch.proofs.course.vet.Met as vet-thm
+use Rattle.course.proofs.vet as vet′
+use Rattle.course.proofs.vet.Symbol as vet-def
+use Rattle.course.proofs.vet.Symbol.{name as #vet}
+use Rattle.course.proofs.vet.Met as vet-thm
 use Rattle.batch.proofs.run.Proof.Asks as Asks
 use Rattle.batch.proofs.run.Proof.Asks.{Called, Few, ListOf, None, OwnOut, OwnRules, Row, Vet, answered, few-says, lies, list-tells, list-typed, listTy, none-says, openingVal, outVal, ruleVals, rule-tells, rulesVal, stands, stayed}
 use Rattle.batch.proofs.run.Key.{name as #run}
@@ -467,9 +469,9 @@ run-spec 𝓤 H 𝓜 𝓖 𝓡 =
     (run-meets 𝓤 H (𝓖 .A) (givenOf 𝓤 H 𝓜 𝓖) (𝓜 .mem) (𝓡 .run) (tablesOf 𝓤 H 𝓜 (tables 𝓤 H 𝓜 𝓡 code.env))
     (record {
       counts =
-          cited 𝓤 H (Few 𝓤 H (𝓖 .A) (𝓜 .mem) (𝓡 .run)) 𝓜 𝓡 code.env #few few-def.routine code.calls-batch·few (few-thm.met 𝓤 H 𝓜 𝓖 𝓡);
+          cited 𝓤 H (Few 𝓤 H (𝓖 .A) (𝓜 .mem) (𝓡 .run)) 𝓜 𝓡 code.env #few few-def.routine code.calls-few-rules·few (few-thm.met 𝓤 H 𝓜 𝓖 𝓡);
       empties =
           cited 𝓤 H (None 𝓤 H (𝓖 .A) (𝓜 .mem) (𝓡 .run)) 𝓜 𝓡 code.env #none none-def.routine code.calls-batch·none (none-thm.met 𝓤 H 𝓜 𝓖 𝓡);
       vets =
-          cited 𝓤 H (Vet 𝓤 H (𝓖 .A) (𝓜 .mem) (𝓡 .run)) 𝓜 𝓡 code.env #vet vet-def.routine code.calls-batch·course·vet (vet-thm.met 𝓤 H 𝓜 𝓖 𝓡);
+          cited 𝓤 H (Vet 𝓤 H (𝓖 .A) (𝓜 .mem) (𝓡 .run)) 𝓜 𝓡 code.env #vet vet-def.routine code.calls-course·vet (vet-thm.met 𝓤 H 𝓜 𝓖 𝓡);
     }))

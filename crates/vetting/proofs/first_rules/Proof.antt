@@ -10,7 +10,7 @@ use lib.Seq.{take-all}
 use Rattle.rule.specs.declared.Rule.{Rule}
 use Rattle.accept.specs.Accept.{noRule}
 use Rattle.page.specs.Page.{padded}
-use Rattle.batch.specs.Batch.{MOST}
+use Rattle.course.specs.Batch.{MOST}
 use Rattle.handing.specs.Handed.{rulesIn}
 use Rattle.handing.proofs.Rows.{as-many, rule-of-row}
 use Rattle.vetting.proofs.First.{filled}

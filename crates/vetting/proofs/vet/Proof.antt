@@ -2,9 +2,10 @@
 use mathlib.Core.Path.{_≡_, ap, _∙_}
 use lib.ListN.{length, take}
 use Rattle.accept.specs.Accept.{noRule}
-use Rattle.batch.specs.Batch.{MOST}
-use Rattle.batch.specs.route.Route.{few}
-use Rattle.batch.proofs.Cut.{few-high, few-low, read-so}
+use Rattle.course.specs.Batch.{MOST}
+use Rattle.few_rules.specs.route.Few.{few}
+use Rattle.few_rules.proofs.Read.{few-high, few-low}
+use Rattle.batch.proofs.Cut.{read-so}
 use Rattle.handing.specs.Handed.{rulesIn}
 use Rattle.handing.proofs.Rows.{as-many}
 use Rattle.vetting.proofs.First.{as-read, vetted}

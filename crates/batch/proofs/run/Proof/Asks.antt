@@ -45,13 +45,13 @@ use Rattle.accept.specs.Accept.{noRule}
 use Rattle.page.specs.declared.Opening.{Opening}
 use Rattle.page.proofs.Opening as O
 use Rattle.page.proofs.Opening.Laws as O′
-use Rattle.batch.specs.declared.Batch.{Batch}
-use Rattle.batch.specs.Batch.{Batched, MOST}
-use Rattle.batch.specs.route.Route.{few}
-use Rattle.batch.proofs.Batch as B
-use Rattle.batch.proofs.few as few′
+use Rattle.course.specs.declared.Batch.{Batch}
+use Rattle.course.specs.Batch.{Batched, MOST}
+use Rattle.few_rules.specs.route.Few.{few}
+use Rattle.course.proofs.Batch as B
+use Rattle.few_rules.proofs.few as few′
 use Rattle.batch.proofs.none as none′
-use Rattle.batch.proofs.course.vet as vet′
+use Rattle.course.proofs.vet as vet′
 use Rattle.batch.proofs.run as run′
 
 -- what is had of each parameter at exit: out is given up

@@ -19,10 +19,10 @@ use Rattle.sheet.specs.Statements.{Asked, refuses}
 use Rattle.demands.proofs.Demand.{after-reached}
 use Rattle.adds.specs.route.Course.{Stopped, Under, Went, begun, further}
 use Rattle.begun.specs.route.Begun.{Begun, opens}
-use Rattle.batch.specs.declared.Batch.{Batch}
-use Rattle.batch.specs.Batch.{Gives, added, batches, stops}
-use Rattle.batch.specs.route.Route.{batchAt}
-use Rattle.batch.proofs.Added.{add-goes, add-stops}
+use Rattle.course.specs.declared.Batch.{Batch}
+use Rattle.course.specs.Batch.{Gives, added, batches, stops}
+use Rattle.course.specs.route.Route.{batchAt}
+use Rattle.course.proofs.Added.{add-goes, add-stops}
 
 -- ---- the adds
 

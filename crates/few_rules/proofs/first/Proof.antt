@@ -1,9 +1,9 @@
 -- `first` meets its contract: more than all rules are all rules. Assumes nothing.
 use native.Mathlib.Omega.{arith}
 use borrow.Author.Needs.{needs}
-use Rattle.batch.proofs.Cut.{few-high, first-so}
-use Rattle.batch.proofs.first.Statement.{statement}
-use Rattle.batch.proofs.first.Tie as tie
+use Rattle.few_rules.proofs.Read.{few-high, first-so}
+use Rattle.few_rules.proofs.first.Statement.{statement}
+use Rattle.few_rules.proofs.first.Tie as tie
 
 few-requires : tie.Need-few-requires
 few-requires c κs = search needs

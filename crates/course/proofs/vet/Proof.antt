@@ -2,9 +2,9 @@
 use native.Mathlib.Omega.{arith}
 use borrow.Author.Needs.{needs}
 use Rattle.sheet.proofs.ByValue.{empty-room}
-use Rattle.batch.proofs.UnderWay.{asked-batch, refused-batch}
-use Rattle.batch.proofs.course.vet.Statement.{statement}
-use Rattle.batch.proofs.course.vet.Tie as tie
+use Rattle.course.proofs.UnderWay.{asked-batch, refused-batch}
+use Rattle.course.proofs.vet.Statement.{statement}
+use Rattle.course.proofs.vet.Tie as tie
 
 begin-requires : tie.Need-begin-requires
 begin-requires c κs = (empty-room, omega arith)

@@ -1,20 +1,16 @@
--- The batch of the rules that are read. A route: that it is the batch of the whole list is proved (proofs/Cut.antt).
+-- The batch of the rules that are read. A route: that it is the batch of the whole list is proved where the list is read (`batch: Cut`).
 use mathlib.Core.Bool.{cond}
 use mathlib.Core.List.{List}
 use Prim.Native.Nat.{ℕ}
-use lib.Dec.{eqb, ltb}
+use lib.Dec.{eqb}
 use Rattle.rule.specs.declared.Rule.{Rule}
 use Rattle.page.specs.Calls.{after, open-at, refusal}
 use Rattle.page.specs.declared.Opening.{Opening}
 use Rattle.page.specs.Page.{no-page}
-use Rattle.batch.specs.Batch.{Ending, MOST, added, stops}
+use Rattle.course.specs.Batch.{Ending, added, stops}
 
 -- the batch of these rules, where n rules were given: a refused opening is said at the list's length
 unfoldable pub batchAt : Opening → List Rule → (n m : ℕ) → Ending
 batchAt g us n m =
     let k : ℕ = refusal no-page (open-at g) in
     cond (eqb k 0) (added (g .edition) (after no-page (open-at g)) 0 us m) (stops k n)
-
--- how many rules of a list are read: no rule past as many as a sheet takes and one more
-abbrev pub few : ℕ → ℕ
-few n = cond (ltb MOST n) MOST n

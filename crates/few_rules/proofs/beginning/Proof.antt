@@ -1,9 +1,9 @@
 -- `beginning` meets its contract: the rules that are read are handed on with how many were given. Assumes nothing.
 use native.Mathlib.Omega.{arith}
 use borrow.Author.Needs.{needs}
-use Rattle.batch.proofs.Cut.{few-high}
-use Rattle.batch.proofs.beginning.Statement.{statement}
-use Rattle.batch.proofs.beginning.Tie as tie
+use Rattle.few_rules.proofs.Read.{few-high}
+use Rattle.few_rules.proofs.beginning.Statement.{statement}
+use Rattle.few_rules.proofs.beginning.Tie as tie
 
 few-requires : tie.Need-few-requires
 few-requires c κs = search needs

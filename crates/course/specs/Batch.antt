@@ -14,7 +14,7 @@ use Rattle.page.specs.Calls.{add, after, open-at, refusal}
 use Rattle.page.specs.declared.Opening.{Opening}
 use Rattle.page.specs.Page.{Page, no-page}
 use Rattle.sheet.specs.Statements.{chainOn, overlaid, refuses, reply}
-use Rattle.batch.specs.declared.Batch.{Batch}
+use Rattle.course.specs.declared.Batch.{Batch}
 
 -- one rule more than a sheet takes
 abbrev pub MOST : ℕ

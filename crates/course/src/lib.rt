@@ -1,10 +1,10 @@
-// A batch on its slate: a sheet is opened there, given each rule in order, and asked.
+// A batch on its slate: a sheet is opened there, given each rule in order, and asked. What the batch call answers is said here.
 ghost use mathlib.Core.Path.{_≡_};
 ghost use Prim.Native.Nat.{_≤_};
 ghost use lib.ListN.{length, take};
-ghost use Rattle.batch.specs.Batch.{Gives, MOST, batches};
-ghost use Rattle.batch.specs.route.Route.{batchAt};
-use crate::Batch;
+ghost use Rattle.course.specs.Batch.{Gives, MOST, batches};
+ghost use Rattle.course.specs.route.Route.{batchAt};
+use begun::Course;
 use begun::begin;
 use page::Opening;
 use rows::NUMBERS;
@@ -12,6 +12,17 @@ use rule::Rule;
 use sheet::Reply;
 use sheet::Sheet;
 use sheet::laid;
+
+// What a batch answers: what the last call answered, and the place of the rule that was refused, or the list's length.
+pub struct Batch {
+    pub reply: Reply,
+    pub place: usize,
+}
+
+impl Batch {
+    // One rule more than a sheet takes.
+    pub const MOST: usize = Course::MOST;
+}
 
 // Opens the blank sheet, adds the first rules and asks, up to the first refusal. A refused opening is said at how many rules were given.
 pub fn vet(

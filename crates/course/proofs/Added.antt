@@ -10,7 +10,7 @@ use Rattle.rule.specs.declared.Rule.{Rule}
 use Rattle.page.specs.Calls.{add, after, open-at, refusal}
 use Rattle.page.specs.declared.Opening.{Opening}
 use Rattle.page.specs.Page.{Page, no-page}
-use Rattle.batch.specs.Batch.{added, batch, stops}
+use Rattle.course.specs.Batch.{added, batch, stops}
 
 module _ (g : Opening) (us : List Rule) (m : ℕ) where
   pub open-goes : refusal no-page (open-at g) ≡ 0 → batch g us m ≡ added (g .edition) (after no-page (open-at g)) 0 us m
