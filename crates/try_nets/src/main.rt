@@ -14,6 +14,9 @@ use trial_nets::plain;
 use trial_nets::search;
 use trial_tally::Tally;
 
+// The widths 1 to 3, each with 2 to 4 words.
+const CLASSES: u64 = 9;
+
 const DRAWN: u64 = 50;
 
 const PAID: u64 = 40;
@@ -35,7 +38,7 @@ fn main() {
 
 fn over_classes(side: Side) -> Tally {
     let mut tally = Tally::none();
-    for class in 0..9 {
+    for class in 0..CLASSES {
         tally = tally.plus(over_nets(side, class));
     }
     tally

@@ -15,7 +15,7 @@ pub enum Way {
 
 pub fn over_joins(way: Way) -> Tally {
     let mut tally = Tally::none();
-    for joined in 1..33 {
+    for joined in 1..Net::JOINS + 1 {
         tally = tally.plus(over_places(way, joined));
     }
     tally

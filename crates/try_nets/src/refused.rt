@@ -7,9 +7,12 @@ use trial_nets::made;
 use trial_nets::plain;
 use trial_tally::Tally;
 
+// Six ways, of which the last is none, each with eight choices of what else is wrong.
+const WAYS: u64 = 48;
+
 pub fn over_ways() -> Tally {
     let mut tally = Tally::none();
-    for i in 0..48 {
+    for i in 0..WAYS {
         tally = tally.plus(one(i / 8, i % 8));
     }
     tally

@@ -1,14 +1,15 @@
 -- `intervals` is safe and ends. The measure is the places left. Assumes nothing.
 use Prim.Native.Nat.{_-_, _≤_}
 use borrow.Author.Needs.{needs}
+use Rattle.net_step.specs.Named.{WORDS}
 use Rattle.try_net_speed.proofs.intervals.Statement.{statement}
 use Rattle.try_net_speed.proofs.intervals.Tie as tie
 
 abbrev Inv-loop : tie.InvT-loop
-Inv-loop one other words₀ before₀ word₀ k₀ words before word k = k ≤ 16
+Inv-loop one other words₀ before₀ word₀ k₀ words before word k = k ≤ WORDS
 
 abbrev μ-loop : tie.MeasureT-loop
-μ-loop one other words₀ before₀ word₀ k₀ words before word k = 16 - k
+μ-loop one other words₀ before₀ word₀ k₀ words before word k = WORDS - k
 
 loop-holds : tie.Need-loop-holds Inv-loop μ-loop
 loop-holds c = search needs

@@ -1,14 +1,15 @@
 -- `joins` is safe and ends. The measure is the joins left. Assumes nothing.
 use Prim.Native.Nat.{_-_, _≤_}
 use borrow.Author.Needs.{needs}
+use Rattle.net_tests.specs.Fits.{JOINS}
 use Rattle.try_net_speed.proofs.joins.Statement.{statement}
 use Rattle.try_net_speed.proofs.joins.Tie as tie
 
 abbrev Inv-loop : tie.InvT-loop
-Inv-loop joins₀ k₀ joins k = k ≤ 32
+Inv-loop joins₀ k₀ joins k = k ≤ JOINS
 
 abbrev μ-loop : tie.MeasureT-loop
-μ-loop joins₀ k₀ joins k = 32 - k
+μ-loop joins₀ k₀ joins k = JOINS - k
 
 loop-holds : tie.Need-loop-holds Inv-loop μ-loop
 loop-holds c = search needs

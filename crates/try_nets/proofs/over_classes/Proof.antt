@@ -1,14 +1,18 @@
 -- `over_classes` is safe and ends. The measure is the classes left. Assumes nothing.
-use Prim.Native.Nat.{_-_, _≤_}
+use Prim.Native.Nat.{ℕ, _-_, _≤_}
 use borrow.Author.Needs.{needs}
 use Rattle.try_nets.proofs.over_classes.Statement.{statement}
 use Rattle.try_nets.proofs.over_classes.Tie as tie
 
+-- the widths 1 to 3, each with 2 to 4 words
+abbrev CLASSES : ℕ
+CLASSES = 9
+
 abbrev Inv-loop : tie.InvT-loop
-Inv-loop side tally₀ class₀ tally class = class ≤ 9
+Inv-loop side tally₀ class₀ tally class = class ≤ CLASSES
 
 abbrev μ-loop : tie.MeasureT-loop
-μ-loop side tally₀ class₀ tally class = 9 - class
+μ-loop side tally₀ class₀ tally class = CLASSES - class
 
 none-requires : tie.Need-none-requires Inv-loop μ-loop
 none-requires c κs = search needs

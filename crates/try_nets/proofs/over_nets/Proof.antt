@@ -1,14 +1,18 @@
 -- `over_nets` is safe and ends. The measure is the nets left. Assumes nothing.
-use Prim.Native.Nat.{_-_, _≤_}
+use Prim.Native.Nat.{ℕ, _-_, _≤_}
 use borrow.Author.Needs.{needs}
 use Rattle.try_nets.proofs.over_nets.Statement.{statement}
 use Rattle.try_nets.proofs.over_nets.Tie as tie
 
+-- how many nets are drawn
+abbrev DRAWN : ℕ
+DRAWN = 50
+
 abbrev Inv-loop : tie.InvT-loop
-Inv-loop side class tally₀ seed₀ i₀ tally seed i = i ≤ 50
+Inv-loop side class tally₀ seed₀ i₀ tally seed i = i ≤ DRAWN
 
 abbrev μ-loop : tie.MeasureT-loop
-μ-loop side class tally₀ seed₀ i₀ tally seed i = 50 - i
+μ-loop side class tally₀ seed₀ i₀ tally seed i = DRAWN - i
 
 none-requires : tie.Need-none-requires Inv-loop μ-loop
 none-requires c κs = search needs

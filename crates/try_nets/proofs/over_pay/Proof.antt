@@ -1,14 +1,18 @@
 -- `over_pay` is safe and ends. The measure is the numbers of steps left. Assumes nothing.
-use Prim.Native.Nat.{_-_, _≤_}
+use Prim.Native.Nat.{ℕ, _-_, _≤_}
 use borrow.Author.Needs.{needs}
 use Rattle.try_nets.proofs.over_pay.Statement.{statement}
 use Rattle.try_nets.proofs.over_pay.Tie as tie
 
+-- up to how many steps are paid for
+abbrev PAID : ℕ
+PAID = 40
+
 abbrev Inv-loop : tie.InvT-loop
-Inv-loop class net tally₀ pay₀ tally pay = pay ≤ 40
+Inv-loop class net tally₀ pay₀ tally pay = pay ≤ PAID
 
 abbrev μ-loop : tie.MeasureT-loop
-μ-loop class net tally₀ pay₀ tally pay = 40 - pay
+μ-loop class net tally₀ pay₀ tally pay = PAID - pay
 
 enum-told : tie.Need-enum-told Inv-loop μ-loop
 enum-told c = search needs

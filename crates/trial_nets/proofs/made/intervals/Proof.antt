@@ -1,14 +1,15 @@
 -- `intervals` is safe and ends. The measure is the places left. Assumes nothing.
 use Prim.Native.Nat.{_-_, _≤_}
 use borrow.Author.Needs.{needs}
+use Rattle.net_step.specs.Named.{WORDS}
 use Rattle.trial_nets.proofs.made.intervals.Statement.{statement}
 use Rattle.trial_nets.proofs.made.intervals.Tie as tie
 
 abbrev Inv-loop : tie.InvT-loop
-Inv-loop seed top count words₀ s₀ p₀ words s p = p ≤ 16
+Inv-loop seed top count words₀ s₀ p₀ words s p = p ≤ WORDS
 
 abbrev μ-loop : tie.MeasureT-loop
-μ-loop seed top count words₀ s₀ p₀ words s p = 16 - p
+μ-loop seed top count words₀ s₀ p₀ words s p = WORDS - p
 
 loop-holds : tie.Need-loop-holds Inv-loop μ-loop
 loop-holds c = search needs

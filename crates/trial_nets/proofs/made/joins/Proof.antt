@@ -1,14 +1,15 @@
 -- `joins` is safe and ends. The measure is the joins left. Assumes nothing.
 use Prim.Native.Nat.{_-_, _≤_}
 use borrow.Author.Needs.{needs}
+use Rattle.net_tests.specs.Fits.{JOINS}
 use Rattle.trial_nets.proofs.made.joins.Statement.{statement}
 use Rattle.trial_nets.proofs.made.joins.Tie as tie
 
 abbrev Inv-loop : tie.InvT-loop
-Inv-loop seed count joins₀ s₀ k₀ joins s k = k ≤ 32
+Inv-loop seed count joins₀ s₀ k₀ joins s k = k ≤ JOINS
 
 abbrev μ-loop : tie.MeasureT-loop
-μ-loop seed count joins₀ s₀ k₀ joins s k = 32 - k
+μ-loop seed count joins₀ s₀ k₀ joins s k = JOINS - k
 
 join-requires : tie.Need-join-requires Inv-loop μ-loop
 join-requires c κs = search needs

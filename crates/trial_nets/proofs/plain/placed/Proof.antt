@@ -1,14 +1,15 @@
 -- `placed` is safe and ends. The measure is the places left. Assumes nothing.
 use Prim.Native.Nat.{_-_, _≤_}
 use borrow.Author.Needs.{needs}
+use Rattle.net_step.specs.Named.{WORDS}
 use Rattle.trial_nets.proofs.plain.placed.Statement.{statement}
 use Rattle.trial_nets.proofs.plain.placed.Tie as tie
 
 abbrev Inv-loop : tie.InvT-loop
-Inv-loop join found words new₀ p₀ new p = p ≤ 16
+Inv-loop join found words new₀ p₀ new p = p ≤ WORDS
 
 abbrev μ-loop : tie.MeasureT-loop
-μ-loop join found words new₀ p₀ new p = 16 - p
+μ-loop join found words new₀ p₀ new p = WORDS - p
 
 loop-holds : tie.Need-loop-holds Inv-loop μ-loop
 loop-holds c = search needs

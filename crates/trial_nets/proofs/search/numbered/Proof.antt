@@ -1,14 +1,15 @@
 -- `numbered` is safe and ends. The measure is the places left. Assumes nothing.
 use Prim.Native.Nat.{_-_, _≤_}
 use borrow.Author.Needs.{needs}
+use Rattle.net_step.specs.Named.{WORDS}
 use Rattle.trial_nets.proofs.search.numbered.Statement.{statement}
 use Rattle.trial_nets.proofs.search.numbered.Tie as tie
 
 abbrev Inv-loop : tie.InvT-loop
-Inv-loop i n words₀ rest₀ p₀ words rest p = p ≤ 16
+Inv-loop i n words₀ rest₀ p₀ words rest p = p ≤ WORDS
 
 abbrev μ-loop : tie.MeasureT-loop
-μ-loop i n words₀ rest₀ p₀ words rest p = 16 - p
+μ-loop i n words₀ rest₀ p₀ words rest p = WORDS - p
 
 returns : tie.Need-returns Inv-loop μ-loop
 returns c = search needs

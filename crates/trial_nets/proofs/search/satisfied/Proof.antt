@@ -1,14 +1,15 @@
 -- `satisfied` is safe and ends. The measure is the joins left. Assumes nothing.
 use Prim.Native.Nat.{_-_, _≤_}
 use borrow.Author.Needs.{needs}
+use Rattle.net_tests.specs.Fits.{JOINS}
 use Rattle.trial_nets.proofs.search.satisfied.Statement.{statement}
 use Rattle.trial_nets.proofs.search.satisfied.Tie as tie
 
 abbrev Inv-loop : tie.InvT-loop
-Inv-loop net words joins top k₀ k = k ≤ 32
+Inv-loop net words joins top k₀ k = k ≤ JOINS
 
 abbrev μ-loop : tie.MeasureT-loop
-μ-loop net words joins top k₀ k = 32 - k
+μ-loop net words joins top k₀ k = JOINS - k
 
 top-requires : tie.Need-top-requires Inv-loop μ-loop
 top-requires c κs = search needs

@@ -1,14 +1,15 @@
 -- `over_joins` is safe and ends. The measure is the numbers of joins left. Assumes nothing.
-use Prim.Native.Nat.{_-_, _≤_}
+use Prim.Native.Nat.{_+_, _-_, _≤_}
 use borrow.Author.Needs.{needs}
+use Rattle.net_tests.specs.Fits.{JOINS}
 use Rattle.try_nets.proofs.places.over_joins.Statement.{statement}
 use Rattle.try_nets.proofs.places.over_joins.Tie as tie
 
 abbrev Inv-loop : tie.InvT-loop
-Inv-loop way tally₀ joined₀ tally joined = joined ≤ 33
+Inv-loop way tally₀ joined₀ tally joined = joined ≤ JOINS + 1
 
 abbrev μ-loop : tie.MeasureT-loop
-μ-loop way tally₀ joined₀ tally joined = 33 - joined
+μ-loop way tally₀ joined₀ tally joined = JOINS + 1 - joined
 
 none-requires : tie.Need-none-requires Inv-loop μ-loop
 none-requires c κs = search needs

@@ -1,14 +1,18 @@
 -- `over_ways` is safe and ends. The measure is the nets left. Assumes nothing.
-use Prim.Native.Nat.{_-_, _≤_}
+use Prim.Native.Nat.{ℕ, _-_, _≤_}
 use borrow.Author.Needs.{needs}
 use Rattle.try_nets.proofs.refused.over_ways.Statement.{statement}
 use Rattle.try_nets.proofs.refused.over_ways.Tie as tie
 
+-- the ways to be refused with 16, or none, each with what else is wrong
+abbrev WAYS : ℕ
+WAYS = 48
+
 abbrev Inv-loop : tie.InvT-loop
-Inv-loop tally₀ i₀ tally i = i ≤ 48
+Inv-loop tally₀ i₀ tally i = i ≤ WAYS
 
 abbrev μ-loop : tie.MeasureT-loop
-μ-loop tally₀ i₀ tally i = 48 - i
+μ-loop tally₀ i₀ tally i = WAYS - i
 
 none-requires : tie.Need-none-requires Inv-loop μ-loop
 none-requires c κs = search needs
