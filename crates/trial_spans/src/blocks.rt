@@ -5,13 +5,16 @@ use crate::words;
 use span::Interval;
 use span::Op;
 
+// The bits of a number.
+const BITS: u64 = 64;
+
 // The most blocks that an interval needs: two of each size.
-const BLOCKS: u64 = 128;
+const BLOCKS: u64 = 2 * BITS;
 
 // The lowest bits that are free in the largest block that starts at p and stays within high, set.
 fn free(p: u64, high: u64) -> u64 {
     let mut ones = 0;
-    for k in 0u64..64 {
+    for k in 0..BITS {
         let more = u64::MAX >> (63 - k);
         if p & more == 0 {
             if more <= std::num::wrapping_sub_u64(high, p) {

@@ -9,6 +9,24 @@ use trial_spans::expected::Way;
 use trial_spans::made;
 use trial_tally::Tally;
 
+const OPERATIONS: u64 = 4;
+
+// The widest words with all pairs of intervals, and with all triples.
+const PAIRED: u64 = 4;
+
+const TRIPLED: u64 = 3;
+
+const DRAWN: u64 = 4000;
+
+// How many wide widths there are.
+const WIDTHS: u64 = 4;
+
+// Three intervals of h, with four ends of seven corners each.
+const CORNERED: u64 = 7203;
+
+// Four operations, three widths, and six ends of three each.
+const REFUSED: u64 = 8748;
+
 fn main() {
     pairs_over_widths(Way::Words).print(b"pairs, word by word:");
     pairs_over_widths(Way::Blocks).print(b"pairs, block by block:");
@@ -30,7 +48,7 @@ fn four(way: Way, width: u64, h: Interval, x: Interval, y: Interval) -> Tally {
     let mut tally = Tally::none();
     if made::ordered(x) {
         if made::ordered(y) {
-            for k in 0..4 {
+            for k in 0..OPERATIONS {
                 tally = tally.plus(one(way, width, made::op(k), h, x, y));
             }
         }
@@ -41,7 +59,7 @@ fn four(way: Way, width: u64, h: Interval, x: Interval, y: Interval) -> Tally {
 // All intervals of x and of y at widths 1 to 4, with every word for h.
 fn pairs_over_widths(way: Way) -> Tally {
     let mut tally = Tally::none();
-    for width in 1..5 {
+    for width in 1..PAIRED + 1 {
         tally = tally.plus(pairs(way, width, 1 << width, 1 << (4 * width)));
     }
     tally
@@ -61,7 +79,7 @@ fn pairs(way: Way, width: u64, n: u64, count: u64) -> Tally {
 // All intervals of h, x and y at widths 1 to 3.
 fn triples_over_widths() -> Tally {
     let mut tally = Tally::none();
-    for width in 1..4 {
+    for width in 1..TRIPLED + 1 {
         tally = tally.plus(triples(width, 1 << width, 1 << (6 * width)));
     }
     tally
@@ -86,7 +104,7 @@ fn triples(width: u64, n: u64, count: u64) -> Tally {
 fn drawn() -> Tally {
     let mut tally = Tally::none();
     let mut seed = 0x2545_f491_4f6c_dd1d;
-    for i in 0..4000 {
+    for i in 0..DRAWN {
         let width = 5 + i % 4;
         let top = expected::top(width);
         let second = made::next(seed);
@@ -103,7 +121,7 @@ fn drawn() -> Tally {
 // Corners at widths 31, 32, 63 and 64.
 fn corners_over_widths() -> Tally {
     let mut tally = Tally::none();
-    for k in 0..4 {
+    for k in 0..WIDTHS {
         let width = made::wide(k);
         tally = tally.plus(corners(width, expected::top(width)));
     }
@@ -113,7 +131,7 @@ fn corners_over_widths() -> Tally {
 // Four corners for the ends of x and y, seven each, and three intervals of h.
 fn corners(width: u64, top: u64) -> Tally {
     let mut tally = Tally::none();
-    for i in 0..7203 {
+    for i in 0..CORNERED {
         let h = made::corner_h(i / 2401, top);
         let x = made::cornered(i, top);
         let y = made::cornered(i / 49, top);
@@ -125,7 +143,7 @@ fn corners(width: u64, top: u64) -> Tally {
 // Four operations, three widths, and six ends of three each.
 fn refusals() -> Tally {
     let mut tally = Tally::none();
-    for i in 0..8748 {
+    for i in 0..REFUSED {
         let width = made::odd_width(i / 4);
         let h = made::odd(i / 12);
         let x = made::odd(i / 108);

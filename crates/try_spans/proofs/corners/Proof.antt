@@ -1,14 +1,18 @@
 -- `corners` is safe and ends. The measure is the numbers left. Assumes nothing.
-use Prim.Native.Nat.{_-_, _≤_}
+use Prim.Native.Nat.{ℕ, _-_, _≤_}
 use borrow.Author.Needs.{needs}
 use Rattle.try_spans.proofs.corners.Statement.{statement}
 use Rattle.try_spans.proofs.corners.Tie as tie
 
+-- three intervals of h, with four ends of seven corners each
+abbrev CORNERED : ℕ
+CORNERED = 7203
+
 abbrev Inv-loop : tie.InvT-loop
-Inv-loop width top tally₀ i₀ tally i = i ≤ 7203
+Inv-loop width top tally₀ i₀ tally i = i ≤ CORNERED
 
 abbrev μ-loop : tie.MeasureT-loop
-μ-loop width top tally₀ i₀ tally i = 7203 - i
+μ-loop width top tally₀ i₀ tally i = CORNERED - i
 
 none-requires : tie.Need-none-requires Inv-loop μ-loop
 none-requires c κs = search needs

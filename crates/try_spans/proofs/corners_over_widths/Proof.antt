@@ -1,14 +1,18 @@
 -- `corners_over_widths` is safe and ends. The measure is the widths left. Assumes nothing.
-use Prim.Native.Nat.{_-_, _≤_}
+use Prim.Native.Nat.{ℕ, _-_, _≤_}
 use borrow.Author.Needs.{needs}
 use Rattle.try_spans.proofs.corners_over_widths.Statement.{statement}
 use Rattle.try_spans.proofs.corners_over_widths.Tie as tie
 
+-- how many wide widths there are
+abbrev WIDTHS : ℕ
+WIDTHS = 4
+
 abbrev Inv-loop : tie.InvT-loop
-Inv-loop tally₀ k₀ tally k = k ≤ 4
+Inv-loop tally₀ k₀ tally k = k ≤ WIDTHS
 
 abbrev μ-loop : tie.MeasureT-loop
-μ-loop tally₀ k₀ tally k = 4 - k
+μ-loop tally₀ k₀ tally k = WIDTHS - k
 
 none-requires : tie.Need-none-requires Inv-loop μ-loop
 none-requires c κs = search needs

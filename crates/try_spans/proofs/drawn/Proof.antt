@@ -1,14 +1,18 @@
 -- `drawn` is safe and ends. The measure is the joins left. Assumes nothing.
-use Prim.Native.Nat.{_-_, _≤_}
+use Prim.Native.Nat.{ℕ, _-_, _≤_}
 use borrow.Author.Needs.{needs}
 use Rattle.try_spans.proofs.drawn.Statement.{statement}
 use Rattle.try_spans.proofs.drawn.Tie as tie
 
+-- how many joins are drawn
+abbrev DRAWN : ℕ
+DRAWN = 4000
+
 abbrev Inv-loop : tie.InvT-loop
-Inv-loop tally₀ seed₀ i₀ tally seed i = i ≤ 4000
+Inv-loop tally₀ seed₀ i₀ tally seed i = i ≤ DRAWN
 
 abbrev μ-loop : tie.MeasureT-loop
-μ-loop tally₀ seed₀ i₀ tally seed i = 4000 - i
+μ-loop tally₀ seed₀ i₀ tally seed i = DRAWN - i
 
 none-requires : tie.Need-none-requires Inv-loop μ-loop
 none-requires c κs = search needs

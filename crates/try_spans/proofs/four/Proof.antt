@@ -1,14 +1,18 @@
 -- `four` is safe and ends. The measure is the operations left. Assumes nothing.
-use Prim.Native.Nat.{_-_, _≤_}
+use Prim.Native.Nat.{ℕ, _-_, _≤_}
 use borrow.Author.Needs.{needs}
 use Rattle.try_spans.proofs.four.Statement.{statement}
 use Rattle.try_spans.proofs.four.Tie as tie
 
+-- how many operations there are
+abbrev OPERATIONS : ℕ
+OPERATIONS = 4
+
 abbrev Inv-loop : tie.InvT-loop
-Inv-loop way width h x y tally₀ k₀ tally k = k ≤ 4
+Inv-loop way width h x y tally₀ k₀ tally k = k ≤ OPERATIONS
 
 abbrev μ-loop : tie.MeasureT-loop
-μ-loop way width h x y tally₀ k₀ tally k = 4 - k
+μ-loop way width h x y tally₀ k₀ tally k = OPERATIONS - k
 
 none-requires : tie.Need-none-requires Inv-loop μ-loop
 none-requires c κs = search needs

@@ -1,14 +1,18 @@
 -- `pairs_over_widths` is safe and ends. The measure is the widths left. Assumes nothing.
-use Prim.Native.Nat.{_-_, _≤_}
+use Prim.Native.Nat.{ℕ, _+_, _-_, _≤_}
 use borrow.Author.Needs.{needs}
 use Rattle.try_spans.proofs.pairs_over_widths.Statement.{statement}
 use Rattle.try_spans.proofs.pairs_over_widths.Tie as tie
 
+-- the widest words with all pairs of intervals
+abbrev PAIRED : ℕ
+PAIRED = 4
+
 abbrev Inv-loop : tie.InvT-loop
-Inv-loop way tally₀ width₀ tally width = width ≤ 5
+Inv-loop way tally₀ width₀ tally width = width ≤ PAIRED + 1
 
 abbrev μ-loop : tie.MeasureT-loop
-μ-loop way tally₀ width₀ tally width = 5 - width
+μ-loop way tally₀ width₀ tally width = PAIRED + 1 - width
 
 none-requires : tie.Need-none-requires Inv-loop μ-loop
 none-requires c κs = search needs

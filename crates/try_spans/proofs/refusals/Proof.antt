@@ -1,14 +1,18 @@
 -- `refusals` is safe and ends. The measure is the numbers left. Assumes nothing.
-use Prim.Native.Nat.{_-_, _≤_}
+use Prim.Native.Nat.{ℕ, _-_, _≤_}
 use borrow.Author.Needs.{needs}
 use Rattle.try_spans.proofs.refusals.Statement.{statement}
 use Rattle.try_spans.proofs.refusals.Tie as tie
 
+-- four operations, three widths, and six ends of three each
+abbrev REFUSED : ℕ
+REFUSED = 8748
+
 abbrev Inv-loop : tie.InvT-loop
-Inv-loop tally₀ i₀ tally i = i ≤ 8748
+Inv-loop tally₀ i₀ tally i = i ≤ REFUSED
 
 abbrev μ-loop : tie.MeasureT-loop
-μ-loop tally₀ i₀ tally i = 8748 - i
+μ-loop tally₀ i₀ tally i = REFUSED - i
 
 none-requires : tie.Need-none-requires Inv-loop μ-loop
 none-requires c κs = search needs

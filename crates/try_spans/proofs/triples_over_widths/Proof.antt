@@ -1,14 +1,18 @@
 -- `triples_over_widths` is safe and ends. The measure is the widths left. Assumes nothing.
-use Prim.Native.Nat.{_-_, _≤_}
+use Prim.Native.Nat.{ℕ, _+_, _-_, _≤_}
 use borrow.Author.Needs.{needs}
 use Rattle.try_spans.proofs.triples_over_widths.Statement.{statement}
 use Rattle.try_spans.proofs.triples_over_widths.Tie as tie
 
+-- the widest words with all triples of intervals
+abbrev TRIPLED : ℕ
+TRIPLED = 3
+
 abbrev Inv-loop : tie.InvT-loop
-Inv-loop tally₀ width₀ tally width = width ≤ 4
+Inv-loop tally₀ width₀ tally width = width ≤ TRIPLED + 1
 
 abbrev μ-loop : tie.MeasureT-loop
-μ-loop tally₀ width₀ tally width = 4 - width
+μ-loop tally₀ width₀ tally width = TRIPLED + 1 - width
 
 none-requires : tie.Need-none-requires Inv-loop μ-loop
 none-requires c κs = search needs

@@ -1,14 +1,15 @@
 -- `blocks::free` is safe and ends. The measure is the bits left. Assumes nothing.
 use Prim.Native.Nat.{_-_, _≤_}
 use borrow.Author.Needs.{needs}
+use Rattle.trial_spans.proofs.Counts.{BITS}
 use Rattle.trial_spans.proofs.blocks.free.Statement.{statement}
 use Rattle.trial_spans.proofs.blocks.free.Tie as tie
 
 abbrev Inv-loop : tie.InvT-loop
-Inv-loop p high ones₀ k₀ ones k = k ≤ 64
+Inv-loop p high ones₀ k₀ ones k = k ≤ BITS
 
 abbrev μ-loop : tie.MeasureT-loop
-μ-loop p high ones₀ k₀ ones k = 64 - k
+μ-loop p high ones₀ k₀ ones k = BITS - k
 
 loop-holds : tie.Need-loop-holds Inv-loop μ-loop
 loop-holds c = search needs

@@ -1,14 +1,15 @@
 -- `blocks::over_y` is safe and ends. The measure is the blocks left. Assumes nothing.
 use Prim.Native.Nat.{_-_, _≤_}
 use borrow.Author.Needs.{needs}
+use Rattle.trial_spans.proofs.Counts.{BLOCKS}
 use Rattle.trial_spans.proofs.blocks.over_y.Statement.{statement}
 use Rattle.trial_spans.proofs.blocks.over_y.Tie as tie
 
 abbrev Inv-loop : tie.InvT-loop
-Inv-loop op top p ones y wide₀ q₀ counter₀ wide q counter = counter ≤ 128
+Inv-loop op top p ones y wide₀ q₀ counter₀ wide q counter = counter ≤ BLOCKS
 
 abbrev μ-loop : tie.MeasureT-loop
-μ-loop op top p ones y wide₀ q₀ counter₀ wide q counter = 128 - counter
+μ-loop op top p ones y wide₀ q₀ counter₀ wide q counter = BLOCKS - counter
 
 loop-holds : tie.Need-loop-holds Inv-loop μ-loop
 loop-holds c = search needs

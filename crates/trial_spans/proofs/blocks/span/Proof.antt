@@ -1,14 +1,15 @@
 -- `blocks::span` is safe and ends. The measure is the blocks left. Assumes nothing.
 use Prim.Native.Nat.{_-_, _≤_}
 use borrow.Author.Needs.{needs}
+use Rattle.trial_spans.proofs.Counts.{BLOCKS}
 use Rattle.trial_spans.proofs.blocks.span.Statement.{statement}
 use Rattle.trial_spans.proofs.blocks.span.Tie as tie
 
 abbrev Inv-loop : tie.InvT-loop
-Inv-loop op top x y s₀ p₀ counter₀ s p counter = counter ≤ 128
+Inv-loop op top x y s₀ p₀ counter₀ s p counter = counter ≤ BLOCKS
 
 abbrev μ-loop : tie.MeasureT-loop
-μ-loop op top x y s₀ p₀ counter₀ s p counter = 128 - counter
+μ-loop op top x y s₀ p₀ counter₀ s p counter = BLOCKS - counter
 
 none-requires : tie.Need-none-requires Inv-loop μ-loop
 none-requires c κs = search needs
