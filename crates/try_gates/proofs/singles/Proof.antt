@@ -1,14 +1,15 @@
 -- `singles` is safe and ends. The measure is the corners left. Assumes nothing.
 use Prim.Native.Nat.{_-_, _≤_}
 use borrow.Author.Needs.{needs}
+use Rattle.try_gates.proofs.Counts.{CORNERS}
 use Rattle.try_gates.proofs.singles.Statement.{statement}
 use Rattle.try_gates.proofs.singles.Tie as tie
 
 abbrev Inv-loop : tie.InvT-loop
-Inv-loop kind looked-at tally₀ i₀ tally i = i ≤ 40
+Inv-loop kind looked-at tally₀ i₀ tally i = i ≤ CORNERS
 
 abbrev μ-loop : tie.MeasureT-loop
-μ-loop kind looked-at tally₀ i₀ tally i = 40 - i
+μ-loop kind looked-at tally₀ i₀ tally i = CORNERS - i
 
 none-requires : tie.Need-none-requires Inv-loop μ-loop
 none-requires c κs = search needs

@@ -1,14 +1,15 @@
 -- `spans` is safe and ends. The measure is the pairs left. Assumes nothing.
-use Prim.Native.Nat.{_-_, _≤_}
+use Prim.Native.Nat.{_-_, _*_, _≤_}
 use borrow.Author.Needs.{needs}
+use Rattle.try_gates.proofs.Counts.{CORNERS}
 use Rattle.try_gates.proofs.spans.Statement.{statement}
 use Rattle.try_gates.proofs.spans.Tie as tie
 
 abbrev Inv-loop : tie.InvT-loop
-Inv-loop looked-at tally₀ i₀ tally i = i ≤ 1600
+Inv-loop looked-at tally₀ i₀ tally i = i ≤ CORNERS * CORNERS
 
 abbrev μ-loop : tie.MeasureT-loop
-μ-loop looked-at tally₀ i₀ tally i = 1600 - i
+μ-loop looked-at tally₀ i₀ tally i = CORNERS * CORNERS - i
 
 none-requires : tie.Need-none-requires Inv-loop μ-loop
 none-requires c κs = search needs

@@ -1,14 +1,15 @@
 -- `words` is safe and ends. The measure is the words left. Assumes nothing.
 use Prim.Native.Nat.{_-_, _≤_}
 use borrow.Author.Needs.{needs}
+use Rattle.try_gates.proofs.Counts.{WORDS}
 use Rattle.try_gates.proofs.words.Statement.{statement}
 use Rattle.try_gates.proofs.words.Tie as tie
 
 abbrev Inv-loop : tie.InvT-loop
-Inv-loop kind low high four looked-at tally₀ k₀ tally k = k ≤ 120
+Inv-loop kind low high four looked-at tally₀ k₀ tally k = k ≤ WORDS
 
 abbrev μ-loop : tie.MeasureT-loop
-μ-loop kind low high four looked-at tally₀ k₀ tally k = 120 - k
+μ-loop kind low high four looked-at tally₀ k₀ tally k = WORDS - k
 
 none-requires : tie.Need-none-requires Inv-loop μ-loop
 none-requires c κs = search needs

@@ -1,14 +1,18 @@
 -- `drawn` is safe and ends. The measure is the rounds left. Assumes nothing.
-use Prim.Native.Nat.{_-_, _≤_}
+use Prim.Native.Nat.{ℕ, _-_, _≤_}
 use borrow.Author.Needs.{needs}
 use Rattle.try_watts.proofs.drawn.Statement.{statement}
 use Rattle.try_watts.proofs.drawn.Tie as tie
 
+-- how many are drawn for each line
+abbrev ROUNDS : ℕ
+ROUNDS = 2000
+
 abbrev Inv-loop : tie.InvT-loop
-Inv-loop kind seen₀ seed₀ counter₀ seen seed counter = counter ≤ 2000
+Inv-loop kind seen₀ seed₀ counter₀ seen seed counter = counter ≤ ROUNDS
 
 abbrev μ-loop : tie.MeasureT-loop
-μ-loop kind seen₀ seed₀ counter₀ seen seed counter = 2000 - counter
+μ-loop kind seen₀ seed₀ counter₀ seen seed counter = ROUNDS - counter
 
 none-requires : tie.Need-none-requires Inv-loop μ-loop
 none-requires c κs = search needs

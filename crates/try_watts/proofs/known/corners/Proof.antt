@@ -1,14 +1,18 @@
 -- `corners` is safe and ends. The measure is the rows left. Assumes nothing.
-use Prim.Native.Nat.{_-_, _≤_}
+use Prim.Native.Nat.{ℕ, _-_, _≤_}
 use borrow.Author.Needs.{needs}
 use Rattle.try_watts.proofs.known.corners.Statement.{statement}
 use Rattle.try_watts.proofs.known.corners.Tie as tie
 
+-- how many decimals were worked by hand
+abbrev ROWS : ℕ
+ROWS = 16
+
 abbrev Inv-loop : tie.InvT-loop
-Inv-loop seen₀ i₀ seen i = i ≤ 16
+Inv-loop seen₀ i₀ seen i = i ≤ ROWS
 
 abbrev μ-loop : tie.MeasureT-loop
-μ-loop seen₀ i₀ seen i = 16 - i
+μ-loop seen₀ i₀ seen i = ROWS - i
 
 none-requires : tie.Need-none-requires Inv-loop μ-loop
 none-requires c κs = search needs
