@@ -22,6 +22,9 @@ struct Row(u64, u64, u64, u64, u64, u64, u64);
 // How many rows there are.
 pub const ROWS: usize = 15;
 
+// The most groups of four digits.
+const GROUPS: usize = 3;
+
 // The row of case 2, the first that has a rule, and of case 8, which has two links.
 pub const CASE2: usize = 2;
 
@@ -105,7 +108,7 @@ pub fn link_number(digits: u64, at: usize) -> u64 {
 // The rules that digits write, from the first place on.
 pub fn written(digits: u64) -> [Rule; Rule::LIMIT] {
     let mut rules = [rule_at(0, 0); Rule::LIMIT];
-    for i in 0..3 {
+    for i in 0..GROUPS {
         rules[i] = rule_at(digits, i);
     }
     rules

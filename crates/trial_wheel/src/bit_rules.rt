@@ -4,12 +4,13 @@ use crate::meaning;
 use crate::wheel::Wheel;
 use rule::Rule;
 use word::Found;
+use word::Width;
 
 // The most rules of a sheet that is looked at whole.
 pub const FEW: usize = 6;
 
 // The most bits of a word.
-const BITS: u64 = 64;
+const BITS: u64 = Width::LIMIT;
 
 // The form 7 rules in one: the bits of their values, and those that none looks at.
 struct Join {

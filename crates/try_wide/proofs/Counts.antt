@@ -1,12 +1,8 @@
 -- How many numbers there are for sheets of each kind, and how many sheets are drawn, as the code has it.
 use Prim.Native.Nat.{ℕ, _+_, _*_, _/_}
-use Rattle.rule.specs.Meaning.{FORMS}
+use Rattle.trial_wide.proofs.Counts.{CORNERS}
 
--- each form in two senses, with two of six words
-abbrev pub CORNERS : ℕ
-CORNERS = 36 * (2 * FORMS)
-
--- after each of these, every eleventh of them
+-- after each rule with corners, every eleventh of them
 abbrev pub STEP : ℕ
 STEP = 11
 

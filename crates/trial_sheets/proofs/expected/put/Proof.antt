@@ -1,7 +1,7 @@
 -- `put` is safe and ends: the measure is the numbers left. Assumes nothing.
-use Prim.Native.Nat.{_+_, _*_, _-_}
-use Rattle.rule.specs.Meaning.{RULES}
+use Prim.Native.Nat.{_-_}
 use borrow.Author.Needs.{needs}
+use Rattle.trial_sheets.proofs.Counts.{NUMBERS}
 use Rattle.trial_sheets.proofs.expected.put.Statement.{statement}
 use Rattle.trial_sheets.proofs.expected.put.Tie as tie
 
@@ -10,5 +10,5 @@ put-spec =
     tie.close
     (tie.spec
     (λ digits numbers out₀ at₀ out at. Unit)
-    (λ digits numbers out₀ at₀ out at. 3 * (4 * RULES + 1) - at)
+    (λ digits numbers out₀ at₀ out at. NUMBERS - at)
     (search needs) (search needs) (search needs) (search needs) (search needs) (search needs) (search needs) (search needs))

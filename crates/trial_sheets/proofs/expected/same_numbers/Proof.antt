@@ -1,7 +1,7 @@
 -- `same_numbers` is safe and ends: the measure is the numbers left. Assumes nothing.
-use Prim.Native.Nat.{_+_, _*_, _-_}
-use Rattle.rule.specs.Meaning.{RULES}
+use Prim.Native.Nat.{_-_}
 use borrow.Author.Needs.{needs}
+use Rattle.trial_sheets.proofs.Counts.{NUMBERS}
 use Rattle.trial_sheets.proofs.expected.same_numbers.Statement.{statement}
 use Rattle.trial_sheets.proofs.expected.same_numbers.Tie as tie
 
@@ -10,6 +10,6 @@ same-numbers-spec =
     tie.close
     (tie.spec
     (λ a b i₀ i. Unit)
-    (λ a b i₀ i. 3 * (4 * RULES + 1) - i)
+    (λ a b i₀ i. NUMBERS - i)
     (search needs) (search needs) (search needs) (search needs) (search needs) (search needs) (search needs) (search needs)
     (search needs) (search needs))

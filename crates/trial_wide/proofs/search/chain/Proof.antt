@@ -1,7 +1,7 @@
 -- `search::chain` is safe and ends: the measure is the links left. Assumes nothing.
-use Prim.Native.Nat.{_+_, _*_, _-_}
-use Rattle.rule.specs.Meaning.{RULES}
+use Prim.Native.Nat.{_-_}
 use borrow.Author.Needs.{needs}
+use Rattle.trial_sheets.proofs.Counts.{LINKS}
 use Rattle.trial_wide.proofs.search.chain.Statement.{statement}
 use Rattle.trial_wide.proofs.search.chain.Tie as tie
 
@@ -10,7 +10,7 @@ chain-spec =
     tie.close
     (tie.spec
     (λ rules wheel out₀ top links₀ p₀ out links p. Unit)
-    (λ rules wheel out₀ top links₀ p₀ out links p. 4 * RULES + 1 - links)
+    (λ rules wheel out₀ top links₀ p₀ out links p. LINKS - links)
     (search needs) (search needs) (search needs) (search needs) (search needs) (search needs) (search needs) (search needs)
     (search needs) (search needs) (search needs) (search needs) (search needs) (search needs) (search needs) (search needs)
     (search needs) (search needs) (search needs))

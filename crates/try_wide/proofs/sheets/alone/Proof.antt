@@ -1,6 +1,6 @@
 -- `sheets::alone` is safe and ends: the measure is the rules left. Assumes nothing.
 use Prim.Native.Nat.{_-_}
-use Rattle.try_wide.proofs.Counts.{CORNERS}
+use Rattle.trial_wide.proofs.Counts.{CORNERS}
 use borrow.Author.Needs.{needs}
 use Rattle.try_wide.proofs.sheets.alone.Statement.{statement}
 use Rattle.try_wide.proofs.sheets.alone.Tie as tie
