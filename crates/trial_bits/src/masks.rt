@@ -9,6 +9,9 @@ use trial_tally::Tally;
 use word::Found;
 use word::Width;
 
+// The widest words that every mask is tried on.
+const WIDEST: u64 = 5;
+
 // Which way the bits are looked for.
 pub enum Way {
     Next,
@@ -25,7 +28,7 @@ pub struct Sought {
 // Every mask that reaches at most one bit past the top word, every value and every word, at the widths 1 to 5.
 pub fn small(way: Way) -> Tally {
     let mut tally = Tally::none();
-    for bits in 1..6 {
+    for bits in 1..WIDEST + 1 {
         tally = tally.plus(over_numbers(way, Width { bits }));
     }
     tally

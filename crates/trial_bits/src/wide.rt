@@ -9,6 +9,9 @@ use trial_tally::Tally;
 use word::Found;
 use word::Width;
 
+// How many words are tried at a width.
+const WORDS: u64 = 16;
+
 pub fn over_widths(way: Way) -> Tally {
     over_words(way, Width { bits: 31 })
         .plus(over_words(way, Width { bits: 32 }))
@@ -21,7 +24,7 @@ fn over_words(way: Way, width: Width) -> Tally
     requires { ⌜ IsWidth (width .bits) ⌝ }
 {
     let mut tally = Tally::none();
-    for i in 0..4096 {
+    for i in 0..WORDS * WORDS * WORDS {
         tally = tally.plus(at_words(way, width, i));
     }
     tally
@@ -32,15 +35,15 @@ fn at_words(way: Way, width: Width, i: u64) -> Tally
     requires { ⌜ IsWidth (width .bits) ⌝ }
 {
     let top = width.top();
-    let whole = word(width, i % 16);
+    let whole = word(width, i % WORDS);
     let mask = match way {
         Way::Next => whole,
         Way::Prev => whole & top,
     };
     let sought = Sought {
         mask,
-        value: word(width, i / 16 % 16) & mask,
-        p: word(width, i / 256) & top,
+        value: word(width, i / WORDS % WORDS) & mask,
+        p: word(width, i / (WORDS * WORDS)) & top,
     };
     let expected = match way {
         Way::Next => smallest(width, sought),

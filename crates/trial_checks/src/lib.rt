@@ -21,6 +21,9 @@ use trial_tally::Split;
 use word::Edition;
 use word::Width;
 
+// The numbers of a drawn list, of four links.
+const DRAWN: usize = 4 * Link::NUMBERS;
+
 // The lists of one sheet in both editions, or nothing where its rules are not accepted; with the right answers expected, or the wrong
 // ones.
 pub fn sheet(
@@ -253,7 +256,7 @@ fn put_drawn(seed: u64, n: u64, size: u64, list: &mut [u64; ROOM])
     requires { ⌜ (1 ≤ size) × (n ≤ RULES) ⌝ }
 {
     let mut s = seed;
-    for i in 0..12 {
+    for i in 0..DRAWN {
         s = draw::next(s);
         list[i] = drawn(s, i, n, size);
     }

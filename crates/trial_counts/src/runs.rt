@@ -11,9 +11,10 @@ use trial_wheel::wheel::Wheel;
 use trial_wide::search;
 use trial_wide::search::STRETCHES;
 use word::Found;
+use word::Width;
 
-// The bits of the most bits of a word.
-const BITS: u64 = 64;
+// The most bits of a word.
+const BITS: u64 = Width::LIMIT;
 
 // What the form 7 rules look at, and what they want there.
 struct Wanted {

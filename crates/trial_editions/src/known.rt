@@ -8,10 +8,13 @@ use trial_sheets::expected::NUMBERS;
 use trial_tally::Tally;
 use word::Edition;
 
+// How many expectations of a sheet are wrong.
+const WRONG: u64 = 6;
+
 // What is right of a sheet at width 64, six expectations that are wrong in one number each, and answers of two widths.
 pub fn all() -> Tally {
     let mut tally = Tally::none();
-    for wrong in 0..7 {
+    for wrong in 0..WRONG + 1 {
         tally = tally.plus(spoilt(wrong));
     }
     tally.plus(widths())

@@ -1,6 +1,7 @@
 -- `pieces::is_same` is safe and ends: the measure is what is left. Assumes nothing.
 use Prim.Native.Nat.{_-_}
 use borrow.Author.Needs.{needs}
+use Rattle.trial_counts.proofs.Counts.{ROOM}
 use Rattle.trial_counts.proofs.pieces.is_same.Statement.{statement}
 use Rattle.trial_counts.proofs.pieces.is_same.Tie as tie
 
@@ -9,6 +10,6 @@ is-same-spec =
     tie.close
     (tie.spec
     (λ out at written list i₀ i. Unit)
-    (λ out at written list i₀ i. 257 - i)
+    (λ out at written list i₀ i. ROOM - i)
     (search needs) (search needs) (search needs) (search needs) (search needs) (search needs) (search needs) (search needs)
     (search needs) (search needs) (search needs))

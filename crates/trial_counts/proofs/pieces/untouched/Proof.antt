@@ -1,6 +1,7 @@
 -- `pieces::untouched` is safe and ends: the measure is what is left. Assumes nothing.
 use Prim.Native.Nat.{_-_}
 use borrow.Author.Needs.{needs}
+use Rattle.trial_counts.proofs.Counts.{ROOM}
 use Rattle.trial_counts.proofs.pieces.untouched.Statement.{statement}
 use Rattle.trial_counts.proofs.pieces.untouched.Tie as tie
 
@@ -9,5 +10,5 @@ untouched-spec =
     tie.close
     (tie.spec
     (λ out i₀ i. Unit)
-    (λ out i₀ i. 257 - i)
+    (λ out i₀ i. ROOM - i)
     (search needs) (search needs) (search needs) (search needs) (search needs) (search needs) (search needs) (search needs))

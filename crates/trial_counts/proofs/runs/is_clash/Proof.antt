@@ -1,6 +1,7 @@
 -- `runs::is_clash` is safe and ends: the measure is what is left. Assumes nothing.
 use Prim.Native.Nat.{_-_}
 use borrow.Author.Needs.{needs}
+use Rattle.trial_wheel.specs.Limits.{FEW}
 use Rattle.trial_counts.proofs.runs.is_clash.Statement.{statement}
 use Rattle.trial_counts.proofs.runs.is_clash.Tie as tie
 
@@ -9,5 +10,5 @@ is-clash-spec =
     tie.close
     (tie.spec
     (λ wanted rules i₀ i. Unit)
-    (λ wanted rules i₀ i. 6 - i)
+    (λ wanted rules i₀ i. FEW - i)
     (search needs) (search needs) (search needs) (search needs) (search needs) (search needs) (search needs) (search needs))

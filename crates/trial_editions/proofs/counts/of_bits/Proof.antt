@@ -1,7 +1,7 @@
 -- `counts::of_bits` is safe and ends: the measure is the links left. Assumes nothing.
-use Prim.Native.Nat.{_+_, _*_, _-_}
-use Rattle.rule.specs.Meaning.{RULES}
+use Prim.Native.Nat.{_-_}
 use borrow.Author.Needs.{needs}
+use Rattle.trial_sheets.proofs.Counts.{LINKS}
 use Rattle.trial_editions.proofs.counts.of_bits.Statement.{statement}
 use Rattle.trial_editions.proofs.counts.of_bits.Tie as tie
 
@@ -10,6 +10,6 @@ of-bits-spec =
     tie.close
     (tie.spec
     (λ buffer links count₀ i₀ count i. Unit)
-    (λ buffer links count₀ i₀ count i. 4 * RULES + 1 - i)
+    (λ buffer links count₀ i₀ count i. LINKS - i)
     (search needs) (search needs) (search needs) (search needs) (search needs) (search needs) (search needs) (search needs)
     (search needs) (search needs))
