@@ -18,6 +18,10 @@ use trial_lists::parts_of;
 use trial_lists::with;
 use trial_tally::Tally;
 use word::Edition;
+use word::Width;
+
+// The places of a list of which each is tried.
+const PLACES: usize = 5;
 
 fn main() {
     widths().print(b"widths");
@@ -63,7 +67,7 @@ fn opening(opening: Opening) -> Tally {
 // Each width that the new edition has alone, and the one below it.
 fn editions() -> Tally {
     let mut tally = Tally::none();
-    for below in 32..64 {
+    for below in 32..Width::LIMIT {
         tally = tally.plus(edition(below, below + 1, u64::MAX >> (63 - below)));
     }
     tally
@@ -81,7 +85,7 @@ fn edition(below: u64, width: u64, top: u64) -> Tally {
 // At width 4, each place of five.
 fn rules(opening: Opening) -> Tally {
     let mut tally = Tally::none();
-    for place in 0..5 {
+    for place in 0..PLACES {
         tally = tally.plus(each(opening, place));
     }
     tally
@@ -97,11 +101,17 @@ fn each(opening: Opening, place: usize) -> Tally {
         .plus(refused(opening, place, rule(7, 0, 6, 1), 5))
         .plus(refused(opening, place, rule(7, 0, 1, 2), 5))
         .plus(refused(opening, place, rule(7, 0, 7, 8), 5))
-        .plus(case::lent_enough(opening, with(alike(), place, rule(7, 0, 6, 6)), 5, 0, 5))
+        .plus(case::lent_enough(
+            opening,
+            with(alike(), place, rule(7, 0, 6, 6)),
+            PLACES,
+            0,
+            PLACES,
+        ))
 }
 
 fn refused(opening: Opening, place: usize, rule: Rule, number: u64) -> Tally {
-    case::lent_enough(opening, with(alike(), place, rule), 5, number, place)
+    case::lent_enough(opening, with(alike(), place, rule), PLACES, number, place)
 }
 
 // No rule, one, as many as a sheet takes, and one more: "many" at width 4, and of a full sheet at widths 32 and 64 "none".

@@ -27,6 +27,7 @@ use trial_direct::rules::NO_FORM;
 use trial_direct::rules::rule;
 use trial_tally::Tally;
 use word::Edition;
+use word::Width;
 
 fn main() {
     all().print(b"case13");
@@ -67,7 +68,7 @@ fn widths(sheet: Sheet) -> Tally {
 // The widths that the new edition has alone.
 fn new_widths(sheet: Sheet) -> Tally {
     let mut tally = Tally::none();
-    for width in 33..65 {
+    for width in 33..Width::LIMIT + 1 {
         tally = tally.plus(Tally::one(accepted(opens(sheet, width, Edition::New))));
     }
     tally

@@ -1,6 +1,7 @@
 -- `editions` is safe and ends: the measure is the widths left. Assumes nothing.
 use Prim.Native.Nat.{_-_}
 use borrow.Author.Needs.{needs}
+use Rattle.line_width.specs.Width.{WIDEST}
 use Rattle.try_batch.proofs.editions.Statement.{statement}
 use Rattle.try_batch.proofs.editions.Tie as tie
 
@@ -9,6 +10,6 @@ editions-spec =
     tie.close
     (tie.spec
     (λ tally₀ below₀ tally below. Unit)
-    (λ tally₀ below₀ tally below. 64 - below)
+    (λ tally₀ below₀ tally below. WIDEST - below)
     (search needs) (search needs) (search needs) (search needs) (search needs) (search needs) (search needs) (search needs)
     (search needs) (search needs) (search needs))

@@ -1,6 +1,7 @@
 -- `new_widths` is safe and ends: the measure is the widths left. Assumes nothing.
-use Prim.Native.Nat.{_-_}
+use Prim.Native.Nat.{_+_, _-_}
 use borrow.Author.Needs.{needs}
+use Rattle.line_width.specs.Width.{WIDEST}
 use Rattle.try_calls.proofs.new_widths.Statement.{statement}
 use Rattle.try_calls.proofs.new_widths.Tie as tie
 
@@ -9,6 +10,6 @@ new-widths-spec =
     tie.close
     (tie.spec
     (λ sheet tally₀ width₀ tally width. Unit)
-    (λ sheet tally₀ width₀ tally width. 65 - width)
+    (λ sheet tally₀ width₀ tally width. WIDEST + 1 - width)
     (search needs) (search needs) (search needs) (search needs) (search needs) (search needs) (search needs) (search needs)
     (search needs) (search needs))
