@@ -14,13 +14,16 @@ use trial_tally::Tally;
 use word::Found;
 use word::Width;
 
+// The widest words that every rule is tried on by itself.
+const WIDEST: u64 = 4;
+
 // Every form 7 rule by itself and, at widths with few enough of them, with every form 7 rule.
 pub fn over_widths(way: Way) -> Tally {
     let mut tally = Tally::none();
-    for bits in 1..5 {
+    for bits in 1..WIDEST + 1 {
         let width = Width { bits };
         tally = tally.plus(over_sheets(way, 1, 1 << (2 * bits), width));
-        if bits < 4 {
+        if bits < WIDEST {
             tally = tally.plus(over_sheets(way, 2, 1 << (4 * bits), width));
         }
     }

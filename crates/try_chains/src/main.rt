@@ -27,8 +27,16 @@ use trial_tally::Split;
 use word::Edition;
 use word::Width;
 
+// The widest words that every rule is tried on by itself, and every two.
+const SINGLE: u64 = 4;
+
+const PAIRED: u64 = 2;
+
 // How many sheets are drawn.
 const SHEETS: u64 = 20000;
+
+// How many expectations are wrong.
+const WRONG: u64 = 6;
 
 fn main() {
     single().print_verdicts(b"single");
@@ -41,7 +49,7 @@ fn main() {
 // Every rule by itself, at the widths 1 to 4.
 fn single() -> Split {
     let mut split = Split::none();
-    for bits in 1..5 {
+    for bits in 1..SINGLE + 1 {
         let width = Width { bits };
         split = split.plus(over_firsts(1, rules::numbered(0, width), width));
     }
@@ -51,7 +59,7 @@ fn single() -> Split {
 // Every two rules, at the widths 1 and 2.
 fn pairs() -> Split {
     let mut split = Split::none();
-    for bits in 1..3 {
+    for bits in 1..PAIRED + 1 {
         split = split.plus(over_seconds(Width { bits }));
     }
     split
@@ -126,7 +134,7 @@ fn paper() -> Split {
 // Case 8, whose chain has two links, with each of six wrong expectations.
 fn known() -> Split {
     let mut split = Split::none();
-    for wrong in 1..7 {
+    for wrong in 1..WRONG + 1 {
         split = split.plus(at_row(cases::CASE8, wrong));
     }
     split

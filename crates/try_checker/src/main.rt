@@ -20,6 +20,10 @@ use trial_direct::rules;
 use trial_links::counts::Counts;
 use trial_sheets::drawn;
 use word::Width;
+
+// The widest words that every rule is tried on by itself.
+const WIDEST: u64 = 4;
+
 // How many sheets are drawn.
 const SHEETS: u64 = 5000;
 
@@ -33,7 +37,7 @@ fn main() {
 // Every rule by itself, at the widths 1 to 4.
 fn single(before: Counts) -> Counts {
     let mut counts = before;
-    for bits in 1..5 {
+    for bits in 1..WIDEST + 1 {
         let width = Width { bits };
         counts = over_firsts(counts, 1, rules::numbered(0, width), width, draw::SPREAD);
     }

@@ -11,6 +11,9 @@ use trial_direct::rules;
 use trial_tally::Tally;
 use word::Width;
 
+// The widest words that every rule is tried on.
+const WIDEST: u64 = 4;
+
 fn main() {
     over_widths(false).print(b"back");
     over_widths(true).print(b"known");
@@ -18,7 +21,7 @@ fn main() {
 
 fn over_widths(turned: bool) -> Tally {
     let mut tally = Tally::none();
-    for bits in 1..5 {
+    for bits in 1..WIDEST + 1 {
         tally = tally.plus(over_rules(turned, Width { bits }));
     }
     tally
