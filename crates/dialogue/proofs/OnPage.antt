@@ -24,7 +24,8 @@ use Rattle.demands.proofs.Demand.{outcome-on}
 use Rattle.counting.specs.declared.Share.{Share}
 use Rattle.counting.specs.Counted.{countGrounds}
 use Rattle.listing.specs.declared.Listing.{Listing}
-use Rattle.listing.specs.Listed.{listNumber, listOn, listings}
+use Rattle.list_refusal.specs.Grounds.{listNumber}
+use Rattle.listing.specs.Listed.{listOn, listings}
 use Rattle.blaming.specs.Blamed.{failedOn, whyNumber}
 use Rattle.line.specs.declared.Statement.{Statement}
 use Rattle.line.specs.declared.Statement.the-variants as said

@@ -12,7 +12,8 @@ use Rattle.page.specs.Calls.{add, after, back, firstThatApplies, forward, mark,
 use Rattle.page.specs.Page.{Page, at-width}
 use Rattle.sheet.specs.Statements.{reply}
 use Rattle.counting.specs.Counted.{countGrounds, shareOf}
-use Rattle.listing.specs.Listed.{listNumber, listOn, listings}
+use Rattle.list_refusal.specs.Grounds.{listNumber}
+use Rattle.listing.specs.Listed.{listOn, listings}
 use Rattle.blaming.specs.Blamed.{failedOn, whyNumber}
 use Rattle.line.specs.declared.Statement.{Statement}
 use Rattle.line.specs.declared.Statement.the-variants as said

@@ -34,8 +34,10 @@ use Rattle.counting.specs.Share.{shares, together}
 use Rattle.counting.proofs.Free.{together-shares}
 use Rattle.listing.specs.declared.Listing.{Listing}
 use Rattle.listing.specs.Carried.{CarriedOn, Wrote, further, not-filled, top-written}
-use Rattle.listing.specs.Listed.{listNumber, listOn, listings}
-use Rattle.listing.proofs.Held.{listed-on, own-number}
+use Rattle.list_refusal.specs.Grounds.{listNumber}
+use Rattle.list_refusal.proofs.Numbers.{own-number}
+use Rattle.listing.specs.Listed.{listOn, listings}
+use Rattle.listing.proofs.Held.{listed-on}
 
 -- on a sheet that is not blank
 module _ (o : OpenPage) (reached : Reached (page o)) {s : Sheet} (gives : s ≡ fresh (page o)) where

@@ -1,29 +1,22 @@
 -- What a listing promises (02, K10).
 use mathlib.Core.Path.{_≡_}
 use mathlib.Core.Bool.{cond}
-use mathlib.Core.List.{List, [], _∷_}
+use mathlib.Core.List.{List, []}
 use Prim.Native.Nat.{ℕ}
-use lib.Dec.{eqb, ltb}
+use lib.Dec.{eqb}
 use lib.ListN.{length}
-use Rattle.word.specs.Word.{top}
-use Rattle.page.specs.Calls.{Ground, firstThatApplies, ground, isBlank, rulesOf}
+use Rattle.page.specs.Calls.{rulesOf}
 use Rattle.page.specs.Page.{Page, widthOf}
 use Rattle.page.specs.Reached.{Reached}
 use Rattle.sheet.specs.declared.Sheet.{Sheet}
 use Rattle.sheet.specs.Record.{fresh}
 use Rattle.sheet.specs.Statements.{IsSheet}
 use Rattle.fitting.specs.Words.{atStart, wordsFrom}
+use Rattle.list_refusal.specs.Grounds.{listNumber}
 use Rattle.listing.specs.declared.Listing.{Listing}
 
 abbrev pub listings : (number written : ℕ) → Listing
 listings number written = record { number = number; written = written }
-
--- the table, of a listing on the sheet that a page gives: "a start above the top word gets 5"
-unfoldable pub listGrounds : Page → (start : ℕ) → List Ground
-listGrounds pg start = ground 1 (isBlank pg) ∷ ground 5 (ltb (top (widthOf pg)) start) ∷ []
-
-unfoldable pub listNumber : Page → (start : ℕ) → ℕ
-listNumber pg start = firstThatApplies (listGrounds pg start)
 
 -- the words that a listing writes: none where it is refused
 unfoldable pub listOn : Page → (start room : ℕ) → List ℕ

@@ -11,7 +11,8 @@ use Rattle.counting.specs.declared.Share.{Share}
 use Rattle.counting.specs.Counted.{shareOf}
 use Rattle.counting.specs.Share.{shares}
 use Rattle.fitting.specs.Words.{atStart}
-use Rattle.listing.specs.Listed.{listNumber, listOn}
+use Rattle.list_refusal.specs.Grounds.{listNumber}
+use Rattle.listing.specs.Listed.{listOn}
 use Rattle.handing.specs.Handed.{numberOf}
 use Rattle.making.specs.Made.{Making}
 
