@@ -1,3 +1,2 @@
-pub mod Failed
 pub mod Unique
 pub mod Ways

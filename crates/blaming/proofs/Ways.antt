@@ -1,6 +1,8 @@
 -- The ways out of asking why: refused before the table, refused for its word, and answered. Assumes nothing.
 use mathlib.Core.Path.{_≡_, refl, sym, ap, ap₂, _∙_, subst}
+use mathlib.Core.Bool.{Bool, true, false≢true}
 use mathlib.Core.List.{List, []}
+use mathlib.Core.Logic.{_↔_}
 use Prim.Native.Nat.{ℕ, _≤_, _<_}
 use native.Mathlib.Omega.{arith}
 use borrow.Author.Tests.{le-ltb, lt-ltb, ne-eqb}
@@ -12,13 +14,16 @@ use Rattle.page.specs.Page.{OpenPage, Page, entriesOf, no-page, page, rulesOn, 
 use Rattle.page.specs.Reached.{Reached, start}
 use Rattle.sheet.specs.declared.Sheet.{Sheet}
 use Rattle.sheet.specs.Record.{fresh}
+use Rattle.sheet.specs.Statements.{IsSheet}
 use Rattle.sheet.specs.route.Stands.{Standing, Stands, blank-sheet, no-sheet, on-page}
 use Rattle.sheet.proofs.OnePage.{one-page}
-use Rattle.sheet.proofs.Stands.{known}
+use Rattle.sheet.proofs.Stands.{has-page, has-width, is-blank, known}
 use Rattle.fitting.specs.Words.{atStart}
 use Rattle.listing.specs.declared.Listing.{Listing}
 use Rattle.listing.specs.Listed.{listings}
-use Rattle.blaming.specs.Blamed.{Blamed, failed, failedOn, whyGrounds, whyNumber}
+use Rattle.blame_refusal.specs.route.Seen.{WhySeen, blank, high-word, not-sheet, own-word, short-room}
+use Rattle.failed_rules.specs.Failed.{failed}
+use Rattle.blaming.specs.Blamed.{Blamed, failedOn, whyGrounds, whyNumber}
 
 -- what holds of the one page is all that is asked
 abbrev Says : Page → ℕ → List ℕ → List ℕ → Listing → Type 0
@@ -31,14 +36,6 @@ blamed-on pg h {s} e {x} {b} {b′} {r} q =
       no-sheet = λ n. absurd (n (record { on = pg; reached = h; gives = e }));
       on-page = λ qg k d. subst (λ (t : Page). Says t x b b′ r) (one-page h k (sym e ∙ d)) q;
     }
-
--- refused before the table
-pub refused-why : {s : Sheet} {n : ℕ} → Stands s n → (n ≡ 0 → ⊥) → (x : ℕ) (b : List ℕ) → Blamed s x b b (listings n 0)
-unfolding whyNumber whyGrounds failedOn firstThatApplies isBlank
-refused-why (no-sheet i) z x b =
-    record { no-sheet = λ n. (refl, refl); on-page = λ pg h e. absurd (i (record { on = pg; reached = h; gives = e })) }
-refused-why (blank-sheet e) z x b = blamed-on no-page start e (refl, refl)
-refused-why (on-page q) z x b = absurd (z refl)
 
 -- what an open page says
 module _ (o : OpenPage) (x m : ℕ) where
@@ -68,21 +65,20 @@ module _ (o : OpenPage) (x m : ℕ) where
   unfolding failedOn widthOf rulesOf entriesOf
   own-failed h k = rw (own-number h k)
 
+-- refused before the table
+refused-before : {s : Sheet} {n : ℕ} → Stands s n → (n ≡ 0 → ⊥) → (x : ℕ) (b : List ℕ) → Blamed s x b b (listings n 0)
+unfolding whyNumber whyGrounds failedOn firstThatApplies isBlank
+refused-before (no-sheet i) z x b =
+    record { no-sheet = λ n. (refl, refl); on-page = λ pg h e. absurd (i (record { on = pg; reached = h; gives = e })) }
+refused-before (blank-sheet e) z x b = blamed-on no-page start e (refl, refl)
+refused-before (on-page q) z x b = absurd (z refl)
+
 module _ {s : Sheet} (p : Standing s) (x : ℕ) (b : List ℕ) where
   refused : {k : ℕ} → whyNumber (page (p .on)) x (length b) ≡ k → (k ≡ 0 → ⊥) → Blamed s x b b (listings k 0)
   refused e n =
       let none = none-failed (p .on) x (length b) e n in
       blamed-on (page (p .on)) (p .reached) (p .gives)
       (sym (ap₂ (λ (n : ℕ) (xs : List ℕ). listings n (length xs)) e none), sym (ap (λ (xs : List ℕ). atStart xs b) none))
-
-  -- a word above the top word
-  pub high-why : top (s .width) < x → Blamed s x b b (listings 5 0)
-  high-why l = refused (high-number (p .on) x (length b) (subst (λ (w : ℕ). top w < x) (known p .width) l)) (λ z. omega arith)
-
-  -- room for fewer numbers than there are rules
-  pub short-why : x ≤ top (s .width) → length b < s .count → Blamed s x b b (listings 9 0)
-  short-why l k =
-      refused (short-number (p .on) x (length b) (subst (λ (w : ℕ). x ≤ top w) (known p .width) l) (omega (arith, known p .count))) (λ z. omega arith)
 
   pub own-why : x ≤ top (s .width) → s .count ≤ length b → {n : ℕ} {b′ : List ℕ} → n ≡ length (failed (s .width) x 0 (take (s .count) (s .rules)))
       → b′ ≡ atStart (failed (s .width) x 0 (take (s .count) (s .rules))) b → Blamed s x b b′ (listings 0 n)
@@ -96,3 +92,28 @@ module _ {s : Sheet} (p : Standing s) (x : ℕ) (b : List ℕ) where
             ∙ ap (λ (n : ℕ). listings n (length (failedOn (page (p .on)) x (length b)))) (sym (own-number (p .on) x (length b) low room)),
         d ∙ ap (λ (xs : List ℕ). atStart xs b) numbers,
       )
+
+-- what is looked at before any rule, of a record that is a sheet where the test says so
+module _ {s : Sheet} {t : Bool} (tells : t ≡ true ↔ IsSheet s) where
+  pub is-standing : t ≡ true → (s .width ≡ 0 → ⊥) → Standing s
+  is-standing e z = has-page (has-width (tells .0 e) z) refl
+
+  -- a refusal, whatever its number
+  pub refused-why : {x n : ℕ} (b : List ℕ) → WhySeen t (s .width) (s .count) x (length b) n → (n ≡ 0 → ⊥) → Blamed s x b b (listings n 0)
+  refused-why b (not-sheet e) z = refused-before (no-sheet (λ i. false≢true (sym e ∙ tells .1 i))) z _ b
+  refused-why b (blank e w) z = refused-before (is-blank (tells .0 e) w) z _ b
+  refused-why {x} b (high-word e w l) z =
+      let p = is-standing e w in
+      refused p x b (high-number (p .on) x (length b) (subst (λ (w : ℕ). top w < x) (known p .width) l)) z
+  refused-why {x} b (short-room e w l k) z =
+      let p = is-standing e w in
+      refused p x b (short-number (p .on) x (length b) (subst (λ (w : ℕ). x ≤ top w) (known p .width) l) (omega (arith, known p .count))) z
+  refused-why b (own-word e w l k) z = absurd (z refl)
+
+  -- what is not refused has a page, the word is one of its width, and there is room
+  pub passed : {x m n : ℕ} → WhySeen t (s .width) (s .count) x m n → n ≡ 0 → Standing s × (x ≤ top (s .width)) × (s .count ≤ m)
+  passed (not-sheet e) z = absurd (omega arith)
+  passed (blank e w) z = absurd (omega arith)
+  passed (high-word e w l) z = absurd (omega arith)
+  passed (short-room e w l k) z = absurd (omega arith)
+  passed (own-word e w l k) z = (is-standing e w, l, k)

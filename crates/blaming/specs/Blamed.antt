@@ -1,13 +1,11 @@
--- Which rules in force a word fails: what a rule means, rule by rule.
+-- What asking why a word fails promises: which rules in force it fails.
 use mathlib.Core.Path.{_≡_}
 use mathlib.Core.Bool.{cond}
 use mathlib.Core.List.{List, [], _∷_}
-use Prim.Native.Nat.{ℕ, suc}
+use Prim.Native.Nat.{ℕ}
 use lib.Dec.{eqb, ltb}
 use lib.ListN.{length}
 use Rattle.word.specs.Word.{top}
-use Rattle.rule.specs.declared.Rule.{Rule}
-use Rattle.rule.specs.Meaning.{meets}
 use Rattle.page.specs.Calls.{Ground, firstThatApplies, ground, isBlank, rulesOf}
 use Rattle.page.specs.Page.{Page, widthOf}
 use Rattle.page.specs.Reached.{Reached}
@@ -15,13 +13,9 @@ use Rattle.sheet.specs.declared.Sheet.{Sheet}
 use Rattle.sheet.specs.Record.{fresh}
 use Rattle.sheet.specs.Statements.{IsSheet}
 use Rattle.fitting.specs.Words.{atStart}
+use Rattle.failed_rules.specs.Failed.{failed}
 use Rattle.listing.specs.declared.Listing.{Listing}
 use Rattle.listing.specs.Listed.{listings}
-
--- the numbers of the rules of a list that the word x fails; the first one of the list has the number i
-unfoldable pub failed : ℕ → (x i : ℕ) → List Rule → List ℕ
-failed w x i [] = []
-failed w x i (r ∷ rs) = cond (meets w r x) (failed w x (suc i) rs) (i ∷ failed w x (suc i) rs)
 
 -- the table, of asking why a word fails, with m numbers lent: a word above the top word gets 5, and room for fewer numbers than there are
 -- rules in force 9

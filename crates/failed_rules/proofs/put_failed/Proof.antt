@@ -10,10 +10,10 @@ use lib.ListN.{drop, getD, length, length-append, length-drop, take}
 use Rattle.rule.specs.Meaning.{meets}
 use Rattle.accept.specs.Accept.{noRule}
 use Rattle.fitting.specs.Words.{atStart}
-use Rattle.blaming.specs.Blamed.{failed}
-use Rattle.blaming.proofs.Failed.{few-failed, lawful-at, met, missed, next-failed}
-use Rattle.blaming.proofs.put_failed.Statement.{statement}
-use Rattle.blaming.proofs.put_failed.Tie as tie
+use Rattle.failed_rules.specs.Failed.{failed}
+use Rattle.failed_rules.proofs.Numbers.{few-failed, lawful-at, met, missed, next-failed}
+use Rattle.failed_rules.proofs.put_failed.Statement.{statement}
+use Rattle.failed_rules.proofs.put_failed.Tie as tie
 
 abbrev Inv-loop : tie.InvT-loop
 Inv-loop n width x out₀ rules written₀ i₀ out written i =

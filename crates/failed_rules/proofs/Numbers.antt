@@ -12,7 +12,7 @@ use Rattle.rule.specs.declared.Rule.{Rule}
 use Rattle.rule.specs.Meaning.{AllLawful, Lawful, meets}
 use Rattle.accept.specs.Accept.{noRule}
 use Rattle.fitting.specs.Words.{atStart}
-use Rattle.blaming.specs.Blamed.{failed}
+use Rattle.failed_rules.specs.Failed.{failed}
 
 -- the number of one rule, or nothing
 abbrev pub one : Bool → ℕ → List ℕ
