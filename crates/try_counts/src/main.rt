@@ -29,6 +29,9 @@ use trial_wide::sheets;
 use word::Edition;
 use word::Width;
 
+// The widest words that every rule is tried on.
+const WIDEST: u64 = 5;
+
 // How many sheets are drawn.
 const SHEETS: u64 = 200;
 
@@ -41,6 +44,12 @@ const PAIR: usize = 2;
 // The bits from which on a rule by itself is not listed from every word, so that the run stays short.
 const WIDE: u64 = 4;
 
+// How many expectations of the words of case 2 are wrong.
+const WRONG: u64 = 5;
+
+// These words, and one more.
+const LISTED: usize = 5;
+
 fn main() {
     all_rules().print(b"rules");
     drawn().print(b"drawn");
@@ -50,7 +59,7 @@ fn main() {
 // Every rule by itself.
 fn all_rules() -> Seen {
     let mut seen = Seen::none();
-    for bits in 1..6 {
+    for bits in 1..WIDEST + 1 {
         seen = seen.plus(of_width(Width { bits }));
     }
     seen
@@ -167,7 +176,7 @@ fn in_edition(
 // The words of case 2, from 11 to 14, and what is wrong about them.
 fn known() -> Seen {
     let mut seen = Seen::none();
-    for wrong in 0..6 {
+    for wrong in 0..WRONG + 1 {
         seen = seen.plus(spoilt(wrong));
     }
     seen
@@ -177,7 +186,7 @@ fn known() -> Seen {
 // quotient is 1.
 fn spoilt(wrong: u64) -> Seen {
     let mut list = [0; WORDS];
-    for i in 0..5 {
+    for i in 0..LISTED {
         list[i] = 11 + i as u64;
     }
     let mut n = 4;

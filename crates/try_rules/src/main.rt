@@ -19,6 +19,9 @@ use trial_direct::rules::rule;
 use trial_tally::Tally;
 use word::Width;
 
+// The widest words that every rule is tried on.
+const WIDEST: u64 = 4;
+
 // What is looked at, of a rule and a word.
 enum Look {
     Meets,
@@ -36,7 +39,7 @@ fn main() {
 
 fn over_widths(look: Look) -> Tally {
     let mut tally = Tally::none();
-    for bits in 1..5 {
+    for bits in 1..WIDEST + 1 {
         tally = tally.plus(over_rules(look, Width { bits }));
     }
     tally

@@ -11,10 +11,13 @@ use word::Width;
 // The sheets of width 4 that have rules: cases 2 to 12, with case 3 as written and negated.
 const SHEETS: usize = 12;
 
+// The words of width 4.
+const WORDS: usize = 16;
+
 pub fn cases() -> Tally {
     let mut tally = answers();
-    for i in 0..16 * SHEETS {
-        tally = tally.plus(Tally::one(same(CASE2 + i / 16, i as u64 % 16, 0)));
+    for i in 0..WORDS * SHEETS {
+        tally = tally.plus(Tally::one(same(CASE2 + i / WORDS, (i % WORDS) as u64, 0)));
     }
     tally
 }
