@@ -7,6 +7,18 @@ use native.Mathlib.Numerals.{add-one}
 use native.Mathlib.Omega.{arith}
 use lib.Pow.{pow-mono}
 
+-- one more than 24 binary places hold
+abbrev pub PAST : ℕ
+PAST = 2 ^ 24
+
+-- the largest grain: of it digits of 64 bits have no more than 24 places
+abbrev pub LARGEST : ℕ
+LARGEST = 2 ^ 41
+
+-- the turns after which digits have 24 places of any grain
+abbrev pub TURNS : ℕ
+TURNS = 64
+
 pub power-more : (b i : ℕ) → b ^ (i + 1) ≡ b ^ i * b
 power-more b i = ap (λ (n : ℕ). b ^ n) (add-one i) ∙ pow-suc b i
 
@@ -31,7 +43,7 @@ module _ (whole size rest n d : ℕ) (divided : whole * size + rest ≡ n * 2 ^ 
   place-more =
       omega (arith, add-mul (whole * 2) (rest * 2 / size) size, mul-right-comm whole 2 size, div-add-mod' (rest * 2) size, doubled-more (n * 2 ^ d) n d refl)
 
-  -- while there are fewer than 24 places, there were fewer than 64 turns
-  pub turns-held : 0 < n → rest < size → size ≤ 2 ^ 41 → whole < 2 ^ 23 → d < 64
+  -- while there are fewer than 24 places, turns are left
+  pub turns-held : 0 < n → rest < size → size ≤ LARGEST → whole < 2 ^ 23 → d < TURNS
   turns-held some left held low =
-      exponent-held d n 64 some (omega (arith, mul-le-mul {n₁ = whole} {m₁ = size} {n₂ = 2 ^ 23 - 1} {m₂ = 2 ^ 41} (omega arith) held))
+      exponent-held d n TURNS some (omega (arith, mul-le-mul {n₁ = whole} {m₁ = size} {n₂ = 2 ^ 23 - 1} {m₂ = LARGEST} (omega arith) held))

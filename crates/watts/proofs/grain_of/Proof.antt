@@ -4,15 +4,15 @@ use mathlib.Core.Path.{_≡_}
 use Prim.Native.Nat.{_-_, _*_, _^_, _≤_, _<_}
 use native.Mathlib.Nat.{div-lt-iff-lt-mul, le-div-iff-mul-le}
 use native.Mathlib.Omega.{arith}
-use Rattle.watts.proofs.Turns.{doubled-more, exponent-held}
+use Rattle.watts.proofs.Turns.{LARGEST, PAST, doubled-more, exponent-held}
 use Rattle.watts.proofs.grain_of.Statement.{statement}
 use Rattle.watts.proofs.grain_of.Tie as tie
 
 abbrev Inv-loop : tie.InvT-loop
-Inv-loop digits power size₀ doublings₀ size doublings = (size ≡ power * 2 ^ doublings) × (doublings < size) × (size ≤ 2 ^ 41)
+Inv-loop digits power size₀ doublings₀ size doublings = (size ≡ power * 2 ^ doublings) × (doublings < size) × (size ≤ LARGEST)
 
 abbrev μ-loop : tie.MeasureT-loop
-μ-loop digits power size₀ doublings₀ size doublings = 2 ^ 41 - size
+μ-loop digits power size₀ doublings₀ size doublings = LARGEST - size
 
 loop-holds : tie.Need-loop-holds Inv-loop μ-loop
 loop-holds c = omega arith
@@ -21,10 +21,10 @@ div-loop : tie.Need-div-loop Inv-loop μ-loop
 div-loop c = omega arith
 
 -- digits have 24 places of it
-room : (c : tie.In-loop Inv-loop μ-loop) → 2 ^ 24 * c .before .loop .size ≤ c .before .before .args .digits
+room : (c : tie.In-loop Inv-loop μ-loop) → PAST * c .before .loop .size ≤ c .before .before .args .digits
 room c =
     let size = c .before .loop .size in
-    le-div-iff-mul-le {k = size} {x = 2 ^ 24} {y = c .before .before .args .digits} (omega arith) .0 (omega arith)
+    le-div-iff-mul-le {k = size} {x = PAST} {y = c .before .before .args .digits} (omega arith) .0 (omega arith)
 
 mul-size : tie.Need-mul-size Inv-loop μ-loop
 mul-size c = record { fits = omega (arith, room c) }
@@ -48,7 +48,7 @@ returns c =
       doubled = i .inv .0;
       low = omega arith;
       high = omega arith;
-      places = div-lt-iff-lt-mul {k = i .size} {x = a .digits} {y = 2 ^ 24} (omega arith) .0 (omega arith);
+      places = div-lt-iff-lt-mul {k = i .size} {x = a .digits} {y = PAST} (omega arith) .0 (omega arith);
       turns = omega (arith, exponent-held (i .doublings) (a .power) 42 (omega arith) (omega arith));
     }
 

@@ -1,19 +1,19 @@
 -- `parts_of` meets its contract. The loop's invariant: whole grains and the rest are the digits, doubled so often. The measure is the turns
--- left of 64. Assumes nothing.
+-- left. Assumes nothing.
 use mathlib.Core.Path.{_≡_, sym, _∙_}
 use Prim.Native.Nat.{ℕ, _+_, _-_, _*_, _/_, _^_, _≤_, _<_}
 use native.Mathlib.Nat.{div-add-mod', div-lt-iff-lt-mul, mod-lt, mul-one}
 use native.Mathlib.Omega.{arith}
-use Rattle.watts.proofs.Turns.{place-more, turns-held}
+use Rattle.watts.proofs.Turns.{PAST, TURNS, place-more, turns-held}
 use Rattle.watts.proofs.parts_of.Statement.{statement}
 use Rattle.watts.proofs.parts_of.Tie as tie
 
 abbrev Inv-loop : tie.InvT-loop
 Inv-loop digits size whole₀ rest₀ doublings₀ whole rest doublings =
-    (whole * size + rest ≡ digits * 2 ^ doublings) × (rest < size) × (whole < 2 ^ 24) × (doublings ≤ 64)
+    (whole * size + rest ≡ digits * 2 ^ doublings) × (rest < size) × (whole < PAST) × (doublings ≤ TURNS)
 
 abbrev μ-loop : tie.MeasureT-loop
-μ-loop digits size whole₀ rest₀ doublings₀ whole rest doublings = 64 - doublings
+μ-loop digits size whole₀ rest₀ doublings₀ whole rest doublings = TURNS - doublings
 
 div-whole : tie.Need-div-whole Inv-loop μ-loop
 div-whole c = omega arith
@@ -27,7 +27,7 @@ loop-holds c =
     let size = c .args .size in (
       div-add-mod' n size ∙ sym (mul-one n),
       mod-lt n (omega arith),
-      div-lt-iff-lt-mul {k = size} {x = n} {y = 2 ^ 24} (omega arith) .1 (omega arith),
+      div-lt-iff-lt-mul {k = size} {x = n} {y = PAST} (omega arith) .1 (omega arith),
       omega arith,
     )
 
@@ -54,7 +54,7 @@ add-doublings : tie.Need-add-doublings Inv-loop μ-loop
 add-doublings c = omega arith
 
 -- a turn is left
-left : (c : tie.In-loop Inv-loop μ-loop) → c .before .loop .doublings < 64
+left : (c : tie.In-loop Inv-loop μ-loop) → c .before .loop .doublings < TURNS
 left c =
     let i = c .before .loop in
     let a = c .before .before .args in
