@@ -1,16 +1,17 @@
 -- `check` meets its contract: it gives the status of what is found of some numbers, or that of a mistake. The measure is a number of turns that no run uses up. Assumes nothing.
-use Prim.Native.Nat.{_-_, _^_, _≤_}
+use Prim.Native.Nat.{_-_, _≤_}
 use native.Mathlib.Omega.{arith}
 use borrow.Author.Needs.{needs}
 use Rattle.checking.proofs.Checked.{found-so}
+use Rattle.coming.specs.Calls.{MOST}
 use Rattle.checking.proofs.check.Statement.{statement}
 use Rattle.checking.proofs.check.Tie as tie
 
 abbrev Inv-loop : tie.InvT-loop
-Inv-loop sheet names links₀ read turn₀ links turn = turn ≤ 2 ^ 64 - 1
+Inv-loop sheet names links₀ read turn₀ links turn = turn ≤ MOST
 
 abbrev μ-loop : tie.MeasureT-loop
-μ-loop sheet names links₀ read turn₀ links turn = 2 ^ 64 - 1 - turn
+μ-loop sheet names links₀ read turn₀ links turn = MOST - turn
 
 start-requires : tie.Need-start-requires Inv-loop μ-loop
 start-requires c κs = search needs

@@ -1,14 +1,15 @@
 -- `read_all` is safe and ends: the measure is a number of turns that no run uses up. Assumes nothing.
-use Prim.Native.Nat.{_-_, _^_, _≤_}
+use Prim.Native.Nat.{_-_, _≤_}
 use borrow.Author.Needs.{needs}
+use Rattle.coming.specs.Calls.{MOST}
 use Rattle.gathering.proofs.read_all.Statement.{statement}
 use Rattle.gathering.proofs.read_all.Tie as tie
 
 abbrev Inv-loop : tie.InvT-loop
-Inv-loop names links₀ reading₀ held₀ turn₀ links reading held turn = turn ≤ 2 ^ 64 - 1
+Inv-loop names links₀ reading₀ held₀ turn₀ links reading held turn = turn ≤ MOST
 
 abbrev μ-loop : tie.MeasureT-loop
-μ-loop names links₀ reading₀ held₀ turn₀ links reading held turn = 2 ^ 64 - 1 - turn
+μ-loop names links₀ reading₀ held₀ turn₀ links reading held turn = MOST - turn
 
 loop-holds : tie.Need-loop-holds Inv-loop μ-loop
 loop-holds c = search needs
