@@ -7,7 +7,8 @@ use borrow.Author.Tests.{eq-eqb, ne-eqb}
 use Rattle.net.specs.declared.Answer.{Answer}
 use Rattle.net.specs.route.Run.{ran}
 use Rattle.net.specs.Net.{number}
-use Rattle.on_nets.specs.Nets.{Ran, laidOver, netIn, rowOf, told, wordRows}
+use Rattle.net_words.specs.Laid.{laidOver, rowOf}
+use Rattle.on_nets.specs.Nets.{Ran, netIn, told, wordRows}
 
 module _ (w : ℕ) (ws js : List (List ℕ)) (pay : ℕ) (a : Answer) (e : a ≡ ran (netIn w ws js) pay) (t k : ℕ) (p : t ≡ told (a .ended)) (q : k ≡ number (a .ended)) where
   so : (ws′ : List (List ℕ)) → ws′ ≡ wordRows a ws → Ran w ws js pay ws′ (t ∷ a .steps ∷ []) k

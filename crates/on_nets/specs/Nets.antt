@@ -1,14 +1,10 @@
 -- A net as numbers (02, K12).
 use mathlib.Core.Path.{_≡_}
 use mathlib.Core.Bool.{cond}
-use mathlib.Core.List.{List, [], _∷_, map, _++_}
+use mathlib.Core.List.{List, [], _∷_, map}
 use Prim.Native.Nat.{ℕ}
 use lib.Dec.{eqb}
-use lib.ListN.{drop, getD, length, replicate, take}
-use Rattle.interval.specs.declared.Interval.{Interval}
-use Rattle.interval.specs.declared.Op.the-variants.{Not}
-use Rattle.interval.specs.Interval.{interval}
-use Rattle.net_step.specs.declared.Join.{Join}
+use lib.ListN.{length, replicate}
 use Rattle.net_step.specs.Named.{WORDS}
 use Rattle.net_tests.specs.Fits.{JOINS}
 use Rattle.net.specs.declared.Answer.{Answer}
@@ -17,22 +13,9 @@ use Rattle.net.specs.declared.Ended.the-variants.{Empty, Refused, Spent, Steady
 use Rattle.net.specs.declared.Net.{Net}
 use Rattle.net.specs.route.Run.{ran}
 use Rattle.net.specs.Net.{number}
-use Rattle.on_words.specs.Joins.{intervalIn, opOf}
-
--- the join of a row: what joins, and the places of h, x and y
-abbrev pub joinOf : List ℕ → Join
-joinOf ns = record { op = opOf (getD ns 0 0); h = getD ns 1 0; x = getD ns 2 0; y = getD ns 3 0 }
-
--- places not in use
-abbrev pub noWord : Interval
-noWord = interval 0 0
-
-abbrev pub noJoin : Join
-noJoin = record { op = Not; h = 0; x = 0; y = 0 }
-
--- one list laid over another from its start, as far as that has places, and the rest of it as it was
-unfoldable pub laidOver : {A : Type 0} → List A → List A → List A
-laidOver l m = take (length m) l ++ drop (length l) m
+use Rattle.on_words.specs.Joins.{intervalIn}
+use Rattle.net_words.specs.Laid.{laidOver, noWord, rowOf}
+use Rattle.net_joins.specs.Joined.{joinOf, noJoin}
 
 -- the net of a width, the intervals of its words, a row each, and its joins, a row each
 unfoldable pub netIn : ℕ → (words joins : List (List ℕ)) → Net
@@ -51,10 +34,6 @@ told (Refused n) = 0
 told Empty = 0
 told Steady = 1
 told Spent = 2
-
--- the two numbers of an interval
-abbrev pub rowOf : Interval → List ℕ
-rowOf v = v .low ∷ v .high ∷ []
 
 -- the intervals that an answer leaves, a row each; "a refusal gives ... the intervals as they came"
 unfoldable pub wordRows : Answer → List (List ℕ) → List (List ℕ)

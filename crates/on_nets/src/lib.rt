@@ -2,10 +2,6 @@
 ghost use mathlib.Core.Path.{_≡_};
 ghost use Rattle.net.specs.Net.{number};
 ghost use Rattle.on_nets.specs.Nets.{Ran, told};
-
-mod reading;
-mod writing;
-
 use net::Ended;
 use net::Net;
 
@@ -26,8 +22,8 @@ pub fn run(
 ) -> u64
     ensures { λ r. ⌜ Ran width (now (words .entry)) (now (joins .entry)) pay (now (words .exit)) (now (answer .exit)) r ⌝ }
 {
-    let intervals = reading::words_in(&*words);
-    let links = reading::joins_in(joins);
+    let intervals = net_words::words_in(&*words);
+    let links = net_joins::joins_in(joins);
     let net = Net {
         width,
         words: intervals,
@@ -43,7 +39,7 @@ pub fn run(
     if number != 0 {
         return number;
     }
-    writing::put(&mut *words, left);
+    net_words::put(&mut *words, left);
     0
 }
 

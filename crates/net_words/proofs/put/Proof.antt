@@ -6,11 +6,11 @@ use native.Mathlib.Numerals.{add-one}
 use native.Mathlib.Omega.{arith}
 use lib.ListN.{List·getD-map, drop, length, length-map, length-set, set, take}
 use Rattle.rows.proofs.Copies.{copied}
-use Rattle.on_nets.specs.Nets.{noWord, rowOf}
-use Rattle.on_nets.proofs.Over.{all-laid}
+use Rattle.net_words.specs.Laid.{noWord, rowOf}
+use Rattle.net_words.proofs.Over.{all-laid}
 use borrow.Author.Needs.{needs}
-use Rattle.on_nets.proofs.writing.put.Statement.{statement}
-use Rattle.on_nets.proofs.writing.put.Tie as tie
+use Rattle.net_words.proofs.put.Statement.{statement}
+use Rattle.net_words.proofs.put.Tie as tie
 
 abbrev Inv-loop : tie.InvT-loop
 Inv-loop rows₀ words count i₀ rows i = (i ≤ count) × (rows ≡ take i (map rowOf words) ++ drop i rows₀) × (length rows ≡ length rows₀)

@@ -10,7 +10,7 @@ use borrow.Author.Tests.{leb-false, leb-true}
 use lib.Dec.{leb}
 use lib.ListN.{drop, drop-of-length-le, length, take}
 use lib.Seq.{take-all}
-use Rattle.on_nets.specs.Nets.{laidOver}
+use Rattle.net_words.specs.Laid.{laidOver}
 
 module _ {A : Type 0} (l m : List A) where
   -- as many as the shorter one has

@@ -7,12 +7,12 @@ use native.Mathlib.Omega.{arith}
 use lib.ListN.{List·getD-map, drop, length, length-map, length-replicate, replicate, set, take}
 use Rattle.net_step.specs.declared.Join.{Join}
 use Rattle.net_tests.specs.Fits.{JOINS}
-use Rattle.on_nets.specs.Nets.{joinOf, noJoin}
+use Rattle.net_joins.specs.Joined.{joinOf, noJoin}
 use Rattle.rows.proofs.Copies.{copied}
-use Rattle.on_nets.proofs.Over.{all-laid}
+use Rattle.net_words.proofs.Over.{all-laid}
 use borrow.Author.Needs.{needs}
-use Rattle.on_nets.proofs.reading.joins_in.Statement.{statement}
-use Rattle.on_nets.proofs.reading.joins_in.Tie as tie
+use Rattle.net_joins.proofs.joins_in.Statement.{statement}
+use Rattle.net_joins.proofs.joins_in.Tie as tie
 
 abbrev Inv-loop : tie.InvT-loop
 Inv-loop rows joins₀ count i₀ joins i = (i ≤ count) × (joins ≡ take i (map joinOf rows) ++ drop i joins₀)

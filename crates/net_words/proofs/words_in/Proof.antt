@@ -8,12 +8,12 @@ use lib.ListN.{List·getD-map, drop, length, length-map, length-replicate, repli
 use Rattle.interval.specs.declared.Interval.{Interval}
 use Rattle.net_step.specs.Named.{WORDS}
 use Rattle.on_words.specs.Joins.{intervalIn}
-use Rattle.on_nets.specs.Nets.{noWord}
+use Rattle.net_words.specs.Laid.{noWord}
 use Rattle.rows.proofs.Copies.{copied}
-use Rattle.on_nets.proofs.Over.{all-laid}
+use Rattle.net_words.proofs.Over.{all-laid}
 use borrow.Author.Needs.{needs}
-use Rattle.on_nets.proofs.reading.words_in.Statement.{statement}
-use Rattle.on_nets.proofs.reading.words_in.Tie as tie
+use Rattle.net_words.proofs.words_in.Statement.{statement}
+use Rattle.net_words.proofs.words_in.Tie as tie
 
 abbrev Inv-loop : tie.InvT-loop
 Inv-loop rows words₀ count i₀ words i = (i ≤ count) × (words ≡ take i (map intervalIn rows) ++ drop i words₀)

@@ -2,8 +2,8 @@
 use mathlib.Core.List.{[]}
 use lib.ListN.{getD}
 use borrow.Author.Needs.{needs}
-use Rattle.on_nets.proofs.reading.join_at.Statement.{statement}
-use Rattle.on_nets.proofs.reading.join_at.Tie as tie
+use Rattle.net_joins.proofs.join_at.Statement.{statement}
+use Rattle.net_joins.proofs.join_at.Tie as tie
 
 mul-op-of : tie.Need-mul-op-of
 mul-op-of c = search needs
