@@ -14,9 +14,9 @@ use Rattle.counting.specs.declared.Share.{Share}
 use Rattle.counting.specs.Counted.{Counted as CountedOf}
 use Rattle.listing.specs.declared.Listing.{Listing}
 use Rattle.listing.specs.Listed.{Listed as ListedOf}
-use Rattle.keeping.specs.Numbers.{IsKept, NUMBERS, numbersOf}
-use Rattle.keeping.specs.route.Reading.{sheetIn}
-use Rattle.keeping.proofs.Kept.{kept-read, sheet-kept}
+use Rattle.kept_numbers.specs.Numbers.{IsKept, NUMBERS, numbersOf}
+use Rattle.kept_numbers.specs.route.Reading.{sheetIn}
+use Rattle.kept_numbers.proofs.Kept.{kept-read, sheet-kept}
 use Rattle.on_kept.specs.Told.{Asked, Counted, Listed, Replied, Shared}
 
 replied : {p q : Reply} → p ≡ q → Replied q (p .number) (p .kept .verdict ∷ p .kept .smallest ∷ p .kept .largest ∷ p .links ∷ [])

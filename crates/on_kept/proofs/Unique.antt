@@ -3,8 +3,8 @@
 use mathlib.Core.Path.{_≡_, sym, _∙_}
 use mathlib.Core.List.{List}
 use Prim.Native.Nat.{ℕ}
-use Rattle.keeping.specs.Numbers.{IsKept}
-use Rattle.keeping.proofs.Kept.{kept-dec}
+use Rattle.kept_numbers.specs.Numbers.{IsKept}
+use Rattle.kept_numbers.proofs.Kept.{kept-dec}
 use Rattle.on_kept.specs.Told.{Asked, Counted, Listed}
 
 pub asked-unique : {ns b b₁ b₂ zs₁ zs₂ : List ℕ} {r₁ r₂ : ℕ} → Asked ns b b₁ zs₁ r₁ → Asked ns b b₂ zs₂ r₂

@@ -15,7 +15,7 @@ use Rattle.counting.specs.Share.{shares}
 use Rattle.fitting.specs.Words.{atStart}
 use Rattle.list_refusal.specs.Grounds.{listNumber}
 use Rattle.listing.specs.Listed.{listOn}
-use Rattle.keeping.specs.Numbers.{IsKept, numbersOf}
+use Rattle.kept_numbers.specs.Numbers.{IsKept, numbersOf}
 
 -- ---- asking
 

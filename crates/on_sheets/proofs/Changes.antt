@@ -18,9 +18,9 @@ use Rattle.sheet.specs.declared.Answer.{Answer}
 use Rattle.sheet.specs.declared.Sheet.{Sheet}
 use Rattle.sheet.specs.Record.{fresh}
 use Rattle.sheet.specs.Statements.{Reads, opened}
-use Rattle.keeping.specs.Numbers.{IsKept, NUMBERS, numbersOf}
-use Rattle.keeping.specs.route.Reading.{sheetIn}
-use Rattle.keeping.proofs.Kept.{kept-read, sheet-kept}
+use Rattle.kept_numbers.specs.Numbers.{IsKept, NUMBERS, numbersOf}
+use Rattle.kept_numbers.specs.route.Reading.{sheetIn}
+use Rattle.kept_numbers.proofs.Kept.{kept-read, sheet-kept}
 use Rattle.on_sheets.specs.Changed.{Changed, Opened}
 
 -- what is left of numbers after an answer: the answer's sheet where it was accepted

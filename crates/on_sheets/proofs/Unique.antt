@@ -7,8 +7,8 @@ use Rattle.page.specs.Calls.{Call}
 use Rattle.page.specs.Page.{Page}
 use Rattle.page.proofs.Refusals.{after-refused}
 use Rattle.sheet.specs.Record.{fresh}
-use Rattle.keeping.specs.Numbers.{IsKept, numbersOf}
-use Rattle.keeping.proofs.Kept.{kept-dec}
+use Rattle.kept_numbers.specs.Numbers.{IsKept, numbersOf}
+use Rattle.kept_numbers.proofs.Kept.{kept-dec}
 use Rattle.on_sheets.specs.Changed.{Changed}
 
 pub changed-unique : {c : Call} {ns a b : List ℕ} {r s : ℕ} → Changed c ns a r → Changed c ns b s → (r ≡ s) × (a ≡ b)

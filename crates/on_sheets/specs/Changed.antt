@@ -9,7 +9,7 @@ use Rattle.page.specs.declared.Opening.{Opening}
 use Rattle.page.specs.Page.{Page, newPage, no-page, page}
 use Rattle.page.specs.Reached.{Reached}
 use Rattle.sheet.specs.Record.{fresh}
-use Rattle.keeping.specs.Numbers.{IsKept, numbersOf}
+use Rattle.kept_numbers.specs.Numbers.{IsKept, numbersOf}
 
 -- "A refused opening keeps the old sheet; an accepted one discards it."
 pub record Opened (g : Opening) (ns ns′ : List ℕ) (r : ℕ) : Type 0 where

@@ -5,7 +5,7 @@ ghost use Rattle.page.specs.Calls.{add, back, forward, mark, set-gate};
 ghost use Rattle.sheet.specs.Record.{blank};
 ghost use Rattle.handing.specs.Handed.{editionOf, openingOf, ruleIn};
 ghost use Rattle.on_words.specs.Gates.{gateOf};
-ghost use Rattle.keeping.specs.Numbers.{numbersOf};
+ghost use Rattle.kept_numbers.specs.Numbers.{numbersOf};
 ghost use Rattle.on_sheets.specs.Changed.{Changed, Opened};
 use handing::NUMBERS;
 use sheet::Sheet;
@@ -14,7 +14,7 @@ use sheet::Sheet;
 pub fn blank(numbers: &mut [u64; keeping::NUMBERS])
     ensures { λ _. ⌜ now (numbers .exit) ≡ numbersOf blank ⌝ }
 {
-    *numbers = keeping::written(Sheet::blank());
+    *numbers = kept_put::written(Sheet::blank());
 }
 
 // Opens a sheet. The old numbers are not read.

@@ -2,7 +2,7 @@
 use lib.ListN.{getD}
 use borrow.Author.Needs.{needs}
 use Rattle.verdict.specs.Kept.{keeps}
-use Rattle.keeping.specs.route.Reading.{sheetIn}
+use Rattle.kept_numbers.specs.route.Reading.{sheetIn}
 use Rattle.keeping.proofs.read.Statement.{statement}
 use Rattle.keeping.proofs.read.Tie as tie
 

@@ -1,6 +1,6 @@
 -- `blank` meets its contract: the blank record is written down. Assumes nothing.
 use mathlib.Core.Path.{ap, _∙_}
-use Rattle.keeping.specs.Numbers.{numbersOf}
+use Rattle.kept_numbers.specs.Numbers.{numbersOf}
 use borrow.Author.Needs.{needs}
 use Rattle.on_sheets.proofs.blank.Statement.{statement}
 use Rattle.on_sheets.proofs.blank.Tie as tie
