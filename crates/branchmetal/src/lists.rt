@@ -2,7 +2,9 @@
 ghost use mathlib.Core.Path.{_≡_};
 ghost use Rattle.handing.specs.Handed.{openingOf, ruleIn, rulesIn, weighNumber, weighed};
 ghost use Rattle.making.specs.Made.{makes};
-ghost use Rattle.on_lists.specs.Lists.{ListedIn, checkNumbers, countNumbers, shareIn};
+ghost use Rattle.on_lists.specs.Lists.{checkNumbers};
+ghost use Rattle.on_counts.specs.Counts.{countNumbers, shareIn};
+ghost use Rattle.on_listings.specs.Listings.{ListedIn};
 ghost use Rattle.vetting.specs.Vetted.{Vetted};
 use handing::NUMBERS;
 
@@ -17,7 +19,7 @@ pub extern "C" fn branchmetal_meets(
     ensures { λ r. ⌜ r ≡ weighNumber width (ruleIn (now (rule .entry))) word ⌝ }
     ensures { λ _. ⌜ now (meets .exit) ≡ weighed width (ruleIn (now (rule .entry))) word ⌝ }
 {
-    on_lists::meets(width, rule, word, meets)
+    on_rules::meets(width, rule, word, meets)
 }
 
 // Vets a list: the batch call.
@@ -60,7 +62,7 @@ pub extern "C" fn branchmetal_count(
     ensures { λ r. ⌜ r ≡ shareIn (makes (openingOf width edition) (rulesIn (now (rules .entry)))) .number ⌝ }
     ensures { λ _. ⌜ now (answer .exit) ≡ countNumbers (makes (openingOf width edition) (rulesIn (now (rules .entry)))) ⌝ }
 {
-    on_lists::count(width, edition, rules, answer)
+    on_counts::count(width, edition, rules, answer)
 }
 
 // Lists the words that fit a list of rules, from a start on.
@@ -75,5 +77,5 @@ pub extern "C" fn branchmetal_list(
 ) -> u64
     ensures { λ r. ⌜ ListedIn (makes (openingOf width edition) (rulesIn (now (rules .entry)))) start (now (words .entry)) (now (words .exit)) (now (answer .exit)) r ⌝ }
 {
-    on_lists::list(width, edition, rules, start, words, answer)
+    on_listings::list(width, edition, rules, start, words, answer)
 }

@@ -1,9 +1,9 @@
 -- `list` meets its contract: the words are listed on the sheet that the list makes. Assumes nothing.
 use Rattle.making.proofs.Reached.{makes-reached}
-use Rattle.on_lists.proofs.Lists.{listed, refused-list}
+use Rattle.on_listings.proofs.Answered.{listed, refused-list}
 use borrow.Author.Needs.{needs}
-use Rattle.on_lists.proofs.list.Statement.{statement}
-use Rattle.on_lists.proofs.list.Tie as tie
+use Rattle.on_listings.proofs.list.Statement.{statement}
+use Rattle.on_listings.proofs.list.Tie as tie
 
 made-of-requires : tie.Need-made-of-requires
 made-of-requires c κs = search needs

@@ -1,9 +1,9 @@
 -- `count` meets its contract: the words are counted on the sheet that the list makes. Assumes nothing.
 use Rattle.making.proofs.Reached.{makes-reached}
-use Rattle.on_lists.proofs.Lists.{counted, refused-count}
+use Rattle.on_counts.proofs.Answered.{counted, refused-count}
 use borrow.Author.Needs.{needs}
-use Rattle.on_lists.proofs.count.Statement.{statement}
-use Rattle.on_lists.proofs.count.Tie as tie
+use Rattle.on_counts.proofs.count.Statement.{statement}
+use Rattle.on_counts.proofs.count.Tie as tie
 
 made-of-requires : tie.Need-made-of-requires
 made-of-requires c κs = search needs

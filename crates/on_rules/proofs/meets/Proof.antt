@@ -3,10 +3,10 @@ use mathlib.Core.Path.{sym, ap, _∙_}
 use Rattle.rule.specs.declared.Rule.{Rule}
 use Rattle.rule.specs.Meaning.{meets}
 use Rattle.handing.specs.Handed.{weighNumber}
-use Rattle.on_lists.proofs.Rules.{fair, refused-word, weighed-word}
+use Rattle.on_rules.proofs.Rules.{fair, refused-word, weighed-word}
 use borrow.Author.Needs.{needs}
-use Rattle.on_lists.proofs.meets.Statement.{statement}
-use Rattle.on_lists.proofs.meets.Tie as tie
+use Rattle.on_rules.proofs.meets.Statement.{statement}
+use Rattle.on_rules.proofs.meets.Tie as tie
 
 rule-in-requires : tie.Need-rule-in-requires
 rule-in-requires c κs = search needs

@@ -4,8 +4,8 @@ use borrow.Author.Needs.{needs}
 use Rattle.page.specs.declared.Opening.{Opening}
 use Rattle.handing.specs.Handed.{rulesIn}
 use Rattle.making.specs.Made.{given, makes}
-use Rattle.on_lists.proofs.made_of.Statement.{statement}
-use Rattle.on_lists.proofs.made_of.Tie as tie
+use Rattle.list_made.proofs.made_of.Statement.{statement}
+use Rattle.list_made.proofs.made_of.Tie as tie
 
 opening-requires : tie.Need-opening-requires
 opening-requires c κs = search needs
