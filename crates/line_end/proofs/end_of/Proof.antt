@@ -1,5 +1,5 @@
 -- `end_of` meets its contract. The loop's invariant: what the line says ends where the letters left end it, after the end so far. Assumes nothing.
-use mathlib.Core.Path.{_≡_, refl, sym, ap, ap₂, _∙_}
+use mathlib.Core.Path.{_≡_, sym, ap, ap₂, _∙_}
 use mathlib.Core.Bool.{true, false}
 use Prim.Native.Nat.{ℕ, _-_}
 use native.Mathlib.Numerals.{add-one}
