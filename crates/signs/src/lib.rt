@@ -1,10 +1,7 @@
 // What stands before a rule, and forms 2 and 3 where nothing is added to x, with a sign for each sense.
-ghost use mathlib.Core.Bool.{cond};
-ghost use mathlib.Core.List.{_++_};
 ghost use Prim.Native.Nat.{_+_, _≤_};
-ghost use lib.Dec.{eqb};
 ghost use lib.ListN.{length};
-ghost use Rattle.phrase.specs.Phrase.{Put, decimal};
+ghost use Rattle.phrase.specs.Phrase.{Put};
 ghost use Rattle.signs.specs.Signs.{atLeast, atMost, before};
 use phrase::put_one;
 use phrase::put_text;
@@ -14,7 +11,10 @@ pub fn put_at_least(out: &mut [u8], at: usize, sense: u64, n: u64) -> usize
     requires { ⌜ at + length (atLeast sense n) ≤ length (now out) ⌝ }
     ensures { λ r. ⌜ Put (now (out .entry)) at (atLeast sense n) (now (out .exit)) r ⌝ }
 {
-    put_either(&mut *out, at, sense, b"x >= ", b"x < ", n)
+    if sense == 0 {
+        return put_one(&mut *out, at, b"x >= ", n);
+    }
+    put_one(&mut *out, at, b"x < ", n)
 }
 
 // Form 3 with nothing added to x.
@@ -22,18 +22,10 @@ pub fn put_at_most(out: &mut [u8], at: usize, sense: u64, n: u64) -> usize
     requires { ⌜ at + length (atMost sense n) ≤ length (now out) ⌝ }
     ensures { λ r. ⌜ Put (now (out .entry)) at (atMost sense n) (now (out .exit)) r ⌝ }
 {
-    put_either(&mut *out, at, sense, b"x <= ", b"x > ", n)
-}
-
-// One of two texts, by the sense, and a number.
-fn put_either(out: &mut [u8], at: usize, sense: u64, plain: &[u8], negated: &[u8], n: u64) -> usize
-    requires { ⌜ at + length (cond (eqb sense 0) (now plain ++ decimal n) (now negated ++ decimal n)) ≤ length (now out) ⌝ }
-    ensures { λ r. ⌜ Put (now (out .entry)) at (cond (eqb sense 0) (now (plain .entry) ++ decimal n) (now (negated .entry) ++ decimal n)) (now (out .exit)) r ⌝ }
-{
     if sense == 0 {
-        return put_one(&mut *out, at, plain, n);
+        return put_one(&mut *out, at, b"x <= ", n);
     }
-    put_one(&mut *out, at, negated, n)
+    put_one(&mut *out, at, b"x > ", n)
 }
 
 // What stands before a rule of a sense.

@@ -4,21 +4,21 @@ use mathlib.Core.List.{[]}
 use Prim.Native.Nat.{ℕ}
 use native.Mathlib.Omega.{arith}
 use borrow.Author.Needs.{needs}
-use borrow.Author.Tests.{eq-eqb, ne-eqb}
 use lib.ListN.{length}
 use Rattle.hex.specs.Text.{bytesOf}
 use Rattle.signs.specs.Signs.{before}
 use Rattle.phrase.proofs.Putting.{put-as, put-nothing}
+use Rattle.signs.proofs.Senses.{negated-is, plain-is}
 use Rattle.signs.proofs.put_before.Statement.{statement}
 use Rattle.signs.proofs.put_before.Tie as tie
 
 plain : (sense : ℕ) → sense ≡ 0 → before sense ≡ []
 unfolding before
-plain sense h = rw (eq-eqb sense 0 h)
+plain sense h = plain-is sense [] (bytesOf "not ") h
 
 negated : (sense : ℕ) → (sense ≡ 0 → ⊥) → before sense ≡ bytesOf "not "
 unfolding before
-negated sense h = rw (ne-eqb sense 0 h)
+negated sense h = negated-is sense [] (bytesOf "not ") h
 
 returns : tie.Need-returns
 returns c = let a = c .before .before .args in put-as (sym (plain (a .sense) (omega arith))) (put-nothing (a .out .now) (a .at))
