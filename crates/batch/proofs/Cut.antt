@@ -21,7 +21,7 @@ use Rattle.course.specs.declared.Batch.{Batch}
 use Rattle.course.specs.Batch.{Batched, Ending, Gives, MOST, added, batch}
 use Rattle.course.specs.route.Route.{batchAt}
 use Rattle.course.proofs.Added.{add-goes, add-stops}
-use Rattle.few_rules.specs.route.Few.{few}
+use Rattle.adds.specs.route.Few.{few}
 
 module _ (e : Edition) (m : ℕ) where
   abbrev many : OpenPage → ℕ

@@ -3,9 +3,9 @@ ghost use mathlib.Core.Path.{_≡_};
 ghost use lib.ListN.{replicate};
 ghost use Rattle.accept.specs.Accept.{noRule};
 ghost use Rattle.course.specs.Batch.{Batched, MOST};
+use adds::few;
 pub use course::Batch;
-pub use few_rules::beginning;
-use few_rules::few;
+pub use course::beginning;
 pub use few_rules::first;
 use page::Opening;
 use rule::Rule;
@@ -23,7 +23,7 @@ pub fn run(opening: Opening, rules: &[Rule], out: &mut [u64]) -> Batch
         list[i] = rules[i];
         i += 1;
     }
-    course::vet(opening, list, count, given, out)
+    course::beginning(opening, list, given, out)
 }
 
 // As many places as are read, with no rule in them.

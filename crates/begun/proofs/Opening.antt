@@ -3,11 +3,13 @@
 use mathlib.Core.Path.{_≡_, sym, ap, _∙_, subst}
 use mathlib.Core.List.{List}
 use Prim.Native.Nat.{ℕ}
+use Rattle.word.specs.declared.Edition.{Edition}
 use Rattle.rule.specs.declared.Rule.{Rule}
-use Rattle.page.specs.Calls.{after, open-at, refusal}
+use Rattle.page.specs.Calls.{after, open-at, refusal, written}
 use Rattle.page.specs.declared.Opening.{Opening}
 use Rattle.page.specs.Page.{no-page}
 use Rattle.page.specs.Reached.{start}
+use Rattle.page.proofs.Refusals.{after-accepted}
 use Rattle.slate.specs.declared.Head.{Head}
 use Rattle.sheet.specs.declared.Answer.{Answer}
 use Rattle.sheet.specs.declared.Sheet.{Sheet}
@@ -34,9 +36,16 @@ module _ (g : Opening) {s : Sheet} (laid : s ≡ blank) {k : ℕ} {h : Head} {ro
   pub opened-sheet : IsSheet (packed h rows marks)
   opened-sheet = record { on = after no-page (open-at g); reached = after-reached start (open-at g); gives = sheet-is }
 
+  -- an accepted opening's edition is the sheet's
+  edition-is : k ≡ 0 → h .opening .edition ≡ g .edition
+  unfolding packed fresh written
+  edition-is z = ap (λ (v : Sheet). v .edition) (sheet-is ∙ ap fresh (after-accepted no-page (open-at g) (number-is ∙ z)))
+
   module _ (us : List Rule) (n : ℕ) where
     pub refused-opening : (k ≡ 0 → ⊥) → Begun g us n (packed h rows marks) k n
     refused-opening z = refuses number-is z sheet-is
 
-    pub opened-so : k ≡ 0 → {t : Sheet} {j i : ℕ} → Came (g .edition) us (packed h rows marks) t j i → Begun g us n t j i
-    opened-so z {t} {j} {i} came = opens (number-is ∙ z) (subst (λ (v : Sheet). Came (g .edition) us v t j i) sheet-is came)
+    pub opened-so : k ≡ 0 → {t : Sheet} {j i : ℕ} → Came (h .opening .edition) us (packed h rows marks) t j i → Begun g us n t j i
+    opened-so z {t} {j} {i} came =
+        let here = subst (λ (v : Sheet). Came (h .opening .edition) us v t j i) sheet-is came in
+        opens (number-is ∙ z) (subst (λ (e : Edition). Came e us (fresh (after no-page (open-at g))) t j i) (edition-is z) here)

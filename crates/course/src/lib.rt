@@ -1,8 +1,8 @@
 // A batch on its slate: a sheet is opened there, given each rule in order, and asked. What the batch call answers is said here.
 ghost use mathlib.Core.Path.{_≡_};
-ghost use Prim.Native.Nat.{_≤_};
 ghost use lib.ListN.{length, take};
-ghost use Rattle.course.specs.Batch.{Gives, MOST, batches};
+ghost use Rattle.adds.specs.route.Few.{few};
+ghost use Rattle.course.specs.Batch.{Gives, batches};
 ghost use Rattle.course.specs.route.Route.{batchAt};
 use begun::Course;
 use begun::begin;
@@ -24,20 +24,19 @@ impl Batch {
     pub const MOST: usize = Course::MOST;
 }
 
-// Opens the blank sheet, adds the first rules and asks, up to the first refusal. A refused opening is said at how many rules were given.
-pub fn vet(
+// The batch call on a list of so many rules, of which an array has the first: all of them, or as many as are read. A refused opening is said
+// at the list's length.
+pub fn beginning(
     opening: Opening,
     rules: [Rule; Batch::MOST],
-    count: usize,
     given: usize,
     out: &mut [u64],
 ) -> Batch
-    requires { ⌜ count ≤ MOST ⌝ }
-    ensures { λ r. ⌜ Gives (batchAt opening (take count rules) given (length (now (out .entry)))) (now (out .entry)) (now (out .exit)) r ⌝ }
+    ensures { λ r. ⌜ Gives (batchAt opening (take (few given) rules) given (length (now (out .entry)))) (now (out .entry)) (now (out .exit)) r ⌝ }
 {
     let mut rows = [[0; NUMBERS]; Rule::LIMIT];
     let mut marks: [usize; Sheet::MARKS] = [0; Sheet::MARKS];
-    let course = begin(opening, rules, count, given, &mut rows, &mut marks);
+    let course = begin(opening, rules, given, &mut rows, &mut marks);
     let stopped = course.number;
     let head = course.head;
     let place = course.place;

@@ -1,5 +1,5 @@
 -- `batch::run` meets its contract: a walk of its MIR, by hand. A turn of the loop reads one rule through the borrow of the list and puts it
--- into the same place of a list of its own, which then agrees with the one that was lent so far; where all that is read is there, `vet`
+-- into the same place of a list of its own, which then agrees with the one that was lent so far; where all that is read is there, `beginning`
 -- answers. All that is known of the three functions called is that each meets its contract. Assumes nothing.
 mod Asks
 use mathlib.Core.Path.{_≡_, refl, sym, ap, _∙_, subst}
@@ -60,25 +60,25 @@ use Rattle.page.proofs.Opening.Laws as O′
 use Rattle.course.specs.declared.Batch.{Batch}
 use Rattle.course.specs.Batch.{Gives, MOST}
 use Rattle.course.specs.route.Route.{batchAt}
-use Rattle.few_rules.specs.route.Few.{few}
-use Rattle.few_rules.proofs.Read.{few-high, few-low}
+use Rattle.adds.specs.route.Few.{few}
+use Rattle.adds.proofs.Read.{few-high, few-low}
 use Rattle.batch.proofs.Cut.{one-more, read-so}
 use Rattle.course.proofs.Batch as B
 use Rattle.course.proofs.Batch.Laws as B′
-use Rattle.few_rules.proofs.few as few′
-use Rattle.few_rules.proofs.few.Symbol as few-def
-use Rattle.few_rules.proofs.few.Symbol.{name as #few}
-use Rattle.few_rules.proofs.few.Met as few-thm
+use Rattle.adds.proofs.few as few′
+use Rattle.adds.proofs.few.Symbol as few-def
+use Rattle.adds.proofs.few.Symbol.{name as #few}
+use Rattle.adds.proofs.few.Met as few-thm
 use Rattle.batch.proofs.none as none′
 use Rattle.batch.proofs.none.Symbol as none-def
 use Rattle.batch.proofs.none.Symbol.{name as #none}
 use Rattle.batch.proofs.none.Met as none-thm
-use Rattle.course.proofs.vet as vet′
-use Rattle.course.proofs.vet.Symbol as vet-def
-use Rattle.course.proofs.vet.Symbol.{name as #vet}
-use Rattle.course.proofs.vet.Met as vet-thm
+use Rattle.course.proofs.beginning as beginning′
+use Rattle.course.proofs.beginning.Symbol as beginning-def
+use Rattle.course.proofs.beginning.Symbol.{name as #beginning}
+use Rattle.course.proofs.beginning.Met as beginning-thm
 use Rattle.batch.proofs.run.Proof.Asks as Asks
-use Rattle.batch.proofs.run.Proof.Asks.{Called, Few, ListOf, None, OwnOut, OwnRules, Row, Vet, answered, few-says, lies, list-tells, list-typed, listTy, none-says, openingVal, outVal, ruleVals, rule-tells, rulesVal, stands, stayed}
+use Rattle.batch.proofs.run.Proof.Asks.{Called, Few, ListOf, None, OwnOut, OwnRules, Row, Beginning, answered, few-says, lies, list-tells, list-typed, listTy, none-says, openingVal, outVal, ruleVals, rule-tells, rulesVal, stands, stayed}
 use Rattle.batch.proofs.run.Key.{name as #run}
 use Rattle.batch.proofs.run as run′
 use Rattle.batch.proofs.run.Statement as stated
@@ -114,7 +114,7 @@ record Known {M : Type 1} (𝓤 : URA M) (H : Heap 𝓤) (A : Atoms 𝓤) (mem :
     (run : Routine → Fun 𝓤) (𝓣 : Tables 𝓤 H) : Type 2 where
   counts : Triple 𝓤 (𝓣 .C #few) (Few 𝓤 H A mem run)
   empties : Triple 𝓤 (𝓣 .C #none) (None 𝓤 H A mem run)
-  vets : Triple 𝓤 (𝓣 .C #vet) (Vet 𝓤 H A mem run)
+  answers : Triple 𝓤 (𝓣 .C #beginning) (Beginning 𝓤 H A mem run)
 
 module _ {M : Type 1} (𝓤 : URA M) (H : Heap 𝓤) (A : Atoms 𝓤) (W : Given 𝓤 H A) (mem : Memory → SProp 𝓤)
     (run : Routine → Fun 𝓤) (x : Called) where
@@ -147,9 +147,6 @@ module _ {M : Type 1} (𝓤 : URA M) (H : Heap 𝓤) (A : Atoms 𝓤) (W : Given
 
   abbrev Less : Turn x → Turn x → Type 0
   Less s t = k - s .i < k - t .i
-
-  k-small : k < 2 ^ 64
-  k-small = omega (arith, few-low n, x .room .0)
 
   module _ (𝓣 : Tables 𝓤 H) (known : Known 𝓤 H A mem run 𝓣)
       (l₀ l₁ l₂ l₃ l₄ l₅ l₆ l₇ l₈ l₉ l₁₀ l₁₁ l₁₂ l₁₃ l₁₄ l₁₅ l₁₆ l₁₇ : ℕ) where
@@ -273,7 +270,7 @@ module _ {M : Type 1} (𝓤 : URA M) (H : Heap 𝓤) (A : Atoms 𝓤) (W : Given
         next : Turn x
         next = record { i = i + 1; list = set list i u; long = length-set list i u ∙ t .long; low = omega (arith, within); same = one-more us list i inside placed (t .same) }
 
-    -- the turn that leaves the loop, and the rest of the body: the list is whole again, out is lent on, and `vet` answers
+    -- the turn that leaves the loop, and the rest of the body: the list is whole again, out is lent on, and `beginning` answers
     ends : (t : Turn x) → ltb (t .i) k ≡ false → Sq W (I t) (runs C Λ E mir.turn-1 (After t))
     unfolding afterTurn
     ends t all-read =
@@ -291,23 +288,23 @@ module _ {M : Type 1} (𝓤 : URA M) (H : Heap 𝓤) (A : Atoms 𝓤) (W : Given
         (and-then ! (load ! (from ! (fld ! refl (stop !))) (look-in ! 15 (sub ! 1 refl (whole !)))) (no-more !))))
         (from ! (stop !)) (init ! 19 refl (tt, (tt, (record { fits = x .room′ .0 }, tt)))) $
         move ! (22 ∷ 21 ∷ []) $
-        use2 W (raw (Vet 𝓤 H A mem run .pre to-vet)) (Asks.asks-vet 𝓤 H A W mem run x list k is-list (few-high n) k-small) $
+        use2 W (raw (Beginning 𝓤 H A mem run .pre to-beginning)) (Asks.asks-beginning 𝓤 H A W mem run x list is-list) $
         -- [what is asked; the list; i; the test; what a turn needs; the borrow and its token; rules 12, count, given, the opening, out; room
         -- for the result; the list, handed on 18; out, lent on 20]
-        calls-at ! fm (Vet 𝓤 H A mem run) (known .vets) to-vet
+        calls-at ! fm (Beginning 𝓤 H A mem run) (known .answers) to-beginning
         (and-then ! (load ! (from ! (stop !)) (look ! 15 refl)) (and-then ! (load ! (from ! (stop !)) (look ! 18 refl))
-        (and-then ! (load ! (from ! (stop !)) (look ! 13 refl)) (and-then ! (load ! (from ! (stop !)) (look ! 14 refl))
-        (and-then ! (load ! (from ! (stop !)) (look ! 20 refl)) (no-more !))))))
+        (and-then ! (load ! (from ! (stop !)) (look ! 14 refl))
+        (and-then ! (load ! (from ! (stop !)) (look ! 20 refl)) (no-more !)))))
         (λ v.
         use1 W
         (later (some (λ (r : Batch). ((‵ (flft (x .κ′) (x .q′)) ⊛ ‵ ftrue) ⊛ ‵ (B.the-row .own r (v ∷ [])))
-        ⊛ raw (ensured 𝓤 H A vet′.ended (vet′.clauses 𝓤 H A mem run) (x .κ′, tt) args tt r)))) (id⊢ 𝓤 _) $
+        ⊛ raw (ensured 𝓤 H A beginning′.ended (beginning′.clauses 𝓤 H A mem run) (x .κ′, tt) args tt r)))) (id⊢ 𝓤 _) $
         await ! tt $ pick ! (λ r. split ! $ move ! (1 ∷ []) $
         use1 W
-        (some (λ (zs : Unit {0} × (Unit {0} × (Unit {0} × (Unit {0} × (List ℕ × Unit {0}))))). ‵ (lasts vet′.ended (x .κ′, tt) args zs)
-        ⊛ raw (fact 𝓤 (Vetted (zs .1 .1 .1 .1 .0) r)))) (id⊢ 𝓤 _) $
-        pick ! (λ zs. split ! $ move ! (1 ∷ []) $ heard ! (Vetted (zs .1 .1 .1 .1 .0) r) (λ f.
-        fsplit ! $ drop ! $ fsplit ! $ drop ! $ fsplit ! $ drop ! $ fsplit ! $ drop ! $ fsplit ! $ fsplit ! $ move ! (1 ∷ []) $ feqL ! (λ l.
+        (some (λ (zs : Unit {0} × (Unit {0} × (Unit {0} × (List ℕ × Unit {0})))). ‵ (lasts beginning′.ended (x .κ′, tt) args zs)
+        ⊛ raw (fact 𝓤 (Vetted (zs .1 .1 .1 .0) r)))) (id⊢ 𝓤 _) $
+        pick ! (λ zs. split ! $ move ! (1 ∷ []) $ heard ! (Vetted (zs .1 .1 .1 .0) r) (λ f.
+        fsplit ! $ drop ! $ fsplit ! $ drop ! $ fsplit ! $ drop ! $ fsplit ! $ fsplit ! $ move ! (1 ∷ []) $ feqL ! (λ l.
         -- [the last list; …; the token and the result; the locals]
         move ! (2 ∷ []) $ split ! $ split ! $ move ! (2 ∷ []) $
         peeks ! B.the-row (Is B.the-row) (shows 𝓤 H A B.the-row) r (v ∷ []) (λ is.
@@ -322,16 +319,16 @@ module _ {M : Type 1} (𝓤 : URA M) (H : Heap 𝓤) (A : Atoms 𝓤) (W : Given
         move ! (5 ∷ 14 ∷ []) $ free1 ! $ move ! (5 ∷ 13 ∷ []) $ free1 ! $ move ! (5 ∷ 12 ∷ []) $ free1 ! $ move ! (5 ∷ 11 ∷ []) $ free1 ! $
         move ! (7 ∷ 10 ∷ []) $ free1 ! $ move ! (7 ∷ 9 ∷ []) $ free1 ! $
         free0 ! $ keep ! (6 ∷ 1 ∷ 7 ∷ 3 ∷ 0 ∷ []) $
-        by ! (Asks.exits 𝓤 H A W mem run x r v (zs .1 .1 .1 .1 .0) (read-so (x .g) us list same f) l))))))))
+        by ! (Asks.exits 𝓤 H A W mem run x r v (zs .1 .1 .1 .0) (read-so (x .g) us list same f) l))))))))
       where
         list : List Rule
         list = t .list
 
-        args : Opening × (List Rule × (ℕ × (ℕ × (RefT (List ℕ) × Unit {0}))))
-        args = (x .g, (list, (k, (n, (x .out, tt)))))
+        args : Opening × (List Rule × (ℕ × (RefT (List ℕ) × Unit {0})))
+        args = (x .g, (list, (n, (x .out, tt))))
 
-        to-vet : Vet 𝓤 H A mem run .Ghost
-        to-vet = Asks.to-vet 𝓤 H A W mem run x list k
+        to-beginning : Beginning 𝓤 H A mem run .Ghost
+        to-beginning = Asks.to-beginning 𝓤 H A W mem run x list
 
         Vetted : List ℕ → Batch → Type 0
         Vetted zs r = Gives (batchAt (x .g) (take k list) n (length ys)) ys zs r
@@ -469,9 +466,9 @@ run-spec 𝓤 H 𝓜 𝓖 𝓡 =
     (run-meets 𝓤 H (𝓖 .A) (givenOf 𝓤 H 𝓜 𝓖) (𝓜 .mem) (𝓡 .run) (tablesOf 𝓤 H 𝓜 (tables 𝓤 H 𝓜 𝓡 code.env))
     (record {
       counts =
-          cited 𝓤 H (Few 𝓤 H (𝓖 .A) (𝓜 .mem) (𝓡 .run)) 𝓜 𝓡 code.env #few few-def.routine code.calls-few-rules·few (few-thm.met 𝓤 H 𝓜 𝓖 𝓡);
+          cited 𝓤 H (Few 𝓤 H (𝓖 .A) (𝓜 .mem) (𝓡 .run)) 𝓜 𝓡 code.env #few few-def.routine code.calls-adds·few (few-thm.met 𝓤 H 𝓜 𝓖 𝓡);
       empties =
           cited 𝓤 H (None 𝓤 H (𝓖 .A) (𝓜 .mem) (𝓡 .run)) 𝓜 𝓡 code.env #none none-def.routine code.calls-batch·none (none-thm.met 𝓤 H 𝓜 𝓖 𝓡);
-      vets =
-          cited 𝓤 H (Vet 𝓤 H (𝓖 .A) (𝓜 .mem) (𝓡 .run)) 𝓜 𝓡 code.env #vet vet-def.routine code.calls-course·vet (vet-thm.met 𝓤 H 𝓜 𝓖 𝓡);
+      answers =
+          cited 𝓤 H (Beginning 𝓤 H (𝓖 .A) (𝓜 .mem) (𝓡 .run)) 𝓜 𝓡 code.env #beginning beginning-def.routine code.calls-course·beginning (beginning-thm.met 𝓤 H 𝓜 𝓖 𝓡);
     }))

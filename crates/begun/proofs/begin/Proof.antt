@@ -1,12 +1,17 @@
 -- `begin` meets its contract: each call on the slate is the call on the record that it stands for. Assumes nothing.
 use mathlib.Core.Path.{_≡_, _∙_}
+use native.Mathlib.Omega.{arith}
 use borrow.Author.Needs.{needs}
 use Rattle.sheet.specs.route.Held.{packed}
 use Rattle.sheet.specs.Record.{blank}
 use Rattle.sheet.proofs.Opened.{open-after}
+use Rattle.adds.proofs.Read.{few-high}
 use Rattle.begun.proofs.Opening.{opened-sheet, opened-so, refused-opening}
 use Rattle.begun.proofs.begin.Statement.{statement}
 use Rattle.begun.proofs.begin.Tie as tie
+
+few-requires : tie.Need-few-requires
+few-requires c κs = search needs
 
 blank-requires : tie.Need-blank-requires
 blank-requires c κs = search needs
@@ -32,14 +37,16 @@ add-all-requires c κs =
     let o = c .before .before .before .before in
     let y = o .before .before .before in
     let done = open-after (y .lay-out .ensures .1) _ (o .«open» .ensures) in
-    ((done .held, opened-sheet _ (blank-is o) done), y .before .before .before .before .pre .1)
+    let f = y .before .before .before .before in
+    ((done .held, opened-sheet _ (blank-is o) done), omega (arith, f .few .ensures, few-high (f .before .args .given)))
 
 returns-2 : tie.Need-returns-2
 returns-2 c =
     let e = c .before .before .before in
     let o = e .before .before in
-    let done = open-after (o .before .before .before .lay-out .ensures .1) _ (o .«open» .ensures) in
-    (opened-so _ (blank-is o) done _ _ (e .if1 .left) (c .add-all .ensures .0), c .add-all .ensures .1)
+    let y = o .before .before .before in
+    let done = open-after (y .lay-out .ensures .1) _ (o .«open» .ensures) in
+    (rw (← y .before .before .before .before .few .ensures) (opened-so _ (blank-is o) done _ _ (e .if1 .left) (c .add-all .ensures .0)), c .add-all .ensures .1)
 
 pub begin-spec : {M : Type 1} → statement M
-begin-spec = tie.close (tie.spec blank-requires lay-out-requires open-requires returns add-all-requires returns-2)
+begin-spec = tie.close (tie.spec few-requires blank-requires lay-out-requires open-requires returns add-all-requires returns-2)

@@ -1,15 +1,15 @@
 -- `first` meets its contract: more than all rules are all rules. Assumes nothing.
 use native.Mathlib.Omega.{arith}
 use borrow.Author.Needs.{needs}
-use Rattle.few_rules.proofs.Read.{few-high, first-so}
+use Rattle.few_rules.proofs.Read.{first-so}
 use Rattle.few_rules.proofs.first.Statement.{statement}
 use Rattle.few_rules.proofs.first.Tie as tie
 
 few-requires : tie.Need-few-requires
 few-requires c κs = search needs
 
-vet-requires : tie.Need-vet-requires
-vet-requires c κs = omega (arith, c .before .few .ensures, few-high (c .before .before .before .args .count))
+beginning-requires : tie.Need-beginning-requires
+beginning-requires c κs = search needs
 
 same-length : tie.Need-same-length
 same-length c = search needs
@@ -19,7 +19,7 @@ returns c =
     let v = c .before .before in
     let f = v .before .before in
     let s = f .before .before .args in
-    first-so _ (s .rules) (s .count) _ (omega arith) (f .few .ensures) (v .vet .ensures)
+    first-so (s .rules) (omega arith) _ (s .count) _ (f .few .ensures) (v .beginning .ensures)
 
 pub first-spec : {M : Type 1} → statement M
-first-spec = tie.close (tie.spec few-requires vet-requires same-length returns)
+first-spec = tie.close (tie.spec few-requires beginning-requires same-length returns)

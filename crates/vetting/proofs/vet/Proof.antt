@@ -3,8 +3,8 @@ use mathlib.Core.Path.{_≡_, ap, _∙_}
 use lib.ListN.{length, take}
 use Rattle.accept.specs.Accept.{noRule}
 use Rattle.course.specs.Batch.{MOST}
-use Rattle.few_rules.specs.route.Few.{few}
-use Rattle.few_rules.proofs.Read.{few-high, few-low}
+use Rattle.adds.specs.route.Few.{few}
+use Rattle.adds.proofs.Read.{few-high, few-low}
 use Rattle.batch.proofs.Cut.{read-so}
 use Rattle.handing.specs.Handed.{rulesIn}
 use Rattle.handing.proofs.Rows.{as-many}

@@ -1,13 +1,12 @@
--- `vet` meets its contract: the first refusal ends the batch, and where there is none the sheet is asked. Assumes nothing.
-use native.Mathlib.Omega.{arith}
+-- `beginning` meets its contract: the first refusal ends the batch, and where there is none the sheet is asked. Assumes nothing.
 use borrow.Author.Needs.{needs}
 use Rattle.sheet.proofs.ByValue.{empty-room}
 use Rattle.course.proofs.UnderWay.{asked-batch, refused-batch}
-use Rattle.course.proofs.vet.Statement.{statement}
-use Rattle.course.proofs.vet.Tie as tie
+use Rattle.course.proofs.beginning.Statement.{statement}
+use Rattle.course.proofs.beginning.Tie as tie
 
 begin-requires : tie.Need-begin-requires
-begin-requires c κs = (empty-room, omega arith)
+begin-requires c κs = empty-room
 
 refusal-requires : tie.Need-refusal-requires
 refusal-requires c κs = search needs
@@ -37,8 +36,8 @@ returns-2 c =
     let t = f .before .before in
     asked-batch _ _ _ (t .begin .ensures .0) (f .if1 .left) (k .ask .ensures) (c .placed2 .ensures)
 
-pub vet-spec : {M : Type 1} → statement M
-vet-spec =
+pub beginning-spec : {M : Type 1} → statement M
+beginning-spec =
     tie.close
     (tie.spec
     begin-requires

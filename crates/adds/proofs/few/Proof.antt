@@ -1,7 +1,7 @@
 -- `few` meets its contract. Assumes nothing.
 use borrow.Author.Tests.{le-ltb, lt-ltb}
-use Rattle.few_rules.proofs.few.Statement.{statement}
-use Rattle.few_rules.proofs.few.Tie as tie
+use Rattle.adds.proofs.few.Statement.{statement}
+use Rattle.adds.proofs.few.Tie as tie
 
 returns : tie.Need-returns
 returns c = rw (lt-ltb _ _ (c .if1 .taken))
