@@ -24,7 +24,7 @@ use Rattle.token.specs.Token.{classOf, isBlank, isSign, isWord, opened, packed,
 use Rattle.row_rules.specs.Rules.{signedWord}
 use Rattle.phrase.specs.Phrase.{signedly}
 use Rattle.phrase.proofs.Signed.{signed-high, signed-low}
-use Rattle.forms.specs.Forms.{formText}
+use Rattle.form_rows.specs.Forms.{formText}
 use Rattle.signs.specs.Signs.{atLeast, atMost, before}
 use Rattle.wording.specs.Wording.{ruleText}
 use Rattle.echo.proofs.Accepted.{Acceptable}

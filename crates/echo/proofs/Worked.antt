@@ -14,7 +14,7 @@ use Rattle.token.specs.Token.{begun, classOf, isBlank, isSign, isWord, kind, mo
 use Rattle.scan.specs.Scan.{started, withToken}
 use Rattle.scanning.specs.Scanning.{closed, step, steps}
 use Rattle.phrase.specs.Phrase.{signedly}
-use Rattle.forms.specs.Forms.{formText}
+use Rattle.form_rows.specs.Forms.{formText}
 use Rattle.figure.specs.Figure.{numberText}
 use Rattle.signs.specs.Signs.{atLeast, atMost, before}
 use Rattle.wording.specs.Wording.{ruleText}

@@ -8,7 +8,7 @@ use Rattle.rule.specs.declared.Rule.{Rule}
 use Rattle.hex.specs.Text.{bytesOf}
 use Rattle.phrase.specs.Phrase.{decimal, signedly}
 use Rattle.phrase.proofs.Sizes.{few-decimal, few-signed}
-use Rattle.forms.specs.Forms.{ROW, formText, forms}
+use Rattle.form_rows.specs.Forms.{ROW, formText, forms}
 
 four : (a b c d : List ℕ) → length (a ++ (b ++ (c ++ d))) ≡ length a + (length b + (length c + length d))
 four a b c d = simp length-append

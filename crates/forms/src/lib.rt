@@ -3,12 +3,11 @@ ghost use Prim.Native.Nat.{_+_, _≤_};
 ghost use lib.ListN.{length};
 ghost use Rattle.word.specs.Word.{IsWidth};
 ghost use Rattle.phrase.specs.Phrase.{Put};
-ghost use Rattle.forms.specs.Forms.{formText};
-use phrase::Two;
+ghost use Rattle.form_rows.specs.Forms.{formText};
+use form_rows::put_pair;
 use phrase::put_one;
 use phrase::put_signed;
 use phrase::put_text;
-use phrase::put_two;
 use rule::Rule;
 use word::Width;
 
@@ -20,9 +19,6 @@ pub fn put_form(out: &mut [u8], at: usize, rule: Rule, width: Width) -> usize
 {
     let form = rule.form;
     match form {
-        1 => put_two(&mut *out, at, b"x + ", b" <= x + ", Two(rule.c1, rule.c2)),
-        2 => put_two(&mut *out, at, b"", b" <= x + ", Two(rule.c1, rule.c2)),
-        3 => put_two(&mut *out, at, b"x + ", b" <= ", Two(rule.c1, rule.c2)),
         4 => {
             let from = put_text(&mut *out, at, b"signed x <= ");
             put_signed(&mut *out, from, rule.c1, width)
@@ -32,14 +28,6 @@ pub fn put_form(out: &mut [u8], at: usize, rule: Rule, width: Width) -> usize
             put_text(&mut *out, from, b" <= signed x")
         }
         6 => put_one(&mut *out, at, b"x = ", rule.c1),
-        7 => put_two(&mut *out, at, b"x & ", b" = ", Two(rule.c1, rule.c2)),
-        8 => put_two(
-            &mut *out,
-            at,
-            b"settled since ",
-            b" for ",
-            Two(rule.c1, rule.c2),
-        ),
-        _ => at,
+        _ => put_pair(&mut *out, at, rule),
     }
 }

@@ -7,7 +7,7 @@ use lib.Dec.{eqb}
 use lib.ListN.{length, length-append}
 use Rattle.rule.specs.declared.Rule.{Rule}
 use Rattle.phrase.proofs.Sizes.{either}
-use Rattle.forms.specs.Forms.{formText}
+use Rattle.form_rows.specs.Forms.{formText}
 use Rattle.forms.proofs.Sizes.{few-text}
 use Rattle.signs.specs.Signs.{atLeast, atMost, before}
 use Rattle.signs.proofs.Sizes.{few-at-least, few-at-most, few-before}

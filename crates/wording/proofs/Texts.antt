@@ -7,7 +7,7 @@ use native.Mathlib.Omega.{arith}
 use borrow.Author.Tests.{eq-eqb, ne-eqb}
 use lib.Dec.{eqb}
 use Rattle.rule.specs.declared.Rule.{Rule}
-use Rattle.forms.specs.Forms.{formText}
+use Rattle.form_rows.specs.Forms.{formText}
 use Rattle.signs.specs.Signs.{atLeast, atMost, before}
 use Rattle.wording.specs.Wording.{ruleText}
 

@@ -4,7 +4,7 @@ use mathlib.Core.List.{List, _++_}
 use Prim.Native.Nat.{ℕ, _+_}
 use lib.Dec.{eqb}
 use Rattle.rule.specs.declared.Rule.{Rule}
-use Rattle.forms.specs.Forms.{ROW, formText}
+use Rattle.form_rows.specs.Forms.{ROW, formText}
 use Rattle.signs.specs.Signs.{atLeast, atMost, before}
 
 unfoldable pub ruleText : ℕ → Rule → List ℕ

@@ -1,16 +1,17 @@
--- `put_form` meets its contract: each arm has its row. Assumes nothing.
-use mathlib.Core.Path.{_≡_, sym, ap}
+-- `put_form` meets its contract: each arm has its row, and the rows without an arm are those with two numbers. Assumes nothing.
+use mathlib.Core.Path.{_≡_, refl, sym, ap}
+use mathlib.Core.Bool.{cond}
 use mathlib.Core.List.{[]}
-use Prim.Native.Nat.{ℕ, suc, _≤_}
-use native.Mathlib.Decide.{decLe}
+use Prim.Native.Nat.{ℕ, zero, suc}
 use native.Mathlib.Omega.{arith}
 use borrow.Author.Needs.{needs}
-use lib.ListN.{List·getD-eq-default, getD, length, length-append}
+use lib.ListN.{getD, length, length-append}
 use Rattle.rule.specs.declared.Rule.{Rule}
 use Rattle.hex.specs.Text.{bytesOf}
 use Rattle.phrase.specs.Phrase.{signedly}
-use Rattle.forms.specs.Forms.{formText, forms}
-use Rattle.phrase.proofs.Putting.{put-as, put-length, put-nothing, put-then}
+use Rattle.phrase.proofs.Putting.{put-as, put-length, put-then}
+use Rattle.form_rows.specs.Forms.{formText, forms}
+use Rattle.form_rows.specs.route.Pairs.{ofTwo, pairText}
 use Rattle.forms.proofs.put_form.Statement.{statement}
 use Rattle.forms.proofs.put_form.Tie as tie
 
@@ -18,48 +19,22 @@ row : (w : ℕ) (r : Rule) (k : ℕ) → r .form ≡ k → formText w r ≡ getD
 unfolding formText
 row w r k e = ap (λ (f : ℕ). getD (forms w (r .c1) (r .c2)) f []) e
 
--- what is at least k and is not k is more
-up : (k form : ℕ) → k ≤ form → (form ≡ k → ⊥) → suc k ≤ form
-up k form h d = omega arith
+-- the rows at k with two numbers, and those past the table, look at no width
+no-width : (w c1 c2 k : ℕ) → (k ≡ 4 → ⊥) → (k ≡ 5 → ⊥) → (k ≡ 6 → ⊥) → getD (forms w c1 c2) k [] ≡ cond (ofTwo k) (getD (forms 0 c1 c2) k []) []
+no-width w c1 c2 zero a b d = refl
+no-width w c1 c2 (suc zero) a b d = refl
+no-width w c1 c2 (suc (suc zero)) a b d = refl
+no-width w c1 c2 (suc (suc (suc zero))) a b d = refl
+no-width w c1 c2 (suc (suc (suc (suc zero)))) a b d = absurd (a refl)
+no-width w c1 c2 (suc (suc (suc (suc (suc zero))))) a b d = absurd (b refl)
+no-width w c1 c2 (suc (suc (suc (suc (suc (suc zero)))))) a b d = absurd (d refl)
+no-width w c1 c2 (suc (suc (suc (suc (suc (suc (suc zero))))))) a b d = refl
+no-width w c1 c2 (suc (suc (suc (suc (suc (suc (suc (suc zero)))))))) a b d = refl
+no-width w c1 c2 (suc (suc (suc (suc (suc (suc (suc (suc (suc k))))))))) a b d = refl
 
-slice-aggregate-put-two : tie.Need-slice-aggregate-put-two
-slice-aggregate-put-two c = search needs
-
-slice-aggregate-put-two-2 : tie.Need-slice-aggregate-put-two-2
-slice-aggregate-put-two-2 c = search needs
-
-put-two-requires : tie.Need-put-two-requires
-unfolding bytesOf
-put-two-requires c κs =
-    let a = c .before .before .before .before .before .args in
-    let e = row (a .width .bits) (a .rule) 1 (c .before .before .before .match .keys1) in
-    omega (arith, ap length e)
-
-slice-aggregate-put-two-3 : tie.Need-slice-aggregate-put-two-3
-slice-aggregate-put-two-3 c = search needs
-
-slice-aggregate-put-two-4 : tie.Need-slice-aggregate-put-two-4
-slice-aggregate-put-two-4 c = search needs
-
-put-two-requires-2 : tie.Need-put-two-requires-2
-unfolding bytesOf
-put-two-requires-2 c κs =
-    let a = c .before .before .before .before .before .args in
-    let e = row (a .width .bits) (a .rule) 2 (c .before .before .before .match .keys2) in
-    omega (arith, ap length e)
-
-slice-aggregate-put-two-5 : tie.Need-slice-aggregate-put-two-5
-slice-aggregate-put-two-5 c = search needs
-
-slice-aggregate-put-two-6 : tie.Need-slice-aggregate-put-two-6
-slice-aggregate-put-two-6 c = search needs
-
-put-two-requires-3 : tie.Need-put-two-requires-3
-unfolding bytesOf
-put-two-requires-3 c κs =
-    let a = c .before .before .before .before .before .args in
-    let e = row (a .width .bits) (a .rule) 3 (c .before .before .before .match .keys3) in
-    omega (arith, ap length e)
+pair-is : (w : ℕ) (r : Rule) → (r .form ≡ 4 → ⊥) → (r .form ≡ 5 → ⊥) → (r .form ≡ 6 → ⊥) → formText w r ≡ pairText r
+unfolding formText pairText
+pair-is w r a b d = no-width w (r .c1) (r .c2) (r .form) a b d
 
 slice-aggregate-put-text : tie.Need-slice-aggregate-put-text
 slice-aggregate-put-text c = search needs
@@ -68,14 +43,14 @@ put-text-requires : tie.Need-put-text-requires
 unfolding bytesOf
 put-text-requires c κs =
     let a = c .before .before .before .before .args in
-    let e = row (a .width .bits) (a .rule) 4 (c .before .before .match .keys4) in
+    let e = row (a .width .bits) (a .rule) 4 (c .before .before .match .keys1) in
     omega (arith, ap length e)
 
 put-signed-requires : tie.Need-put-signed-requires
 unfolding bytesOf
 put-signed-requires c κs =
     let a = c .before .before .before .before .before .before .before .before .args in
-    let e = row (a .width .bits) (a .rule) 4 (c .before .before .before .before .before .before .match .keys4) in
+    let e = row (a .width .bits) (a .rule) 4 (c .before .before .before .before .before .before .match .keys1) in
     let p = c .before .before .before .put-text .ensures in
     (c .before .before .before .before .before .before .before .before .pre .0, omega (arith, ap length e, put-length p, p .1))
 
@@ -83,7 +58,7 @@ put-signed-requires-2 : tie.Need-put-signed-requires-2
 unfolding bytesOf
 put-signed-requires-2 c κs =
     let a = c .before .before .before .args in
-    let e = row (a .width .bits) (a .rule) 5 (c .before .match .keys5) in
+    let e = row (a .width .bits) (a .rule) 5 (c .before .match .keys2) in
     (c .before .before .before .pre .0, omega (arith, ap length e, length-append (signedly (a .width .bits) (a .rule .c1)) (bytesOf " <= signed x")))
 
 slice-aggregate-put-text-2 : tie.Need-slice-aggregate-put-text-2
@@ -93,7 +68,7 @@ put-text-requires-2 : tie.Need-put-text-requires-2
 unfolding bytesOf
 put-text-requires-2 c κs =
     let a = c .before .before .before .before .before .before .before .before .args in
-    let e = row (a .width .bits) (a .rule) 5 (c .before .before .before .before .before .before .match .keys5) in
+    let e = row (a .width .bits) (a .rule) 5 (c .before .before .before .before .before .before .match .keys2) in
     let p = c .before .before .before .before .put-signed2 .ensures in
     omega (arith, ap length e, length-append (signedly (a .width .bits) (a .rule .c1)) (bytesOf " <= signed x"), put-length p, p .1)
 
@@ -104,34 +79,14 @@ put-one-requires : tie.Need-put-one-requires
 unfolding bytesOf
 put-one-requires c κs =
     let a = c .before .before .before .before .args in
-    let e = row (a .width .bits) (a .rule) 6 (c .before .before .match .keys6) in
+    let e = row (a .width .bits) (a .rule) 6 (c .before .before .match .keys3) in
     omega (arith, ap length e)
 
-slice-aggregate-put-two-7 : tie.Need-slice-aggregate-put-two-7
-slice-aggregate-put-two-7 c = search needs
-
-slice-aggregate-put-two-8 : tie.Need-slice-aggregate-put-two-8
-slice-aggregate-put-two-8 c = search needs
-
-put-two-requires-4 : tie.Need-put-two-requires-4
-unfolding bytesOf
-put-two-requires-4 c κs =
-    let a = c .before .before .before .before .before .args in
-    let e = row (a .width .bits) (a .rule) 7 (c .before .before .before .match .keys7) in
-    omega (arith, ap length e)
-
-slice-aggregate-put-two-9 : tie.Need-slice-aggregate-put-two-9
-slice-aggregate-put-two-9 c = search needs
-
-slice-aggregate-put-two-10 : tie.Need-slice-aggregate-put-two-10
-slice-aggregate-put-two-10 c = search needs
-
-put-two-requires-5 : tie.Need-put-two-requires-5
-unfolding bytesOf
-put-two-requires-5 c κs =
-    let a = c .before .before .before .before .before .args in
-    let e = row (a .width .bits) (a .rule) 8 (c .before .before .before .match .keys8) in
-    omega (arith, ap length e)
+put-pair-requires : tie.Need-put-pair-requires
+put-pair-requires c κs =
+    let a = c .before .before .before .args in
+    let d = c .before .match .rest in
+    omega (arith, ap length (pair-is (a .width .bits) (a .rule) (d .0 .0 .1) (d .0 .1) (d .1)))
 
 same-length : tie.Need-same-length
 same-length c = search needs
@@ -139,9 +94,9 @@ same-length c = search needs
 returns : tie.Need-returns
 unfolding bytesOf
 returns c =
-    let a = c .before .before .before .before .before .before .before .before .args in
-    let e = row (a .width .bits) (a .rule) 1 (c .before .before .before .before .before .before .match .keys1) in
-    put-as (sym e) (c .before .before .put-two .ensures)
+    let a = c .before .before .before .before .before .before .before .before .before .before .before .args in
+    let e = row (a .width .bits) (a .rule) 4 (c .before .before .before .before .before .before .before .before .before .match .keys1) in
+    put-as (sym e) (put-then (c .before .before .before .before .before .before .put-text .ensures) (c .before .before .put-signed .ensures))
 
 same-length-2 : tie.Need-same-length-2
 same-length-2 c = search needs
@@ -149,9 +104,9 @@ same-length-2 c = search needs
 returns-2 : tie.Need-returns-2
 unfolding bytesOf
 returns-2 c =
-    let a = c .before .before .before .before .before .before .before .before .args in
-    let e = row (a .width .bits) (a .rule) 2 (c .before .before .before .before .before .before .match .keys2) in
-    put-as (sym e) (c .before .before .put-two2 .ensures)
+    let a = c .before .before .before .before .before .before .before .before .before .before .before .args in
+    let e = row (a .width .bits) (a .rule) 5 (c .before .before .before .before .before .before .before .before .before .match .keys2) in
+    put-as (sym e) (put-then (c .before .before .before .before .before .before .before .put-signed2 .ensures) (c .before .before .put-text2 .ensures))
 
 same-length-3 : tie.Need-same-length-3
 same-length-3 c = search needs
@@ -159,86 +114,23 @@ same-length-3 c = search needs
 returns-3 : tie.Need-returns-3
 unfolding bytesOf
 returns-3 c =
-    let a = c .before .before .before .before .before .before .before .before .args in
-    let e = row (a .width .bits) (a .rule) 3 (c .before .before .before .before .before .before .match .keys3) in
-    put-as (sym e) (c .before .before .put-two3 .ensures)
+    let a = c .before .before .before .before .before .before .before .args in
+    let e = row (a .width .bits) (a .rule) 6 (c .before .before .before .before .before .match .keys3) in
+    put-as (sym e) (c .before .before .put-one .ensures)
 
 same-length-4 : tie.Need-same-length-4
 same-length-4 c = search needs
 
 returns-4 : tie.Need-returns-4
-unfolding bytesOf
 returns-4 c =
-    let a = c .before .before .before .before .before .before .before .before .before .before .before .args in
-    let e = row (a .width .bits) (a .rule) 4 (c .before .before .before .before .before .before .before .before .before .match .keys4) in
-    put-as (sym e) (put-then (c .before .before .before .before .before .before .put-text .ensures) (c .before .before .put-signed .ensures))
-
-same-length-5 : tie.Need-same-length-5
-same-length-5 c = search needs
-
-returns-5 : tie.Need-returns-5
-unfolding bytesOf
-returns-5 c =
-    let a = c .before .before .before .before .before .before .before .before .before .before .before .args in
-    let e = row (a .width .bits) (a .rule) 5 (c .before .before .before .before .before .before .before .before .before .match .keys5) in
-    put-as (sym e) (put-then (c .before .before .before .before .before .before .before .put-signed2 .ensures) (c .before .before .put-text2 .ensures))
-
-same-length-6 : tie.Need-same-length-6
-same-length-6 c = search needs
-
-returns-6 : tie.Need-returns-6
-unfolding bytesOf
-returns-6 c =
-    let a = c .before .before .before .before .before .before .before .args in
-    let e = row (a .width .bits) (a .rule) 6 (c .before .before .before .before .before .match .keys6) in
-    put-as (sym e) (c .before .before .put-one .ensures)
-
-same-length-7 : tie.Need-same-length-7
-same-length-7 c = search needs
-
-returns-7 : tie.Need-returns-7
-unfolding bytesOf
-returns-7 c =
-    let a = c .before .before .before .before .before .before .before .before .args in
-    let e = row (a .width .bits) (a .rule) 7 (c .before .before .before .before .before .before .match .keys7) in
-    put-as (sym e) (c .before .before .put-two4 .ensures)
-
-same-length-8 : tie.Need-same-length-8
-same-length-8 c = search needs
-
-returns-8 : tie.Need-returns-8
-unfolding bytesOf
-returns-8 c =
-    let a = c .before .before .before .before .before .before .before .before .args in
-    let e = row (a .width .bits) (a .rule) 8 (c .before .before .before .before .before .before .match .keys8) in
-    put-as (sym e) (c .before .before .put-two5 .ensures)
-
-returns-9 : tie.Need-returns-9
-unfolding formText
-returns-9 c =
-    let a = c .before .before .args in put-as (sym (go (decLe 1 (a .rule .form)))) (put-nothing (a .out .now) (a .at))
-  where
-    go : Dec (1 ≤ c .before .before .args .rule .form) → formText (c .before .before .args .width .bits) (c .before .before .args .rule) ≡ []
-    go (yes h) =
-        let a = c .before .before .args in
-        let d = c .match .rest in
-        List·getD-eq-default (forms (a .width .bits) (a .rule .c1) (a .rule .c2)) [] {n = a .rule .form}
-        (up 8 (a .rule .form) (up 7 (a .rule .form) (up 6 (a .rule .form) (up 5 (a .rule .form) (up 4 (a .rule .form) (up 3 (a .rule .form) (up 2 (a .rule .form) (up 1 (a .rule .form) (h) (d .0 .0 .0 .0 .0 .0 .0 .1)) (d .0 .0 .0 .0 .0 .0 .1)) (d .0 .0 .0 .0 .0 .1)) (d .0 .0 .0 .0 .1)) (d .0 .0 .0 .1)) (d .0 .0 .1)) (d .0 .1)) (d .1))
-    go (no h) = let a = c .before .before .args in row (a .width .bits) (a .rule) 0 (omega arith)
+    let a = c .before .before .before .before .before .before .args in
+    let d = c .before .before .before .before .match .rest in
+    put-as (sym (pair-is (a .width .bits) (a .rule) (d .0 .0 .1) (d .0 .1) (d .1))) (c .before .before .put-pair .ensures)
 
 pub put-form-spec : {M : Type 1} → statement M
 put-form-spec =
     tie.close
     (tie.spec
-    slice-aggregate-put-two
-    slice-aggregate-put-two-2
-    put-two-requires
-    slice-aggregate-put-two-3
-    slice-aggregate-put-two-4
-    put-two-requires-2
-    slice-aggregate-put-two-5
-    slice-aggregate-put-two-6
-    put-two-requires-3
     slice-aggregate-put-text
     put-text-requires
     put-signed-requires
@@ -247,12 +139,7 @@ put-form-spec =
     put-text-requires-2
     slice-aggregate-put-one
     put-one-requires
-    slice-aggregate-put-two-7
-    slice-aggregate-put-two-8
-    put-two-requires-4
-    slice-aggregate-put-two-9
-    slice-aggregate-put-two-10
-    put-two-requires-5
+    put-pair-requires
     same-length
     returns
     same-length-2
@@ -260,13 +147,4 @@ put-form-spec =
     same-length-3
     returns-3
     same-length-4
-    returns-4
-    same-length-5
-    returns-5
-    same-length-6
-    returns-6
-    same-length-7
-    returns-7
-    same-length-8
-    returns-8
-    returns-9)
+    returns-4)
