@@ -5,7 +5,7 @@ ghost use Rattle.sheet.specs.Record.{blank};
 ghost use Rattle.handing.specs.Handed.{editionOf, openingOf, ruleIn};
 ghost use Rattle.on_words.specs.Gates.{gateOf};
 ghost use Rattle.kept_numbers.specs.Numbers.{numbersOf};
-ghost use Rattle.on_sheets.specs.Changed.{Changed, Opened};
+ghost use Rattle.kept_changes.specs.Changed.{Changed, Opened};
 ghost use Rattle.on_kept.specs.Told.{Asked, Counted, Listed};
 use handing::NUMBERS;
 

@@ -1,21 +1,16 @@
-// The calls that change a sheet that a caller keeps. Each reads the numbers anew, tests them for 17 as the call beneath does, and writes
-// them down again only where it is accepted: a refused call leaves every number as it was.
-ghost use mathlib.Core.Path.{_≡_};
-ghost use Rattle.page.specs.Calls.{add, back, forward, mark, set-gate};
-ghost use Rattle.sheet.specs.Record.{blank};
+// The calls that change a sheet that a caller keeps: those that are handed something more are here. An add and a gate read the numbers
+// anew, test them for 17 as the call beneath does, and write them down again only where they are accepted: a refused call leaves every
+// number as it was.
+ghost use Rattle.page.specs.Calls.{add, set-gate};
 ghost use Rattle.handing.specs.Handed.{editionOf, openingOf, ruleIn};
 ghost use Rattle.on_words.specs.Gates.{gateOf};
-ghost use Rattle.kept_numbers.specs.Numbers.{numbersOf};
-ghost use Rattle.on_sheets.specs.Changed.{Changed, Opened};
+ghost use Rattle.kept_changes.specs.Changed.{Changed, Opened};
+pub use bare_calls::back;
+pub use bare_calls::blank;
+pub use bare_calls::forward;
+pub use bare_calls::mark;
 use handing::NUMBERS;
 use sheet::Sheet;
-
-// The blank sheet.
-pub fn blank(numbers: &mut [u64; keeping::NUMBERS])
-    ensures { λ _. ⌜ now (numbers .exit) ≡ numbersOf blank ⌝ }
-{
-    *numbers = kept_put::written(Sheet::blank());
-}
 
 // Opens a sheet. The old numbers are not read.
 pub fn open(numbers: &mut [u64; keeping::NUMBERS], width: u64, edition: u64) -> u64
@@ -32,33 +27,6 @@ pub fn add(numbers: &mut [u64; keeping::NUMBERS], edition: u64, rule: &[u64; NUM
     let asked = handing::rule_in(rule);
     let given = *numbers;
     let answer = keeping::read(given).add(handing::edition_of(edition), asked);
-    keeping::keep(&mut *numbers, answer)
-}
-
-// Sets a mark.
-pub fn mark(numbers: &mut [u64; keeping::NUMBERS]) -> u64
-    ensures { λ r. ⌜ Changed mark (now (numbers .entry)) (now (numbers .exit)) r ⌝ }
-{
-    let given = *numbers;
-    let answer = keeping::read(given).mark();
-    keeping::keep(&mut *numbers, answer)
-}
-
-// Goes back to the newest mark.
-pub fn back(numbers: &mut [u64; keeping::NUMBERS]) -> u64
-    ensures { λ r. ⌜ Changed back (now (numbers .entry)) (now (numbers .exit)) r ⌝ }
-{
-    let given = *numbers;
-    let answer = keeping::read(given).back();
-    keeping::keep(&mut *numbers, answer)
-}
-
-// Brings back what was most recently taken back.
-pub fn forward(numbers: &mut [u64; keeping::NUMBERS]) -> u64
-    ensures { λ r. ⌜ Changed forward (now (numbers .entry)) (now (numbers .exit)) r ⌝ }
-{
-    let given = *numbers;
-    let answer = keeping::read(given).forward();
     keeping::keep(&mut *numbers, answer)
 }
 

@@ -3,7 +3,7 @@ use mathlib.Core.Path.{subst}
 use Rattle.page.specs.Calls.{Call, add}
 use Rattle.sheet.specs.Statements.{Outcome}
 use Rattle.handing.specs.Handed.{editionOf, ruleIn}
-use Rattle.on_sheets.proofs.Changes.{changed}
+use Rattle.kept_changes.proofs.Changes.{changed}
 use borrow.Author.Needs.{needs}
 use Rattle.on_sheets.proofs.add.Statement.{statement}
 use Rattle.on_sheets.proofs.add.Tie as tie

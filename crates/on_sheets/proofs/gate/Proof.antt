@@ -3,7 +3,7 @@ use mathlib.Core.Path.{ap, subst}
 use Rattle.page.specs.Calls.{Call, set-gate}
 use Rattle.sheet.specs.Statements.{Outcome}
 use Rattle.on_words.specs.Gates.{gateOf}
-use Rattle.on_sheets.proofs.Changes.{changed}
+use Rattle.kept_changes.proofs.Changes.{changed}
 use borrow.Author.Needs.{needs}
 use Rattle.on_sheets.proofs.gate.Statement.{statement}
 use Rattle.on_sheets.proofs.gate.Tie as tie

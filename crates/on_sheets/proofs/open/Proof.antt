@@ -3,7 +3,7 @@ use mathlib.Core.Path.{ap, _∙_}
 use Rattle.page.specs.declared.Opening.{Opening}
 use Rattle.sheet.specs.Statements.{Outcome, opened}
 use Rattle.handing.specs.Handed.{openingOf}
-use Rattle.on_sheets.proofs.Changes.{opens}
+use Rattle.kept_changes.proofs.Changes.{opens}
 use borrow.Author.Needs.{needs}
 use Rattle.on_sheets.proofs.open.Statement.{statement}
 use Rattle.on_sheets.proofs.open.Tie as tie

@@ -2,8 +2,8 @@
 use mathlib.Core.Path.{ap, _∙_}
 use Rattle.kept_numbers.specs.Numbers.{numbersOf}
 use borrow.Author.Needs.{needs}
-use Rattle.on_sheets.proofs.blank.Statement.{statement}
-use Rattle.on_sheets.proofs.blank.Tie as tie
+use Rattle.bare_calls.proofs.blank.Statement.{statement}
+use Rattle.bare_calls.proofs.blank.Tie as tie
 
 blank-requires : tie.Need-blank-requires
 blank-requires c κs = search needs

@@ -9,7 +9,7 @@ use Rattle.page.proofs.Refusals.{after-refused}
 use Rattle.sheet.specs.Record.{fresh}
 use Rattle.kept_numbers.specs.Numbers.{IsKept, numbersOf}
 use Rattle.kept_numbers.proofs.Kept.{kept-dec}
-use Rattle.on_sheets.specs.Changed.{Changed}
+use Rattle.kept_changes.specs.Changed.{Changed}
 
 pub changed-unique : {c : Call} {ns a b : List ℕ} {r s : ℕ} → Changed c ns a r → Changed c ns b s → (r ≡ s) × (a ≡ b)
 changed-unique {c} {ns} {a} {b} {r} {s} x y = go (kept-dec ns)

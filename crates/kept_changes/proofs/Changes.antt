@@ -21,7 +21,7 @@ use Rattle.sheet.specs.Statements.{Reads, opened}
 use Rattle.kept_numbers.specs.Numbers.{IsKept, NUMBERS, numbersOf}
 use Rattle.kept_numbers.specs.route.Reading.{sheetIn}
 use Rattle.kept_numbers.proofs.Kept.{kept-read, sheet-kept}
-use Rattle.on_sheets.specs.Changed.{Changed, Opened}
+use Rattle.kept_changes.specs.Changed.{Changed, Opened}
 
 -- what is left of numbers after an answer: the answer's sheet where it was accepted
 abbrev left : Answer → List ℕ → List ℕ
