@@ -10,11 +10,11 @@ use Rattle.sheet.specs.declared.Sheet.{Sheet}
 use Rattle.fields.specs.Answers.{answerBytes}
 use Rattle.fields.specs.Fields.{Line}
 use Rattle.frame.proofs.Unique.{put-unique, said-unique}
+use Rattle.input_line.specs.Lines.{withEnd}
+use Rattle.input_line.proofs.Lines.{end-prefix}
 use Rattle.exchange.specs.route.Begun.{none}
 use Rattle.exchange.specs.route.Desk.{Desk, Fed, desk, fed}
-use Rattle.exchange.specs.Lines.{withEnd}
 use Rattle.exchange.specs.route.Statements.{Ends, FedSo, Feeds, Finished, Takes, a-line, all-used, ends-line, goes-on, last-line, no-line, no-room, nothing}
-use Rattle.exchange.proofs.Taking.{end-prefix}
 pub use Rattle.exchange.proofs.Taking.{takes-on}
 
 pub feeds-takes : {m n : ℕ} {d e : Desk} {bs o : List ℕ} → Feeds m d bs e n o → Takes d (take n bs) e o

@@ -1,6 +1,5 @@
 pub mod Before
 pub mod Cut
-pub mod Eight
 pub mod Finishing
 pub mod Held
 pub mod Parts

@@ -11,12 +11,13 @@ use Rattle.frame.specs.Calls.{lineCall}
 use Rattle.frame.specs.Statements.{Answered}
 use Rattle.fields.specs.Put.{PutAt}
 use Rattle.fields.proofs.Lines.{put-none, put-on}
+use Rattle.input_line.specs.Lines.{lineOf, withEnd}
+use Rattle.input_line.proofs.Lines.{end-fits, end-none, end-some, end-there, line-fits}
 use Rattle.exchange.specs.declared.Begun.{Begun}
 use Rattle.exchange.specs.route.Begun.{begunLine, joined, none}
 use Rattle.exchange.specs.route.Desk.{Desk, Fed, desk}
-use Rattle.exchange.specs.Lines.{lineOf, withEnd}
 use Rattle.exchange.specs.route.Statements.{FedSo, Feeds, Takes, a-line, all-used, no-room}
-use Rattle.exchange.proofs.Taking.{end-fits, end-none, end-some, end-there, ended, line-fits, unended}
+use Rattle.exchange.proofs.Taking.{ended, unended}
 
 -- ---- the next line of a part
 

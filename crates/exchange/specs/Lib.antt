@@ -1,6 +1,5 @@
 pub mod Before
 pub mod Exchange
-pub mod Lines
 pub mod Paper
 pub mod Talk
 pub mod route

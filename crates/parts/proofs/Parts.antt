@@ -16,7 +16,7 @@ use Rattle.frame.specs.Calls.{callOf, lineCall}
 use Rattle.frame.specs.route.Reading.{bare, byDigits, codeEdition, frameOf, numbered}
 use Rattle.frame.specs.Pages.{answerTo, pageAfter}
 use Rattle.exchange.specs.Exchange.{answersTo, exchange, inFront, lines}
-use Rattle.exchange.specs.Lines.{lineOf}
+use Rattle.input_line.specs.Lines.{lineOf}
 use Rattle.parts.specs.Parts.{AcceptedOpening, CutAtOpenings, Ended, ended, nothing}
 
 -- ---- lines

@@ -11,7 +11,7 @@ use Rattle.hex.specs.Hex.{hex}
 use Rattle.fields.specs.Answers.{NEWLINE}
 use Rattle.frame.specs.Calls.{lineCall, makes}
 use Rattle.fields.specs.Fields.{BYTE}
-use Rattle.exchange.specs.Lines.{lineOf}
+use Rattle.input_line.specs.Lines.{lineOf}
 
 -- a line makes an opening, and it is not refused: 2, the one number that an opening may get, is the same on every sheet
 pub record AcceptedOpening (l : List ℕ) : Type 0 where

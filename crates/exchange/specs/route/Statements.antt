@@ -10,9 +10,9 @@ use Rattle.frame.specs.Calls.{lineCall}
 use Rattle.fields.specs.Fields.{Line}
 use Rattle.frame.specs.Statements.{Said}
 use Rattle.fields.specs.Put.{PutAt}
+use Rattle.input_line.specs.Lines.{withEnd}
 use Rattle.exchange.specs.route.Begun.{begunLine, none, put}
 use Rattle.exchange.specs.route.Desk.{Desk, Fed, desk}
-use Rattle.exchange.specs.Lines.{withEnd}
 
 -- what the line that a desk holds gets
 abbrev pub LineSaid : Desk → Sheet → List Line → Type 0

@@ -10,11 +10,11 @@ use Rattle.rule.specs.Meaning.{RULES}
 use Rattle.chain.specs.Links.{chainRoom}
 use Rattle.frame.specs.Calls.{lineCall}
 use Rattle.frame.specs.Statements.{Answered}
+use Rattle.input_line.specs.Lines.{withEnd}
+use Rattle.input_line.proofs.Lines.{end-fits, end-some, line-fits}
 use Rattle.exchange.specs.route.Begun.{begunLine, joined}
 use Rattle.exchange.specs.route.Desk.{Desk, desk}
-use Rattle.exchange.specs.Lines.{withEnd}
 use Rattle.exchange.proofs.Parts.{Midway, NextLine, fed-all, fed-full, line-ended, line-unended, midway-on, midway-start}
-use Rattle.exchange.proofs.Taking.{end-fits, end-some, line-fits}
 use Rattle.slate.specs.route.Held.{Held}
 use Rattle.sheet.specs.route.Held.{packed}
 use Rattle.feed.proofs.feed.Statement.{statement}

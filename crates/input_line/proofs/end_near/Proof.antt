@@ -7,10 +7,10 @@ use native.Mathlib.Numerals.{add-one}
 use native.Mathlib.Omega.{arith}
 use borrow.Author.Needs.{needs}
 use lib.ListN.{drop, drop-of-length-le, length}
-use Rattle.exchange.specs.Lines.{lineOf}
-use Rattle.exchange.proofs.Taking.{line-goes, line-stops}
-use Rattle.exchange.proofs.lines.end_near.Statement.{statement}
-use Rattle.exchange.proofs.lines.end_near.Tie as tie
+use Rattle.input_line.specs.Lines.{lineOf}
+use Rattle.input_line.proofs.Lines.{line-goes, line-stops}
+use Rattle.input_line.proofs.end_near.Statement.{statement}
+use Rattle.input_line.proofs.end_near.Tie as tie
 
 abbrev Inv-loop : tie.InvT-loop
 Inv-loop bytes start i₀ n i = (start ≤ i) × (i ≤ length bytes) × (start + length (lineOf (drop start bytes)) ≡ i + length (lineOf (drop i bytes)))

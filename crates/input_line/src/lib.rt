@@ -1,10 +1,10 @@
-// Where lines end.
+// A line of the input: its bytes up to the next byte 10, found eight at a step.
 ghost use mathlib.Core.Path.{_≡_};
 ghost use Prim.Native.Nat.{_+_, _≤_};
 ghost use lib.Dec.{leb};
 ghost use lib.ListN.{drop, length};
-ghost use Rattle.exchange.specs.Lines.{lineOf};
-use frame::Frame;
+ghost use Rattle.input_line.specs.Lines.{lineOf};
+use fields::Field;
 
 // How many bytes are looked at together.
 const EIGHT: usize = 8;
@@ -38,14 +38,14 @@ fn goes_on(bytes: &[u8], at: usize) -> bool
     requires { ⌜ at + 8 ≤ length (now bytes) ⌝ }
     ensures { λ r. ⌜ r ≡ leb 8 (length (lineOf (drop at (now (bytes .entry))))) ⌝ }
 {
-    let a = bytes[at] != Frame::NEWLINE;
-    let b = bytes[at + 1] != Frame::NEWLINE;
-    let c = bytes[at + 2] != Frame::NEWLINE;
-    let d = bytes[at + 3] != Frame::NEWLINE;
-    let e = bytes[at + 4] != Frame::NEWLINE;
-    let f = bytes[at + 5] != Frame::NEWLINE;
-    let g = bytes[at + 6] != Frame::NEWLINE;
-    let h = bytes[at + 7] != Frame::NEWLINE;
+    let a = bytes[at] != Field::NEWLINE;
+    let b = bytes[at + 1] != Field::NEWLINE;
+    let c = bytes[at + 2] != Field::NEWLINE;
+    let d = bytes[at + 3] != Field::NEWLINE;
+    let e = bytes[at + 4] != Field::NEWLINE;
+    let f = bytes[at + 5] != Field::NEWLINE;
+    let g = bytes[at + 6] != Field::NEWLINE;
+    let h = bytes[at + 7] != Field::NEWLINE;
     a & (b & (c & (d & (e & (f & (g & h))))))
 }
 
@@ -55,7 +55,7 @@ fn end_near(bytes: &[u8], start: usize) -> usize
     ensures { λ r. ⌜ (r ≡ start + length (lineOf (drop start (now (bytes .entry))))) × (r ≤ length (now (bytes .entry))) ⌝ }
 {
     for i in start..bytes.len() {
-        if bytes[i] == Frame::NEWLINE {
+        if bytes[i] == Field::NEWLINE {
             return i;
         }
     }

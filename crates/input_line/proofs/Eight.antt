@@ -10,8 +10,8 @@ use borrow.Author.Tests.{eq-eqb, ne-eqb}
 use lib.Dec.{eqb, leb, leb·suc-suc, leb·suc-zero, leb·zero}
 use lib.ListN.{drop, getD, length}
 use Rattle.fields.specs.Answers.{NEWLINE}
-use Rattle.exchange.specs.Lines.{lineOf}
-use Rattle.exchange.proofs.Taking.{line-goes, line-stops}
+use Rattle.input_line.specs.Lines.{lineOf}
+use Rattle.input_line.proofs.Lines.{line-goes, line-stops}
 
 -- byte i is no byte 10
 abbrev goes : List ℕ → ℕ → Bool

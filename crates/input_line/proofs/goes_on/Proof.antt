@@ -1,9 +1,9 @@
 -- `goes_on` meets its contract: each test is that of the line's next byte. Assumes nothing.
 use mathlib.Core.Path.{sym}
 use borrow.Author.Needs.{needs}
-use Rattle.exchange.proofs.Eight.{eight-more}
-use Rattle.exchange.proofs.lines.goes_on.Statement.{statement}
-use Rattle.exchange.proofs.lines.goes_on.Tie as tie
+use Rattle.input_line.proofs.Eight.{eight-more}
+use Rattle.input_line.proofs.goes_on.Statement.{statement}
+use Rattle.input_line.proofs.goes_on.Tie as tie
 
 shared-slice-read-a : tie.Need-shared-slice-read-a
 shared-slice-read-a c = search needs

@@ -5,10 +5,10 @@ use native.Mathlib.Omega.{arith}
 use borrow.Author.Needs.{needs}
 use borrow.Author.Tests.{leb-true, not-false}
 use lib.ListN.{drop, length}
-use Rattle.exchange.specs.Lines.{lineOf}
-use Rattle.exchange.proofs.Eight.{further}
-use Rattle.exchange.proofs.lines.line_end.Statement.{statement}
-use Rattle.exchange.proofs.lines.line_end.Tie as tie
+use Rattle.input_line.specs.Lines.{lineOf}
+use Rattle.input_line.proofs.Eight.{further}
+use Rattle.input_line.proofs.line_end.Statement.{statement}
+use Rattle.input_line.proofs.line_end.Tie as tie
 
 abbrev Inv-loop : tie.InvT-loop
 Inv-loop bytes start i₀ i = (start ≤ i) × (i ≤ length bytes) × (start + length (lineOf (drop start bytes)) ≡ i + length (lineOf (drop i bytes)))

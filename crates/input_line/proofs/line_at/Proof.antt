@@ -4,10 +4,10 @@ use Prim.Native.Nat.{ℕ, _-_}
 use native.Mathlib.Omega.{arith}
 use borrow.Author.Needs.{needs}
 use lib.ListN.{drop, length, take}
-use Rattle.exchange.specs.Lines.{lineOf}
-use Rattle.exchange.proofs.Taking.{line-prefix}
-use Rattle.exchange.proofs.lines.line_at.Statement.{statement}
-use Rattle.exchange.proofs.lines.line_at.Tie as tie
+use Rattle.input_line.specs.Lines.{lineOf}
+use Rattle.input_line.proofs.Lines.{line-prefix}
+use Rattle.input_line.proofs.line_at.Statement.{statement}
+use Rattle.input_line.proofs.line_at.Tie as tie
 
 line-end-requires : tie.Need-line-end-requires
 line-end-requires c κs = search needs

@@ -1,0 +1,2 @@
+mod Eight
+pub mod Lines
