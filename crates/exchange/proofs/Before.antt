@@ -26,7 +26,8 @@ use Rattle.frame.specs.declared.Frame.the-variants.{Add, Ask, Back, Forward, Ma
 use Rattle.fields.specs.Answers.{answerBytes, chainLines, linkLine, numberLine}
 use Rattle.frame.specs.Calls.{MadeCall, asks, callOf, lineCall, makes, none}
 use Rattle.fields.specs.Fields.{Line}
-use Rattle.frame.specs.route.Reading.{bare, byDigits, codeEdition, frameOf, numbered, ruleOf}
+use Rattle.frame_numbers.specs.route.Numbers.{codeEdition, ruleOf}
+use Rattle.frame.specs.route.Reading.{bare, byDigits, frameOf, numbered}
 use Rattle.frame.specs.Pages.{answerTo, pageAfter}
 use Rattle.frame.proofs.Rows.{too-short}
 use Rattle.exchange.specs.Before.{OldLine, OldLines, answerBefore, answersBefore, chainBefore, exchangeBefore, frameBefore, groundsBefore, pageBefore, refusalBefore}

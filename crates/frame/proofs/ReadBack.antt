@@ -13,11 +13,12 @@ use Rattle.word.specs.Edition.{terms}
 use Rattle.rule.specs.Meaning.{rule}
 use Rattle.page.specs.Page.{at-width}
 use Rattle.hex.specs.Hex.{allDigits, number}
+use Rattle.frame_numbers.specs.route.Numbers.{OPENING, adding, codeEdition, ruleOf}
 use Rattle.frame.specs.declared.Frame.{Frame}
 use Rattle.frame.specs.declared.Frame.the-variants.{Add, Ask, Back, Forward, Mark, NoFrame, Open}
 use Rattle.fields.specs.Fields.{BYTE, InDigits, Line, WORD, byte, digitsIn}
 use Rattle.frame.specs.Frames.{IsFrame, fieldsOf}
-use Rattle.frame.specs.route.Reading.{OPENING, adding, bare, codeEdition, frameOf, numbered, ruleOf}
+use Rattle.frame.specs.route.Reading.{bare, frameOf, numbered}
 use Rattle.fields.proofs.Fields.{digits-digits, fields-fit, fields-read, fields-written, fieldsAt, length-digits, total}
 use Rattle.frame.proofs.Rows.{add-row, adds-own, bare-row, no-add, no-digits, no-open, no-row, numbers-row, open-row, opens-own}
 

@@ -12,9 +12,10 @@ use Rattle.word.specs.declared.Edition.the-variants.{New, Old}
 use Rattle.word.specs.Edition.{terms}
 use Rattle.page.specs.Page.{at-width}
 use Rattle.hex.specs.Hex.{allDigits, number}
+use Rattle.frame_numbers.specs.route.Numbers.{OPENING, adding, codeEdition, ruleOf}
 use Rattle.frame.specs.declared.Frame.the-variants.{Add, NoFrame, Open}
 use Rattle.fields.specs.Fields.{BYTE, WORD}
-use Rattle.frame.specs.route.Reading.{LONGEST, OPENING, adding, bare, byDigits, codeEdition, frameOf, numbered, ruleOf}
+use Rattle.frame.specs.route.Reading.{LONGEST, bare, byDigits, frameOf, numbered}
 use Rattle.word.proofs.Editions.{digits-held}
 
 -- an edition's codes are its own

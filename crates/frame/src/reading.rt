@@ -1,22 +1,12 @@
 // From the digits of a line to a frame.
 ghost use mathlib.Core.Path.{_≡_};
 ghost use lib.ListN.{length};
-ghost use Prim.Native.Nat.{_+_, _≤_};
-ghost use Rattle.fields.specs.Fields.{BYTE, DIGITS};
-ghost use Rattle.frame.specs.route.Reading.{C1, bare, codeEdition, frameOf, numbered, ruleOf};
+ghost use Rattle.fields.specs.Fields.{BYTE};
+ghost use Rattle.frame.specs.route.Reading.{bare, frameOf, numbered};
 use crate::Frame;
+use frame_numbers::OPENING;
 use page::Opening;
-use rule::Rule;
 use word::Edition;
-
-// Where an opening ends, and where the numbers of an add begin.
-const OPENING: usize = 2 * Frame::BYTE;
-
-const FORM: usize = Frame::BYTE;
-
-const SENSE: usize = FORM + Frame::BYTE;
-
-const C1: usize = SENSE + Frame::BYTE;
 
 // The frame that a line is.
 pub fn decode(line: &[u8]) -> Frame
@@ -33,7 +23,7 @@ pub fn decode(line: &[u8]) -> Frame
         return Frame::NoFrame;
     }
     let code = hex::number(line, 0, Frame::BYTE);
-    numbered(line, code, edition_of(code))
+    numbered(line, code, frame_numbers::edition_of(code))
 }
 
 // The frame of a line that has room for a code alone: most lines, so these are told by their two bytes, without reading a number.
@@ -74,56 +64,19 @@ fn bare(code: u64) -> Frame
     Frame::NoFrame
 }
 
-// The edition whose frames have a code; a code that has none is looked for among the old ones.
-fn edition_of(code: u64) -> Edition
-    ensures { λ r. ⌜ r ≡ codeEdition code ⌝ }
-{
-    let new = Edition::New.terms();
-    if code == new.opens {
-        return Edition::New;
-    }
-    if code == new.adds {
-        return Edition::New;
-    }
-    Edition::Old
-}
-
 // The frames of an edition that have numbers after their code.
 fn numbered(line: &[u8], code: u64, edition: Edition) -> Frame
     ensures { λ r. ⌜ r ≡ numbered edition code (now (line .entry)) ⌝ }
 {
     let n = line.len();
-    let terms = edition.terms();
-    let digits = terms.digits;
-    let adding = C1 + digits + digits;
-    if n == OPENING {
-        if code == terms.opens {
-            return Frame::Open(Opening {
-                width: hex::number(line, Frame::BYTE, OPENING),
-                edition,
-            });
-        }
-        return Frame::NoFrame;
+    if frame_numbers::opens(edition, code, n) {
+        return Frame::Open(Opening {
+            width: hex::number(line, Frame::BYTE, OPENING),
+            edition,
+        });
     }
-    if n == adding {
-        if code == terms.adds {
-            return Frame::Add(edition, rule_of(line, digits));
-        }
+    if frame_numbers::adds(edition, code, n) {
+        return Frame::Add(edition, frame_numbers::rule_of(line, edition));
     }
     Frame::NoFrame
-}
-
-// The rule that the digits after an add's code write, where its constants have so many.
-fn rule_of(line: &[u8], digits: usize) -> Rule
-    requires { ⌜ (length (now line) ≡ C1 + digits + digits) × (digits ≤ DIGITS) ⌝ }
-    ensures { λ r. ⌜ r ≡ ruleOf digits (now (line .entry)) ⌝ }
-{
-    let c2 = C1 + digits;
-    let end = c2 + digits;
-    Rule {
-        form: hex::number(line, FORM, SENSE),
-        sense: hex::number(line, SENSE, C1),
-        c1: hex::number(line, C1, c2),
-        c2: hex::number(line, c2, end),
-    }
 }

@@ -13,7 +13,8 @@ use Rattle.page.proofs.Refusals.{after-accepted}
 use Rattle.hex.specs.Hex.{allDigits, number, numberFrom}
 use Rattle.fields.specs.Answers.{NEWLINE, answerBytes, numberLine}
 use Rattle.frame.specs.Calls.{callOf, lineCall}
-use Rattle.frame.specs.route.Reading.{bare, byDigits, codeEdition, frameOf, numbered}
+use Rattle.frame_numbers.specs.route.Numbers.{codeEdition}
+use Rattle.frame.specs.route.Reading.{bare, byDigits, frameOf, numbered}
 use Rattle.frame.specs.Pages.{answerTo, pageAfter}
 use Rattle.exchange.specs.Exchange.{answersTo, exchange, inFront, lines}
 use Rattle.input_line.specs.Lines.{lineOf}

@@ -11,7 +11,8 @@ use Rattle.hex.specs.Hex.{allDigits, glyph, hex, isDigit, number, numberFrom, v
 use Rattle.fields.specs.Answers.{answerBytes, lineBytes, numberLine}
 use Rattle.frame.specs.Calls.{callOf, lineCall}
 use Rattle.fields.specs.Fields.{digitsIn}
-use Rattle.frame.specs.route.Reading.{bare, byDigits, codeEdition, frameOf, numbered}
+use Rattle.frame_numbers.specs.route.Numbers.{codeEdition}
+use Rattle.frame.specs.route.Reading.{bare, byDigits, frameOf, numbered}
 use Rattle.frame.specs.Pages.{answerTo, pageAfter}
 use Rattle.exchange.specs.Exchange.{answersTo, exchange, inFront, lines}
 use Rattle.hex.specs.Text.{bytesOf}

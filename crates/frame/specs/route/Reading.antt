@@ -6,48 +6,21 @@ use lib.Dec.{eqb}
 use lib.ListN.{length, take}
 use lib.Seq.{slice}
 use Rattle.word.specs.declared.Edition.{Edition}
-use Rattle.word.specs.declared.Edition.the-variants.{New, Old}
 use Rattle.word.specs.Edition.{terms}
-use Rattle.rule.specs.declared.Rule.{Rule}
-use Rattle.rule.specs.Meaning.{rule}
 use Rattle.page.specs.Page.{at-width}
 use Rattle.hex.specs.Hex.{allDigits, number}
 use Rattle.frame.specs.declared.Frame.{Frame}
 use Rattle.frame.specs.declared.Frame.the-variants.{Add, Ask, Back, Forward, Mark, NoFrame, Open}
 use Rattle.fields.specs.Fields.{BYTE, DIGITS, WORD}
-
--- where an opening ends; where the numbers of an add begin, and where it ends
-abbrev pub OPENING : ℕ
-OPENING = BYTE + BYTE
-
-abbrev pub FORM : ℕ
-FORM = BYTE
-
-abbrev pub SENSE : ℕ
-SENSE = FORM + BYTE
-
-abbrev pub C1 : ℕ
-C1 = SENSE + BYTE
-
-abbrev pub adding : Edition → ℕ
-adding e = C1 + WORD e + WORD e
+use Rattle.frame_numbers.specs.route.Numbers.{C1, OPENING, adding, codeEdition, ruleOf}
 
 -- no frame has more digits
 abbrev pub LONGEST : ℕ
 LONGEST = C1 + DIGITS + DIGITS
 
--- the rule of an add whose constants have so many digits
-unfoldable pub ruleOf : (digits : ℕ) → List ℕ → Rule
-ruleOf d l =
-    rule (number (slice FORM SENSE l)) (number (slice SENSE C1 l)) (number (slice C1 (C1 + d) l)) (number (slice (C1 + d) (C1 + d + d) l))
-
 -- a code and nothing more
 unfoldable pub bare : ℕ → Frame
 bare code = cond (eqb code 0x03) Mark (cond (eqb code 0x04) Back (cond (eqb code 0x05) Ask (cond (eqb code 0x06) Forward NoFrame)))
-
--- the edition whose frames have a code; a code that has none is looked for among the old ones
-unfoldable pub codeEdition : ℕ → Edition
-codeEdition code = cond (eqb code (terms New .opens)) New (cond (eqb code (terms New .adds)) New Old)
 
 -- the frames of an edition that have numbers after their code
 unfoldable pub numbered : Edition → (code : ℕ) → List ℕ → Frame

@@ -2,7 +2,8 @@
 use mathlib.Core.Path.{sym, ap, _∙_}
 use borrow.Author.Needs.{needs}
 use borrow.Author.Tests.{not-false, not-true}
-use Rattle.frame.specs.route.Reading.{codeEdition, numbered}
+use Rattle.frame_numbers.specs.route.Numbers.{codeEdition}
+use Rattle.frame.specs.route.Reading.{numbered}
 use Rattle.frame.proofs.Rows.{no-digits, numbers-row, too-short}
 use Rattle.frame.proofs.reading.decode.Statement.{statement}
 use Rattle.frame.proofs.reading.decode.Tie as tie

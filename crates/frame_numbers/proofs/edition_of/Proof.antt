@@ -5,9 +5,9 @@ use borrow.Author.Tests.{eq-eqb, ne-eqb}
 use Rattle.word.specs.declared.Edition.the-variants.{New}
 use Rattle.word.specs.declared.Terms.{Terms}
 use Rattle.word.specs.Edition.{terms}
-use Rattle.frame.specs.route.Reading.{codeEdition}
-use Rattle.frame.proofs.reading.edition_of.Statement.{statement}
-use Rattle.frame.proofs.reading.edition_of.Tie as tie
+use Rattle.frame_numbers.specs.route.Numbers.{codeEdition}
+use Rattle.frame_numbers.proofs.edition_of.Statement.{statement}
+use Rattle.frame_numbers.proofs.edition_of.Tie as tie
 
 terms-requires : tie.Need-terms-requires
 terms-requires c κs = search needs
