@@ -17,7 +17,7 @@ fn main() {
     let came = turn.came;
     if let Came::Nothing = came {
         let state = turn.state;
-        let n = feed::finish(state, &mut rows, &mut marks, &mut chain, &mut out);
+        let n = input_end::finish(state, &mut rows, &mut marks, &mut chain, &mut out);
         coming::send(&out[..n]);
     }
 }

@@ -5,8 +5,8 @@ use borrow.Author.Needs.{needs}
 use Rattle.fields.proofs.Lines.{put-none}
 use Rattle.exchange.specs.route.Statements.{no-line}
 use Rattle.exchange.proofs.Finishing.{fed-finished}
-use Rattle.feed.proofs.finish.Statement.{statement}
-use Rattle.feed.proofs.finish.Tie as tie
+use Rattle.input_end.proofs.finish.Statement.{statement}
+use Rattle.input_end.proofs.finish.Tie as tie
 
 returns : tie.Need-returns
 returns c = record { bytes = []; ends = no-line (c .if1 .taken); puts = put-none _ 0 (omega arith) }
