@@ -1,32 +1,18 @@
--- What the desk makes of what it reads, a turn at a time.
+-- What the desk makes of what it reads, turn after turn.
 use mathlib.Core.Path.{_≡_}
 use mathlib.Core.Bool.{Bool, false, true}
 use mathlib.Core.List.{List}
 use Prim.Native.Nat.{ℕ, suc}
-use lib.IntN.{ℤ}
-use lib.ListN.{length, take}
-use Rattle.io.specs.Counts.{clamped}
 use Rattle.sheet.specs.Record.{blank}
 use Rattle.exchange.specs.route.Begun.{none}
 use Rattle.exchange.specs.route.Desk.{Desk, desk}
 use Rattle.feed.specs.route.Statements.{deskOf}
 use Rattle.coming.specs.declared.Came.{Came}
 use Rattle.coming.specs.declared.Came.the-variants.{Interrupted}
-use Rattle.coming.specs.Calls.{cameTo, goesOn}
-use Rattle.serving.specs.Passed.{Passed}
+use Rattle.coming.specs.Calls.{goesOn}
+use Rattle.one_turn.specs.declared.Turn.{Turn}
+use Rattle.one_turn.specs.Turned.{Turned}
 use Rattle.turns.specs.declared.Talk.{Talk}
-use Rattle.turns.specs.declared.Turn.{Turn}
-
--- a turn on a read's answer, with rows and marks as they are then: where the answers are taken, what was read went in whole
-pub record Hears (d : Desk) (got error : ℤ) (input : List ℕ) (r : Turn) (rows : List (List ℕ)) (marks : List ℕ) : Type 0 where
-  pub came : r .came ≡ cameTo got error
-  pub passed : r .taken ≡ true → Passed d (take (clamped got (length input)) input) (deskOf (r .state) rows marks)
-
--- a turn, whatever its read answered and left in the buffer
-pub record Turned (d : Desk) (input : List ℕ) (r : Turn) (rows : List (List ℕ)) (marks : List ℕ) : Type 0 where
-  pub got : ℤ
-  pub error : ℤ
-  pub hears : Hears d got error input r rows marks
 
 -- so many turns from the desk before the first byte, each on the desk that the one before it left
 pub data Turns : ℕ → Came → (taken : Bool) → Desk → Type 0 where

@@ -10,12 +10,12 @@ use lib.Seq.{length-take-le}
 use Rattle.exchange.specs.route.Desk.{Desk}
 use Rattle.feed.specs.route.Statements.{deskOf}
 use Rattle.coming.specs.declared.hearing.Hearing.{Hearing}
-use Rattle.turns.specs.declared.Turn.{Turn}
+use Rattle.one_turn.specs.declared.Turn.{Turn}
 use Rattle.serving.specs.Passed.{Passed}
 use Rattle.coming.specs.Calls.{Heard}
-use Rattle.turns.specs.Turns.{Turned}
-use Rattle.turns.proofs.take_turn.Statement.{statement}
-use Rattle.turns.proofs.take_turn.Tie as tie
+use Rattle.one_turn.specs.Turned.{Turned}
+use Rattle.one_turn.proofs.take_turn.Statement.{statement}
+use Rattle.one_turn.proofs.take_turn.Tie as tie
 
 -- what the read brought is what was heard of it
 turned-so : {d : Desk} {input : List ℕ} {r : Turn} {rows : List (List ℕ)} {marks : List ℕ} {got error : ℤ} (h : Hearing) → Heard got error input h
