@@ -11,7 +11,6 @@ ghost use Rattle.coming.specs.Calls.{goesOn};
 ghost use Rattle.one_turn.specs.Turned.{Turned};
 use coming::Came;
 use feed::State;
-use libc::STDIN_FILENO;
 use rows::NUMBERS;
 use rule::Rule;
 use sheet::Sheet;
@@ -48,8 +47,7 @@ pub fn take_turn(
     ensures { λ r. ⌜ Turned (deskOf (last .state) (now (rows .entry)) (now (marks .entry))) (now (input .exit)) r (now (rows .exit)) (now (marks .exit)) ⌝ }
     ensures { λ r. ⌜ Held (r .state .head) (now (rows .exit)) (now (marks .exit)) × (length (now (chain .exit)) ≡ chainRoom RULES) ⌝ }
 {
-    let got = libc::read(STDIN_FILENO, &mut *input);
-    let heard = coming::hear(got, os::errno(), &*input);
+    let heard = one_read::listen(&mut *input);
     let state = last.state;
     let came = heard.came;
     let n = heard.count;
