@@ -9,7 +9,7 @@ use Rattle.chain.specs.Findings.{findings}
 use Rattle.page.specs.Calls.{ask, firstThatApplies, isBlank, refusal, rulesOf}
 use Rattle.page.specs.Page.{Page, widthOf}
 use Rattle.page.specs.Reached.{Reached}
-use Rattle.sheet.specs.declared.Reply.{Reply}
+use Rattle.slate_ask.specs.declared.Reply.{Reply}
 use Rattle.sheet.specs.declared.Sheet.{Sheet}
 use Rattle.sheet.specs.Record.{fresh}
 use Rattle.sheet.specs.Statements.{Asked}

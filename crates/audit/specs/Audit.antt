@@ -8,7 +8,7 @@ use Rattle.rule.specs.declared.Rule.{Rule}
 use Rattle.verdict.specs.declared.Kept.{Kept}
 use Rattle.page.specs.declared.Opening.{Opening}
 use Rattle.page.specs.Calls.{Call, add, open-at}
-use Rattle.sheet.specs.declared.Reply.{Reply}
+use Rattle.slate_ask.specs.declared.Reply.{Reply}
 use Rattle.sheet.specs.declared.Sheet.{Sheet}
 use Rattle.sheet.specs.Statements.{Asked}
 use Rattle.counting.specs.declared.Share.{Share}

@@ -17,7 +17,7 @@ use Rattle.chain.specs.Links.{links, numbersOf}
 use Rattle.chain.proofs.Cover.{chain-covers}
 use Rattle.chain.proofs.Steps.{chain-is}
 use Rattle.chain.proofs.Walk.{none-fits, numbers-length}
-use Rattle.sheet.specs.declared.Reply.{Reply}
+use Rattle.slate_ask.specs.declared.Reply.{Reply}
 use Rattle.sheet.specs.declared.Sheet.{Sheet}
 use Rattle.page.specs.Calls.{ask, refusal, rulesOf}
 use Rattle.page.specs.Page.{OpenPage, Page, entriesOf, no-page, page, rulesOn, widthOf}

@@ -13,7 +13,7 @@ use Rattle.page.specs.Calls.{after, open-at, refusal}
 use Rattle.page.specs.declared.Opening.{Opening}
 use Rattle.page.specs.Page.{Page, no-page}
 use Rattle.page.specs.Reached.{Reached, start}
-use Rattle.sheet.specs.declared.Reply.{Reply}
+use Rattle.slate_ask.specs.declared.Reply.{Reply}
 use Rattle.sheet.specs.declared.Sheet.{Sheet}
 use Rattle.sheet.specs.Statements.{Asked, refuses}
 use Rattle.demands.proofs.Demand.{after-reached}

@@ -43,7 +43,7 @@ pub fn beginning(
     if stopped != 0 {
         return placed(sheet::refusal(stopped), place);
     }
-    let reply = laid::ask(head, &rows, &marks, &mut *out);
+    let reply = laid::ask(head, &rows, &mut *out);
     placed(reply, place)
 }
 

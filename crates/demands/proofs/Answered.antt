@@ -13,7 +13,7 @@ use Rattle.chain.specs.Findings.{chainFor, findings}
 use Rattle.chain.specs.Links.{chainRoom, numbersOf}
 use Rattle.chain.proofs.Steps.{chain-is}
 use Rattle.chain.proofs.Walk.{none-fits}
-use Rattle.sheet.specs.declared.Reply.{Reply}
+use Rattle.slate_ask.specs.declared.Reply.{Reply}
 use Rattle.sheet.specs.declared.Sheet.{Sheet}
 use Rattle.page.specs.Calls.{rulesOf}
 use Rattle.demands.specs.Demands.{AskedRight}

@@ -14,7 +14,7 @@ use Rattle.word.proofs.Tests.{both-pass}
 use Rattle.verdict.specs.Demand.{Right}
 use Rattle.verdict.proofs.Right.{kept-right}
 use Rattle.sheet.specs.declared.Answer.{Answer}
-use Rattle.sheet.specs.declared.Reply.{Reply}
+use Rattle.slate_ask.specs.declared.Reply.{Reply}
 use Rattle.sheet.specs.declared.Sheet.{Sheet}
 use Rattle.page.specs.Calls.{Call, accepts, add, after, ask, back, clerk, forward, grounds, mark, open-at, refusal, replay, set-gate, written}
 use Rattle.demands.specs.Demands.{FreshlyGiven}

@@ -15,7 +15,7 @@ use Rattle.page.specs.Calls.{firstThatApplies, ground, grounds, isBlank, refusa
 use Rattle.page.specs.Page.{OpenPage, Page, entriesOf, no-page, page, rulesOn, widthOf}
 use Rattle.page.specs.Reached.{Reached}
 use Rattle.page.proofs.Lawful.{reached-lawful}
-use Rattle.sheet.specs.declared.Reply.{Reply}
+use Rattle.slate_ask.specs.declared.Reply.{Reply}
 use Rattle.sheet.specs.declared.Sheet.{Sheet}
 use Rattle.sheet.specs.Record.{fresh}
 use Rattle.sheet.specs.Statements.{Asked, IsSheet, chainOn, overlaid, refuses, replies, reply}

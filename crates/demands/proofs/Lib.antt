@@ -3,3 +3,4 @@ pub mod Answered
 pub mod Demand
 pub mod Editions
 pub mod Unique
+pub mod Whole

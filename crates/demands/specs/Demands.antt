@@ -7,7 +7,7 @@ use Rattle.rule.specs.declared.Rule.{Rule}
 use Rattle.verdict.specs.Demand.{Right}
 use Rattle.chain.specs.declared.Link.{Link}
 use Rattle.chain.specs.Chain.{IsChain}
-use Rattle.sheet.specs.declared.Reply.{Reply}
+use Rattle.slate_ask.specs.declared.Reply.{Reply}
 use Rattle.sheet.specs.declared.Sheet.{Sheet}
 use Rattle.page.specs.Calls.{replay}
 use Rattle.page.specs.Page.{Page}

@@ -14,7 +14,7 @@ use Rattle.page.specs.Page.{Page, at-width}
 use Rattle.page.specs.Reached.{Reached, start}
 use Rattle.page.proofs.Replayed.{after-reached}
 use Rattle.sheet.specs.declared.Answer.{Answer}
-use Rattle.sheet.specs.declared.Reply.{Reply}
+use Rattle.slate_ask.specs.declared.Reply.{Reply}
 use Rattle.sheet.specs.declared.Sheet.{Sheet}
 use Rattle.sheet.specs.Record.{fresh}
 use Rattle.sheet.specs.route.Stands.{Stands, blank-sheet, no-sheet, on-page}

@@ -9,7 +9,7 @@ use Rattle.rule.specs.Meaning.{RULES}
 use Rattle.verdict.specs.declared.Kept.{Kept}
 use Rattle.chain.specs.declared.Link.{Link}
 use Rattle.chain.specs.Links.{mostLinks}
-use Rattle.sheet.specs.declared.Reply.{Reply}
+use Rattle.slate_ask.specs.declared.Reply.{Reply}
 use Rattle.fields.specs.Fields.{BYTE, DIGITS, Line, byte, digitsIn, word}
 
 abbrev pub NEWLINE : ℕ

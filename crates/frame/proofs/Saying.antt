@@ -11,7 +11,7 @@ use Rattle.rule.specs.Meaning.{RULES}
 use Rattle.chain.specs.declared.Link.{Link}
 use Rattle.chain.specs.Links.{chainRoom, numbersOf, mostLinks}
 use Rattle.chain.proofs.Walk.{numbers-length}
-use Rattle.sheet.specs.declared.Reply.{Reply}
+use Rattle.slate_ask.specs.declared.Reply.{Reply}
 use Rattle.sheet.specs.declared.Sheet.{Sheet}
 use Rattle.page.specs.Calls.{ask, refusal}
 use Rattle.page.specs.Page.{Page}

@@ -10,7 +10,7 @@ use Rattle.slate.specs.declared.Head.{Head}
 use Rattle.slate.specs.route.Held.{Held}
 use Rattle.sheet.specs.route.Held.{packed}
 use Rattle.sheet.specs.route.Laid.{After}
-use Rattle.sheet.specs.declared.Reply.{Reply}
+use Rattle.slate_ask.specs.declared.Reply.{Reply}
 use Rattle.sheet.specs.declared.Sheet.{Sheet}
 use Rattle.sheet.specs.Statements.{Asked}
 use Rattle.frame.specs.declared.Frame.{Frame}

@@ -45,7 +45,7 @@ pub fn call(
         Frame::Back => numbered(laid::back(head, &*rows, &*marks)),
         Frame::Ask => Called {
             head,
-            told: Told::Asking(laid::ask(head, &*rows, &*marks, &mut *chain)),
+            told: Told::Asking(laid::ask(head, &*rows, &mut *chain)),
         },
         Frame::Forward => numbered(laid::forward(head, &*rows, &*marks)),
         Frame::NoFrame => Called {

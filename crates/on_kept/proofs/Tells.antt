@@ -6,7 +6,7 @@ use Prim.Native.Nat.{ℕ}
 use lib.ListN.{length}
 use Rattle.page.specs.Page.{Page}
 use Rattle.page.specs.Reached.{Reached}
-use Rattle.sheet.specs.declared.Reply.{Reply}
+use Rattle.slate_ask.specs.declared.Reply.{Reply}
 use Rattle.sheet.specs.declared.Sheet.{Sheet}
 use Rattle.sheet.specs.Record.{fresh}
 use Rattle.sheet.specs.Statements.{Asked as AskedOf, IsSheet}

@@ -8,7 +8,7 @@ use Rattle.page.specs.Reached.{start}
 use Rattle.word.specs.declared.Edition.the-variants.{New}
 use Rattle.page.specs.Page.{at-width}
 use Rattle.sheet.specs.declared.Answer.{Answer}
-use Rattle.sheet.specs.declared.Reply.{Reply}
+use Rattle.slate_ask.specs.declared.Reply.{Reply}
 use Rattle.sheet.specs.declared.Sheet.{Sheet}
 use Rattle.sheet.specs.route.Stands.{Stands, blank-sheet, no-sheet, on-page}
 use Rattle.sheet.proofs.OnePage.{one-page}

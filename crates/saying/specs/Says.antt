@@ -11,7 +11,7 @@ use Rattle.watts.specs.Watts.{limitOf}
 use Rattle.page.specs.Calls.{Call, add, back, forward, mark, open-at, set-gate}
 use Rattle.page.specs.Page.{at-width}
 use Rattle.sheet.specs.declared.Answer.{Answer}
-use Rattle.sheet.specs.declared.Reply.{Reply}
+use Rattle.slate_ask.specs.declared.Reply.{Reply}
 use Rattle.sheet.specs.declared.Sheet.{Sheet}
 use Rattle.sheet.specs.route.Stands.{Stands}
 use Rattle.sheet.specs.Statements.{Asked, Outcome}

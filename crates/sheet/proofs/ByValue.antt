@@ -1,66 +1,43 @@
--- A call by value: it starts from empty rows and marks, and what the call on the slate answers is the outcome on the record that
--- was laid out. Assumes nothing.
-use mathlib.Core.Path.{_≡_, refl, sym, ap, ap₂, _∙_, subst, subst₂}
-use mathlib.Core.List.{List, [], _∷_, map}
+-- A call by value: what the call on the slate answers is the outcome on the record that was laid out. Assumes nothing.
+use mathlib.Core.Path.{_≡_, refl, sym, ap, _∙_, subst, subst₂}
+use mathlib.Core.List.{List}
 use Prim.Native.Nat.{ℕ}
-use lib.ListN.{replicate}
-use Rattle.rule.specs.declared.Rule.{Rule}
-use Rattle.rule.specs.Meaning.{RULES}
-use Rattle.rows.specs.route.Bands.{blankBand}
-use Rattle.rows.specs.route.Rows.{bareRow, noRow, rulesIn}
-use Rattle.rows.proofs.Reading.{rule-of}
-use Rattle.sheet.specs.declared.Answer.{Answer}
-use Rattle.slate.specs.declared.Head.{Head}
-use Rattle.sheet.specs.declared.Reply.{Reply}
-use Rattle.sheet.specs.declared.Sheet.{Sheet}
-use Rattle.page.specs.Calls.{Call, open-at, refusal}
-use Rattle.slate.specs.route.Held.{Room, foundTo}
-use Rattle.sheet.specs.route.Held.{packed}
-use Rattle.sheet.specs.route.Shape.{untested}
-use Rattle.sheet.specs.declared.Call.{Call as Made}
-use Rattle.sheet.specs.route.Laid.{After, callOf}
+use Rattle.page.specs.Calls.{open-at, refusal}
 use Rattle.page.specs.declared.Opening.{Opening}
-use Rattle.page.specs.Page.{MARKS, no-page}
+use Rattle.page.specs.Page.{no-page}
+use Rattle.slate.specs.declared.Head.{Head}
+use Rattle.slate_make.specs.declared.Call.{Call as Made}
+use Rattle.slate_ask.specs.declared.Reply.{Reply}
+use Rattle.slate_whole.specs.declared.Whole.{Whole}
+use Rattle.slate_whole.specs.route.Whole.{AskedWhole, CalledWhole, wholeOf}
+use Rattle.sheet.specs.declared.Answer.{Answer}
+use Rattle.sheet.specs.declared.Sheet.{Sheet}
+use Rattle.sheet.specs.route.Held.{packed, sheetOf}
+use Rattle.sheet.specs.route.Laid.{callOf}
 use Rattle.sheet.specs.Statements.{Asked, Outcome, answers, opened}
+use Rattle.sheet.proofs.Asking.{ask-after}
+use Rattle.sheet.proofs.Made.{made-after}
 use Rattle.sheet.proofs.Ways.{accepted-open, refused-open}
 
-pub empty-room : Room (replicate RULES noRow) (replicate MARKS 0)
-empty-room = record { rows-places = refl; marks-places = refl }
+-- a slate and the value that it is as one stand for one record
+same-record : (h : Head) (rows : List (List ℕ)) (marks : List ℕ) → packed h rows marks ≡ sheetOf (wholeOf h rows marks)
+unfolding packed wholeOf
+same-record h rows marks = refl
 
--- the rules of a record, laid out with no bands yet
-pub rules-bare : (rs : List Rule) → rulesIn (map bareRow rs) ≡ rs
-unfolding bareRow
-rules-bare [] = refl
-rules-bare (r ∷ rs) = ap₂ _∷_ (rule-of r blankBand) (rules-bare rs)
+module _ {s : Sheet} (v : Whole) (same : sheetOf v ≡ s) where
+  pub packed-whole : (h : Head) (rows : List (List ℕ)) (marks : List ℕ) → wholeOf h rows marks ≡ v → packed h rows marks ≡ s
+  packed-whole h rows marks e = same-record h rows marks ∙ ap sheetOf e ∙ same
 
--- a slate that was laid out and tested stands for the record
-pub laid-out : (s : Sheet) {k : Head} (rows : List (List ℕ)) {marks : List ℕ} → k ≡ foundTo (untested s) (k .stands) (k .fixed) → rulesIn rows ≡ s .rules
-    → marks ≡ s .marks → packed k rows marks ≡ s
-unfolding packed
-laid-out s rows e r m =
-    λ i. record {
-      width = e i .opening .width;
-      rules = r i;
-      count = e i .counts .count;
-      marks = m i;
-      marked = e i .counts .marked;
-      kept = e i .kept;
-      given = e i .counts .given;
-      waiting = e i .counts .waiting;
-      edition = e i .opening .edition;
-    }
+  pub by-value : {c : Made} {n : ℕ} {v′ : Whole} {t : Sheet} → CalledWhole v c n v′ → t ≡ sheetOf v′ → Outcome s (callOf c) (answers n t)
+  by-value {c} {n} p e =
+      let f = p .from in
+      subst₂ (λ (u t : Sheet). Outcome u (callOf c) (answers n t)) (packed-whole (f .head) (f .rows) (f .marks) (f .same))
+      (same-record (p .head) (p .rows) (p .marks) ∙ ap sheetOf (sym (p .left)) ∙ sym e) (made-after (f .held) (p .makes) .outcome)
 
--- the call that a value asks for, where the value is known
-pub as-made : {s : Sheet} {a b : Made} {n : ℕ} {h : Head} {rows : List (List ℕ)} {marks : List ℕ} → a ≡ b → After s (callOf b) n h rows marks
-    → After s (callOf a) n h rows marks
-as-made {s} {n = n} {h = h} {rows = rows} {marks = marks} e p = subst (λ (k : Made). After s (callOf k) n h rows marks) (sym e) p
-
-pub by-value : {s t : Sheet} {c : Call} {r : Answer} {n : ℕ} {h : Head} {rows : List (List ℕ)} {marks : List ℕ}
-    → t ≡ s → After t c n h rows marks → r ≡ answers n (packed h rows marks) → Outcome s c r
-by-value {c = c} laid after e = subst₂ (λ (u : Sheet) (r : Answer). Outcome u c r) laid (sym e) (after .outcome)
-
-pub asked-by-value : {s t : Sheet} {b b′ : List ℕ} {r : Reply} → t ≡ s → Asked t b b′ r → Asked s b b′ r
-asked-by-value {b = b} {b′ = b′} {r = r} laid asked = subst (λ (u : Sheet). Asked u b b′ r) laid asked
+  pub asked-by-value : {b b′ : List ℕ} {r : Reply} → AskedWhole v b b′ r → Asked s b b′ r
+  asked-by-value {b} {b′} {r} p =
+      let f = p .from in
+      subst (λ (u : Sheet). Asked u b b′ r) (packed-whole (f .head) (f .rows) (f .marks) (f .same)) (ask-after (f .held) (p .asks))
 
 -- an opening is the same on any record
 module _ (s t : Sheet) (g : Opening) (a : Answer) (outcome : Outcome t (open-at g) a) where

@@ -1,7 +1,9 @@
 pub mod Added
+pub mod Asking
 pub mod ByValue
 pub mod Fresh
 pub mod Holding
+pub mod Made
 pub mod Marked
 pub mod Moved
 pub mod OnePage

@@ -14,7 +14,7 @@ use Rattle.verdict.specs.Kept.{kept}
 use Rattle.chain.specs.declared.Link.{Link}
 use Rattle.chain.specs.Findings.{findings, chainFor}
 use Rattle.chain.specs.Links.{chainRoom, numbersOf, links}
-use Rattle.sheet.specs.declared.Reply.{Reply}
+use Rattle.slate_ask.specs.declared.Reply.{Reply}
 use Rattle.sheet.specs.declared.Sheet.{Sheet}
 use Rattle.page.specs.Calls.{ask, refusal, rulesOf}
 use Rattle.page.specs.Page.{Page, entriesOf, no-page, rulesOn, widthOf}

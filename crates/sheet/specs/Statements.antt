@@ -5,13 +5,12 @@ use mathlib.Core.List.{List, [], _∷_, _++_}
 use Prim.Native.Nat.{ℕ, _*_}
 use lib.Dec.{eqb}
 use lib.ListN.{drop, length}
-use Rattle.verdict.specs.declared.Kept.{Kept}
-use Rattle.verdict.specs.Kept.{keeps}
 use Rattle.chain.specs.declared.Link.{Link}
 use Rattle.chain.specs.Links.{numbersOf}
 use Rattle.chain.specs.Findings.{findings}
+use Rattle.slate_ask.specs.declared.Reply.{Reply}
+pub use Rattle.slate_ask.specs.Reply.{refuses, replies}
 use Rattle.sheet.specs.declared.Answer.{Answer}
-use Rattle.sheet.specs.declared.Reply.{Reply}
 use Rattle.sheet.specs.declared.Sheet.{Sheet}
 use Rattle.page.specs.Calls.{Call, add, after, ask, back, forward, mark, open-at, refusal, rulesOf, set-gate}
 use Rattle.page.specs.declared.Opening.{Opening}
@@ -49,13 +48,6 @@ Outcome s back r = Reads s back r
 Outcome s forward r = Reads s forward r
 Outcome s (ask m) r = ⊥
 Outcome s (set-gate g) r = Reads s (set-gate g) r
-
-abbrev pub replies : ℕ → Kept → ℕ → Reply
-replies n k l = record { number = n; kept = k; links = l }
-
--- "A refusal answers its number, with zeros in the answer's other places"
-abbrev pub refuses : ℕ → Reply
-refuses n = replies n (keeps 0 0 0) 0
 
 -- the links that asking writes with m numbers lent: none where it is refused
 unfoldable pub chainOn : Page → ℕ → List Link

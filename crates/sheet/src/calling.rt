@@ -1,18 +1,18 @@
-// The calls that change a sheet, each by value: the record is laid out on a slate, the call is made there, and the record is packed again.
+// The calls by value: the record is handed over whole to where it is laid out on a slate, the call is made there, and what comes back is a record
+// again.
+ghost use mathlib.Core.Path.{_≡_};
 ghost use Rattle.page.specs.Calls.{add, back, forward, mark, open-at};
-ghost use Rattle.slate.specs.route.Held.{Held};
-ghost use Rattle.sheet.specs.route.Held.{packed};
-ghost use Rattle.sheet.specs.route.Laid.{After, callOf};
-ghost use Rattle.sheet.specs.Statements.{Outcome};
+ghost use Rattle.sheet.specs.route.Held.{sheetOf};
+ghost use Rattle.sheet.specs.route.Laid.{callOf};
+ghost use Rattle.sheet.specs.Statements.{Asked, Outcome};
 use crate::Answer;
 use crate::Call;
+use crate::Reply;
 use crate::Sheet;
-use crate::laid;
 use page::Opening;
-use rows::NUMBERS;
 use rule::Rule;
-use slate::Head;
-use slate::Said;
+use slate::Counts;
+use slate_whole::Whole;
 use word::Edition;
 
 impl Sheet {
@@ -59,39 +59,70 @@ impl Sheet {
     {
         called(self, Call::Forward)
     }
+
+    // Says what is kept and, for "none", writes the chain. The sheet stays as it is.
+    pub fn ask(self, out: &mut [u64]) -> Reply
+        ensures { λ r. ⌜ Asked self (now (out .entry)) (now (out .exit)) r ⌝ }
+    {
+        slate_whole::ask(whole(self), &mut *out)
+    }
 }
 
 // A call on a record, sheet or not.
 fn called(sheet: Sheet, call: Call) -> Answer
     ensures { λ r. ⌜ Outcome sheet (callOf call) r ⌝ }
 {
-    let mut rows = [[0; NUMBERS]; Rule::LIMIT];
-    let mut marks: [usize; Sheet::MARKS] = [0; Sheet::MARKS];
-    let head = laid::lay_out(sheet, &mut rows, &mut marks);
-    let said = make(head, &mut rows, &mut marks, call);
-    let then = said.head;
-    let sheet = laid::pack(then, &rows, &marks);
-    Answer {
-        number: said.number,
-        sheet,
+    let after = slate_whole::call(whole(sheet), call);
+    let left = after.whole;
+    let number = after.number;
+    let sheet = sheet_of(left);
+    Answer { number, sheet }
+}
+
+// A record's numbers, as a slate has them.
+pub fn whole(sheet: Sheet) -> Whole
+    ensures { λ r. ⌜ sheetOf r ≡ sheet ⌝ }
+{
+    let edition = sheet.edition;
+    let kept = sheet.kept;
+    let rules = sheet.rules;
+    let marks = sheet.marks;
+    Whole {
+        opening: Opening {
+            width: sheet.width,
+            edition,
+        },
+        counts: Counts {
+            count: sheet.count,
+            marked: sheet.marked,
+            given: sheet.given,
+            waiting: sheet.waiting,
+        },
+        kept,
+        rules,
+        marks,
     }
 }
 
-// A call on a slate.
-fn make(
-    head: Head,
-    rows: &mut [[u64; NUMBERS]; Rule::LIMIT],
-    marks: &mut [usize; Sheet::MARKS],
-    call: Call,
-) -> Said
-    requires { ⌜ Held head (now rows) (now marks) ⌝ }
-    ensures { λ r. ⌜ After (packed head (now (rows .entry)) (now (marks .entry))) (callOf call) (r .number) (r .head) (now (rows .exit)) (now (marks .exit)) ⌝ }
+// The record of such numbers.
+fn sheet_of(whole: Whole) -> Sheet
+    ensures { λ r. ⌜ r ≡ sheetOf whole ⌝ }
 {
-    match call {
-        Call::Open(opening) => slate_calls::open(head, &mut *rows, &mut *marks, opening),
-        Call::Add(edition, rule) => slate_add::add(head, &mut *rows, &mut *marks, edition, rule),
-        Call::Mark => slate_calls::mark(head, &mut *rows, &mut *marks),
-        Call::Back => slate_calls::back(head, &*rows, &*marks),
-        Call::Forward => slate_calls::forward(head, &*rows, &*marks),
+    let opening = whole.opening;
+    let edition = opening.edition;
+    let counts = whole.counts;
+    let kept = whole.kept;
+    let rules = whole.rules;
+    let marks = whole.marks;
+    Sheet {
+        width: opening.width,
+        rules,
+        count: counts.count,
+        marks,
+        marked: counts.marked,
+        kept,
+        given: counts.given,
+        waiting: counts.waiting,
+        edition,
     }
 }

@@ -3,16 +3,16 @@
 ghost use mathlib.Core.Path.{_≡_};
 ghost use Rattle.sheet.specs.Record.{blank};
 
-mod asking;
 mod calling;
 pub mod laid;
 
-pub use asking::refusal;
 use chain::Link;
-use page::Opening;
 use rule::Rule;
 pub use slate::Head;
 pub use slate::Said;
+pub use slate_ask::Reply;
+pub use slate_ask::refusal;
+pub use slate_make::Call;
 use verdict::Kept;
 use word::Edition;
 
@@ -35,22 +35,6 @@ pub struct Sheet {
 pub struct Answer {
     pub number: u64,
     pub sheet: Sheet,
-}
-
-// A call that changes a sheet. An opening and an add are frames of an edition.
-pub enum Call {
-    Open(Opening),
-    Add(Edition, Rule),
-    Mark,
-    Back,
-    Forward,
-}
-
-// What asking answers: 0 or the number of a refusal, what is kept, and how many links were written.
-pub struct Reply {
-    pub number: u64,
-    pub kept: Kept,
-    pub links: usize,
 }
 
 impl Sheet {

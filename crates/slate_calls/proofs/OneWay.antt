@@ -17,15 +17,14 @@ use Rattle.rows.specs.route.Rows.{bandsIn, rulesIn}
 use Rattle.slate.specs.declared.Counts.{Counts}
 use Rattle.slate.specs.declared.Head.{Head}
 use Rattle.slate.specs.route.Held.{Beside, headOf}
-use Rattle.slate.specs.route.Numbers.{before}
-use Rattle.stepping.specs.route.Steps.{Backs, Forwards, Refused, backHead, forwardHead}
+use Rattle.stepping.specs.route.Steps.{Backs, Forwards, backHead, forwardHead}
 use Rattle.slate_calls.specs.route.Done.{Adds, Marks, Opens, newHead, withOne}
 use Rattle.slate_calls.specs.route.Done.Adds.{added, refused}
 use Rattle.stepping.specs.route.Steps.Backs.{goes-back, stays}
 use Rattle.stepping.specs.route.Steps.Forwards.{goes-on, remains}
 use Rattle.slate_calls.specs.route.Done.Marks.{marked, unmarked}
 use Rattle.slate_calls.specs.route.Done.Opens.{narrow, opened, wide}
-use Rattle.stepping.specs.route.Steps.Refused.{before-first, own-ground}
+use Rattle.stepping.proofs.Refusing.{no-refusal, one-number}
 
 -- what two outcomes share: the number, the head, the rules and the marks, and the bands of the rules given
 pub record Alike (n m : ℕ) (h k : Head) (rows rows′ : List (List ℕ)) (marks marks′ : List ℕ) : Type 0 where
@@ -46,18 +45,6 @@ module _ {g : Opening} {c : Counts} {k k′ : Kept} {f f′ : Fixed} {rows rows�
 
   same-bits : f ≡ f′
   same-bits = b .drawn .bits ∙ ap (λ (rs : List Rule). fixedBits (take (c .count) rs)) same ∙ sym (b′ .drawn .bits)
-
--- the number of a refusal is one, and is not 0
-one-number : {h : Head} {own n m : ℕ} {Ground : Type 0} → Refused h own Ground n → Refused h own Ground m → n ≡ m
-one-number (before-first a p) (before-first b q) = a ∙ sym b
-one-number (before-first a p) (own-ground b g) = absurd (p (a ∙ b))
-one-number (own-ground a g) (before-first b q) = absurd (q (b ∙ a))
-one-number (own-ground a g) (own-ground b k) = refl
-
--- a refusal, where nothing comes before the table and the ground is not there
-no-refusal : {h : Head} {own n : ℕ} {Ground : Type 0} → before (h .stands) (h .opening .width) ≡ 0 → (Ground → ⊥) → Refused h own Ground n → ⊥
-no-refusal e out (before-first a p) = p (a ∙ e)
-no-refusal e out (own-ground a g) = out g
 
 module _ {h : Head} {rows : List (List ℕ)} {marks : List ℕ} where
   pub one-opening : {g : Opening} {n n′ : ℕ} {k k′ : Head} {rs rs′ : List (List ℕ)} {ms ms′ : List ℕ} → Opens h rows marks g n k rs ms → Opens h rows marks g n′ k′ rs′ ms′

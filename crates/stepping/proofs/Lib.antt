@@ -1,3 +1,4 @@
 pub mod Moved
+pub mod Refusing
 pub mod SteppedBack
 pub mod SteppedForward

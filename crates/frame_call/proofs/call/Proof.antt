@@ -4,6 +4,7 @@ use borrow.Author.Needs.{needs}
 use Rattle.page.specs.Calls.{add, back, forward, mark, open-at}
 use Rattle.frame.specs.Calls.{callOf}
 use Rattle.sheet.proofs.Added.{add-after}
+use Rattle.sheet.proofs.Asking.{ask-after}
 use Rattle.sheet.proofs.Marked.{mark-after}
 use Rattle.sheet.proofs.Opened.{open-after}
 use Rattle.sheet.proofs.SteppedBack.{back-after}
@@ -52,7 +53,7 @@ enum-told-3 : tie.Need-enum-told-3
 enum-told-3 c = search needs
 
 ask-requires : tie.Need-ask-requires
-ask-requires c κs = search needs
+ask-requires c κs = (_, c .before .before .before .before .pre .0)
 
 enum-told-4 : tie.Need-enum-told-4
 enum-told-4 c = search needs
@@ -92,8 +93,8 @@ returns-4 c =
 
 returns-5 : tie.Need-returns-5
 returns-5 c =
-    let s = c .before .before .before .before .before .before in
-    reply-comes (s .pre .0) (s .pre .1) (c .before .before .before .before .enum-told3 .given .1) (c .ask .kept .1 .1 .1 .0 ∙ s .pre .1) (c .ask .ensures)
+    let s = c .before .before .before .before .before in
+    reply-comes (s .pre .0) (s .pre .1) (c .before .before .before .enum-told3 .given .1) (c .ask .kept .1 .1 .0 ∙ s .pre .1) (ask-after (s .pre .0) (c .ask .ensures))
 
 returns-6 : tie.Need-returns-6
 unfolding callOf

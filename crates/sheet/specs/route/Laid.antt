@@ -3,8 +3,8 @@ use mathlib.Core.List.{List}
 use Prim.Native.Nat.{ℕ}
 use Rattle.sheet.specs.declared.Sheet.{Sheet}
 use Rattle.page.specs.Calls.{Call, add, back, forward, mark, open-at}
-use Rattle.sheet.specs.declared.Call.{Call as Made}
-use Rattle.sheet.specs.declared.Call.the-variants.{Add, Back, Forward, Mark, Open}
+use Rattle.slate_make.specs.declared.Call.{Call as Made}
+use Rattle.slate_make.specs.declared.Call.the-variants.{Add, Back, Forward, Mark, Open}
 use Rattle.sheet.specs.Statements.{Outcome, answers}
 use Rattle.slate.specs.declared.Head.{Head}
 use Rattle.slate.specs.route.Held.{Held}

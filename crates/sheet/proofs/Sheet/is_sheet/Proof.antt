@@ -3,7 +3,7 @@ use mathlib.Core.Path.{sym, ap, _∙_}
 use lib.ListN.{length}
 use Rattle.sheet.specs.declared.Sheet.{Sheet}
 use Rattle.sheet.specs.route.Shape.{isSheet}
-use Rattle.sheet.proofs.ByValue.{empty-room}
+use Rattle.slate_whole.proofs.Laying.{empty-room}
 use Rattle.sheet.proofs.Holding.{marks-length, packed-told, rules-length}
 use Rattle.sheet.proofs.Tested.{passes-sheet, sheet-passes}
 use Rattle.sheet.proofs.Sheet.is_sheet.Statement.{statement}

@@ -1,24 +1,22 @@
--- `called` meets its contract: the call is made on the slate, which holds the record. Assumes nothing.
-use mathlib.Core.Path.{ap}
+-- `called` meets its contract: the call is made on a value that has the record's numbers. Assumes nothing.
 use borrow.Author.Needs.{needs}
-use Rattle.sheet.specs.Statements.{answers}
-use Rattle.sheet.proofs.ByValue.{by-value, empty-room}
+use Rattle.sheet.proofs.ByValue.{by-value}
 use Rattle.sheet.proofs.calling.called.Statement.{statement}
 use Rattle.sheet.proofs.calling.called.Tie as tie
 
-lay-out-requires : tie.Need-lay-out-requires
-lay-out-requires c κs = empty-room
+whole-requires : tie.Need-whole-requires
+whole-requires c κs = search needs
 
-make-requires : tie.Need-make-requires
-make-requires c κs = search needs
+call-requires : tie.Need-call-requires
+call-requires c κs = search needs
 
-pack-requires : tie.Need-pack-requires
-pack-requires c κs = c .before .before .before .make .ensures .held .room .rows-places
+sheet-of-requires : tie.Need-sheet-of-requires
+sheet-of-requires c κs = search needs
 
 returns : tie.Need-returns
 returns c =
-    let m = c .before .before .before .before in
-    by-value (m .before .before .before .lay-out .ensures .0) (m .make .ensures) (ap (answers _) (c .pack .ensures))
+    let a = c .before .before in
+    by-value (a .before .whole .result) (a .before .whole .ensures) (a .call .ensures) (c .sheet-of .ensures)
 
 pub called-spec : {M : Type 1} → statement M
-called-spec = tie.close (tie.spec lay-out-requires make-requires pack-requires returns)
+called-spec = tie.close (tie.spec whole-requires call-requires sheet-of-requires returns)

@@ -1,36 +1,20 @@
--- `lay_out` meets its contract: the rows and marks hold the record, the head has its numbers, and the test leaves the rules. Assumes nothing.
-use mathlib.Core.Path.{ap, _∙_}
+-- `lay_out` meets its contract: the value that is laid out has the record's numbers. Assumes nothing.
 use borrow.Author.Needs.{needs}
-use Rattle.rows.specs.route.Rows.{rulesIn}
-use Rattle.slate.specs.declared.Head.{Head}
-use Rattle.slate.specs.route.Held.{foundTo}
-use Rattle.sheet.proofs.ByValue.{laid-out, rules-bare}
+use Rattle.sheet.proofs.ByValue.{packed-whole}
 use Rattle.sheet.proofs.laid.lay_out.Statement.{statement}
 use Rattle.sheet.proofs.laid.lay_out.Tie as tie
+
+whole-requires : tie.Need-whole-requires
+whole-requires c κs = search needs
 
 lay-out-requires : tie.Need-lay-out-requires
 lay-out-requires c κs = search needs
 
-set-marks-requires : tie.Need-set-marks-requires
-set-marks-requires c κs = search needs
-
-of-requires : tie.Need-of-requires
-of-requires c κs = search needs
-
-tested-requires : tie.Need-tested-requires
-tested-requires c κs =
-    let m = c .before .before .before in
-    let o = m .before .before in
-    record { rows-places = o .lay-out .ensures .1; marks-places = m .set-marks .ensures .1 }
-
 returns : tie.Need-returns
 returns c =
-    let f = c .before .before .before in
-    let m = f .before in
-    let o = m .before .before in
-    let s = o .before .before .before .before .before in
-    let k = c .tested .result in
-    (laid-out (s .args .sheet) _ (c .tested .ensures .0 ∙ ap (λ (h : Head). foundTo h (k .stands) (k .fixed)) (f .of .ensures)) (c .tested .ensures .1 .0 ∙ ap rulesIn (o .lay-out .ensures .0) ∙ rules-bare _) (m .set-marks .ensures .0), c .tested .ensures .1 .1)
+    let l = c .lay-out .ensures in
+    let w = c .before .before .before .whole in
+    (packed-whole (w .result) (w .ensures) _ _ _ (l .0), l .1)
 
 pub lay-out-spec : {M : Type 1} → statement M
-lay-out-spec = tie.close (tie.spec lay-out-requires set-marks-requires of-requires tested-requires returns)
+lay-out-spec = tie.close (tie.spec whole-requires lay-out-requires returns)

@@ -1,38 +1,27 @@
-// Asking.
+// Asking on a slate: what is kept is said and, where no word fits, the chain is written. No mark is looked at, and nothing on the slate changes.
 ghost use mathlib.Core.Path.{_≡_};
+ghost use mathlib.Core.List.{List};
+ghost use Prim.Native.Nat.{ℕ};
 ghost use Rattle.slate.specs.route.Held.{Held};
-ghost use Rattle.sheet.specs.route.Held.{packed};
-ghost use Rattle.sheet.specs.Statements.{Asked, refuses};
-use crate::Reply;
-use crate::Sheet;
-use crate::laid;
+ghost use Rattle.slate_ask.specs.Reply.{refuses};
+ghost use Rattle.slate_ask.specs.route.Asks.{Asks};
 use rows::NUMBERS;
 use rule::Rule;
 use slate::Head;
 use verdict::Kept;
 use word::Width;
 
-impl Sheet {
-    // Says what is kept and, for "none", writes the chain. The sheet stays as it is.
-    pub fn ask(self, out: &mut [u64]) -> Reply
-        ensures { λ r. ⌜ Asked self (now (out .entry)) (now (out .exit)) r ⌝ }
-    {
-        let mut rows = [[0; NUMBERS]; Rule::LIMIT];
-        let mut marks: [usize; Sheet::MARKS] = [0; Sheet::MARKS];
-        let head = laid::lay_out(self, &mut rows, &mut marks);
-        ask(head, &rows, &marks, &mut *out)
-    }
+// What asking answers: 0 or the number of a refusal, what is kept, and how many links were written.
+pub struct Reply {
+    pub number: u64,
+    pub kept: Kept,
+    pub links: usize,
 }
 
-// Says what is kept and, for "none", writes the chain. Nothing else changes.
-pub fn ask(
-    head: Head,
-    rows: &[[u64; NUMBERS]; Rule::LIMIT],
-    marks: &[usize; Sheet::MARKS],
-    out: &mut [u64],
-) -> Reply
-    requires { ⌜ Held head (now rows) (now marks) ⌝ }
-    ensures { λ r. ⌜ Asked (packed head (now (rows .entry)) (now (marks .entry))) (now (out .entry)) (now (out .exit)) r ⌝ }
+// Says what is kept and, for "none", writes the chain.
+pub fn ask(head: Head, rows: &[[u64; NUMBERS]; Rule::LIMIT], out: &mut [u64]) -> Reply
+    requires { ⌜ ((marks : List ℕ) × Held head (now rows) marks) ⌝ }
+    ensures { λ r. ⌜ Asks head (now (rows .entry)) (now (out .entry)) (now (out .exit)) r ⌝ }
 {
     let number = slate::refuses(head);
     if number != 0 {
