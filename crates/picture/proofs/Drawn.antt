@@ -87,9 +87,6 @@ unfolding fixedBits fixedFrom
 alone-tidy r = fixed-tidy (r ∷ [])
 
 module _ {h : Head} {rows : List (List ℕ)} {marks : List ℕ} (held : Held h rows marks) (c : ℕ) where
-  abbrev s : Sheet
-  s = packed h rows marks
-
   abbrev w : ℕ
   w = h .opening .width
 
@@ -100,7 +97,7 @@ module _ {h : Head} {rows : List (List ℕ)} {marks : List ℕ} (held : Held h r
   abbrev test : Bool
   test = h .stands && (not (eqb w 0) && ltb c (columns w))
 
-  pub drawn-so : test ≡ drawable s c
+  pub drawn-so : test ≡ drawable (packed h rows marks) c
   unfolding drawable packed
   drawn-so = sym (ap (λ (b : Bool). b && (not (eqb w 0) && ltb c (columns w))) (packed-told h rows marks ∙ sym (held .tested)))
 
@@ -110,11 +107,11 @@ module _ {h : Head} {rows : List (List ℕ)} {marks : List ℕ} (held : Held h r
       let (b, d) = both-pass (not (eqb w 0)) _ r in
       (a, (λ z. false≢true (sym (not-true _ b) ∙ eq-eqb w 0 z)), ltb-true c (columns w) d)
 
-  module _ (v : Bool) (d : v ≡ drawable s c) where
-    pub all-as : cond v (columnCell w c (fits w own)) Nowhere ≡ allCell s c
+  module _ (v : Bool) (d : v ≡ drawable (packed h rows marks) c) where
+    pub all-as : cond v (columnCell w c (fits w own)) Nowhere ≡ allCell (packed h rows marks) c
     unfolding allCell packed
     all-as = ap (λ (b : Bool). cond b (columnCell w c (fits w own)) Nowhere) d
 
-    pub rule-as : (i : ℕ) {u : Bool} → ltb i (h .counts .count) ≡ u → cond (v && u) (columnCell w c (meets w (nth own i))) Nowhere ≡ ruleCell s i c
+    pub rule-as : (i : ℕ) {u : Bool} → ltb i (h .counts .count) ≡ u → cond (v && u) (columnCell w c (meets w (nth own i))) Nowhere ≡ ruleCell (packed h rows marks) i c
     unfolding ruleCell packed
     rule-as i e = ap₂ (λ (a b : Bool). cond (a && b) (columnCell w c (meets w (nth own i))) Nowhere) d (sym e)

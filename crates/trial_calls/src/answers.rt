@@ -4,6 +4,7 @@ use sheet::Answer;
 use sheet::Reply;
 use sheet::Sheet;
 use trial_direct::direct::UNTOUCHED;
+use trial_direct::rules;
 use verdict::Kept;
 
 // How many numbers a trial lends: one fewer than a sheet with one rule needs.
@@ -115,24 +116,11 @@ fn same_kept(a: Kept, b: Kept) -> bool {
 
 fn same_rules(a: [Rule; Rule::LIMIT], b: [Rule; Rule::LIMIT]) -> bool {
     for i in 0..Rule::LIMIT {
-        if !same_rule(a[i], b[i]) {
+        if !rules::same(a[i], b[i]) {
             return false;
         }
     }
     true
-}
-
-fn same_rule(a: Rule, b: Rule) -> bool {
-    if a.form != b.form {
-        return false;
-    }
-    if a.sense != b.sense {
-        return false;
-    }
-    if a.c1 != b.c1 {
-        return false;
-    }
-    a.c2 == b.c2
 }
 
 fn same_marks(a: [usize; Sheet::MARKS], b: [usize; Sheet::MARKS]) -> bool {

@@ -45,6 +45,20 @@ pub fn numbered(i: u64, width: Width) -> Rule
     )
 }
 
+// Whether two rules have the same numbers.
+pub fn same(a: Rule, b: Rule) -> bool {
+    if a.form != b.form {
+        return false;
+    }
+    if a.sense != b.sense {
+        return false;
+    }
+    if a.c1 != b.c1 {
+        return false;
+    }
+    a.c2 == b.c2
+}
+
 // The rule with the other sense.
 pub fn negated(rule: Rule) -> Rule {
     crate::rules::rule(rule.form, rule.sense ^ 1, rule.c1, rule.c2)

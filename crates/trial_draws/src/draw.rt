@@ -54,13 +54,16 @@ fn opens(seed: u64, width: u64) -> bool {
     kind == 0
 }
 
+pub fn either(seed: u64) -> Edition {
+    if seed / 0x1_0000 % 2 == 0 {
+        return Edition::Old;
+    }
+    Edition::New
+}
+
 // An opening in either edition. The width is mostly 1 to 6, where words are few and rules clash; else any, with some that are refused.
 fn anew(seed: u64) -> Opening {
-    let edition = if seed / 0x1_0000 % 2 == 0 {
-        Edition::Old
-    } else {
-        Edition::New
-    };
+    let edition = either(seed);
     let width = if seed % 8 == 0 {
         any_width(seed / 8, edition)
     } else {

@@ -5,7 +5,6 @@ use trial_direct::draw::next;
 use trial_gates::direct;
 use trial_gates::made;
 use trial_pages::clerk::Call;
-use word::Edition;
 
 const SIGN: u32 = 0x8000_0000;
 
@@ -70,11 +69,7 @@ fn sets(seed: u64, waits: bool) -> bool {
 
 // An opening in either edition, mostly of the width of gates, else of a neighbouring one.
 fn anew(seed: u64) -> Opening {
-    let edition = if seed / 0x1_0000 % 2 == 0 {
-        Edition::Old
-    } else {
-        Edition::New
-    };
+    let edition = trial_draws::draw::either(seed);
     let width = if seed % 8 == 0 {
         30 + seed / 8 % 4
     } else {

@@ -152,14 +152,8 @@ fn set(work: Work, limits: Limits) -> Work {
     };
     let clean = stands.fresh();
     let answer = gating::set(sheet, limits.gate());
-    let left = answer.sheet;
-    Work {
-        seed: trial_draws::draw::further(work.seed),
-        sheet: left,
-        page: stands,
-        fresh: clean,
-        counts: counts.gate(number, same(answer, number, clean)),
-    }
+    let counts = counts.gate(number, same(answer, number, clean));
+    after(work, answer, stands, clean, counts)
 }
 
 // A call that is no gate has the number that it has on the fresh sheet.
@@ -173,13 +167,19 @@ fn other(work: Work, call: Call) -> Work {
     let stands = if number == 0 { page.after(call) } else { page };
     let clean = stands.fresh();
     let answer = made(sheet, call);
-    let left = answer.sheet;
+    let counts = counts.other(number, same(answer, number, clean));
+    after(work, answer, stands, clean, counts)
+}
+
+// What is drawn from next, and all as the call left it.
+fn after(work: Work, answer: Answer, page: Page, fresh: Sheet, counts: Counts) -> Work {
+    let sheet = answer.sheet;
     Work {
         seed: trial_draws::draw::further(work.seed),
-        sheet: left,
-        page: stands,
-        fresh: clean,
-        counts: counts.other(number, same(answer, number, clean)),
+        sheet,
+        page,
+        fresh,
+        counts,
     }
 }
 

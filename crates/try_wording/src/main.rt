@@ -52,20 +52,7 @@ fn reads_back(rule: Rule, turned: bool, width: Width) -> bool
         return false;
     };
     if turned {
-        return same(back, rules::negated(rule));
+        return rules::same(back, rules::negated(rule));
     }
-    same(back, rule)
-}
-
-fn same(a: Rule, b: Rule) -> bool {
-    if a.form != b.form {
-        return false;
-    }
-    if a.sense != b.sense {
-        return false;
-    }
-    if a.c1 != b.c1 {
-        return false;
-    }
-    a.c2 == b.c2
+    rules::same(back, rule)
 }
