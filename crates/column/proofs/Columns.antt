@@ -1,6 +1,6 @@
 -- The columns lie side by side and fill the words: there are 64 times 2^(w-6) words, or from fewer than 6 bits 2^w columns of one.
 -- Assumes nothing.
-use mathlib.Core.Path.{_≡_, refl, sym, ap, _∙_}
+use mathlib.Core.Path.{_≡_, refl, sym, ap, _∙_, subst}
 use Prim.Native.Nat.{ℕ, suc, min, _-_, _*_, _^_, _≤_, _<_}
 use native.Mathlib.Decide.{decLt}
 use native.Mathlib.Nat.{mul-le-mul-right}
@@ -8,6 +8,7 @@ use native.Mathlib.Omega.{arith, pow-step}
 use lib.Pow.{pow-mono, pow-pos}
 use Rattle.word.specs.Word.{top}
 use Rattle.word.proofs.Widths.{top-suc}
+use Rattle.band.specs.declared.Run.{Run}
 use Rattle.column.specs.Column.{columns, size, wordsOf}
 
 module _ (w : ℕ) where
@@ -60,3 +61,7 @@ module _ (w : ℕ) where
   column-words c h =
       let m : suc c * size w ≤ columns w * size w = mul-le-mul-right (size w) h in
       (omega arith, omega (arith, m, fills, some-words))
+
+  -- the same of the words that were found for a column
+  pub column-ends : (c : ℕ) → c < columns w → {r : Run} → r ≡ wordsOf w c → (r .from ≤ r .to) × (r .to ≤ top w)
+  column-ends c h e = subst (λ (r : Run). (r .from ≤ r .to) × (r .to ≤ top w)) (sym e) (column-words c h)

@@ -2,7 +2,6 @@
 use mathlib.Core.Path.{_≡_, refl, sym, ap, _∙_, subst}
 use Prim.Native.Nat.{ℕ, _≤_, _<_}
 use mathlib.Core.Bool.{true, false}
-use native.Mathlib.Omega.{arith}
 use borrow.Author.Tests.{not-false, not-true}
 use lib.ListN.{take}
 use Rattle.word.specs.Word.{top}
@@ -14,9 +13,9 @@ use Rattle.sheet.specs.route.Held.{packed}
 use Rattle.checker.proofs.Held.{lie-so, own-rules, tidy-so, width-so}
 use Rattle.shade.specs.declared.Cell.{Cell}
 use Rattle.shade.specs.Cell.{cellOf}
-use Rattle.column.specs.Column.{columns, wordsOf}
+use Rattle.column.specs.Column.{columns}
 use Rattle.picture.specs.Picture.{allCell, columnCell, drawable}
-use Rattle.column.proofs.Columns.{column-words}
+use Rattle.column.proofs.Columns.{column-ends}
 use Rattle.picture.proofs.Drawn.{all-as, by-fits, drawn-so, of-drawn}
 use Rattle.all_cells.proofs.all_at.Statement.{statement}
 use Rattle.all_cells.proofs.all_at.Tie as tie
@@ -71,14 +70,8 @@ module _ (d : tie.After-words) where
   abbrev bits : ℕ
   bits = laid .lay-out .result .opening .width
 
-  ends : (wordsOf bits (column laid) .from ≤ wordsOf bits (column laid) .to) × (wordsOf bits (column laid) .to ≤ top bits)
-  ends = column-words bits (column laid) (drawn found .2)
-
-  from-is : d .words .result .from ≡ wordsOf bits (column laid) .from
-  from-is = ap (λ (r : Run). r .from) (d .words .ensures)
-
-  to-is : d .words .result .to ≡ wordsOf bits (column laid) .to
-  to-is = ap (λ (r : Run). r .to) (d .words .ensures)
+  ends : (d .words .result .from ≤ d .words .result .to) × (d .words .result .to ≤ top bits)
+  ends = column-ends bits (column laid) (drawn found .2) (d .words .ensures)
 
 stretch-requires : tie.Need-stretch-requires
 stretch-requires c κs =
@@ -86,7 +79,7 @@ stretch-requires c κs =
     let h = laid d .lay-out .ensures .held in
     let s = drawn (found d) .0 in
     let z = drawn (found d) .1 in
-    (width-so h s z, (lie-so h s z, (tidy-so h s z, omega (arith, ends d, from-is d, to-is d), omega (arith, ends d, to-is d))))
+    (width-so h s z, (lie-so h s z, (tidy-so h s z, ends d .0, ends d .1)))
 
 returns-2 : tie.Need-returns-2
 unfolding columnCell
@@ -99,7 +92,7 @@ returns-2 c =
     let rs = take (o .lay-out .result .counts .count) (rulesIn (o .lay-out .last .1 .0)) in
     right o _
     (c .stretch .ensures
-    ∙ by-fits (bits d) (width-so h s z .low) _ _ rs (own-rules h s z) (d .words .result .from) (d .words .result .to) (omega (arith, ends d, to-is d))
+    ∙ by-fits (bits d) (width-so h s z .low) _ _ rs (own-rules h s z) (d .words .result .from) (d .words .result .to) (ends d .1)
     ∙ ap (λ (r : Run). cellOf (fits (bits d) rs) (r .from) (r .to)) (d .words .ensures)
     ∙ all-as h (column o) true (sym (not-false _ (found d .if1 .left)) ∙ told (found d .before)))
 

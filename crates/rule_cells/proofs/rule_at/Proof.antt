@@ -19,9 +19,9 @@ use Rattle.sheet.specs.route.Held.{packed}
 use Rattle.checker.proofs.Held.{lie-so, own-rules, width-so}
 use Rattle.shade.specs.declared.Cell.{Cell}
 use Rattle.shade.specs.Cell.{cellOf}
-use Rattle.column.specs.Column.{columns, wordsOf}
+use Rattle.column.specs.Column.{columns}
 use Rattle.picture.specs.Picture.{columnCell, drawable, ruleCell}
-use Rattle.column.proofs.Columns.{column-words}
+use Rattle.column.proofs.Columns.{column-ends}
 use Rattle.picture.proofs.Drawn.{drawn-so, of-drawn, rule-as}
 use Rattle.rule_cells.proofs.rule_at.Statement.{statement}
 use Rattle.rule_cells.proofs.rule_at.Tie as tie
@@ -92,14 +92,8 @@ module _ (d : tie.After-words) where
   abbrev own : List Rule
   own = take (laid .lay-out .result .counts .count) (rulesIn (laid .lay-out .last .1 .0))
 
-  ends : (wordsOf bits (column laid) .from ≤ wordsOf bits (column laid) .to) × (wordsOf bits (column laid) .to ≤ top bits)
-  ends = column-words bits (column laid) (drawn found .2)
-
-  from-is : d .words .result .from ≡ wordsOf bits (column laid) .from
-  from-is = ap (λ (r : Run). r .from) (d .words .ensures)
-
-  to-is : d .words .result .to ≡ wordsOf bits (column laid) .to
-  to-is = ap (λ (r : Run). r .to) (d .words .ensures)
+  ends : (d .words .result .from ≤ d .words .result .to) × (d .words .result .to ≤ top bits)
+  ends = column-ends bits (column laid) (drawn found .2) (d .words .ensures)
 
   there : number laid < laid .lay-out .result .counts .count
   there = omega (arith, d .before .if2 .left)
@@ -131,7 +125,7 @@ alone-requires : tie.Need-alone-requires
 alone-requires c κs =
     let d = c .before .before in
     let h = laid d .lay-out .ensures .held in
-    (width-so h (drawn (found d) .0) (drawn (found d) .1), (subst (Lawful (bits d)) (sym (read c)) (lawful d), omega (arith, ends d, from-is d, to-is d), omega (arith, ends d, to-is d)))
+    (width-so h (drawn (found d) .0) (drawn (found d) .1), (subst (Lawful (bits d)) (sym (read c)) (lawful d), ends d .0, ends d .1))
 
 returns-3 : tie.Need-returns-3
 unfolding columnCell
