@@ -26,7 +26,6 @@ use Rattle.rows.proofs.Passes.{bands-laid, passes-fits}
 use Rattle.chain.specs.Links.{nth}
 use Rattle.slate.specs.declared.Head.{Head}
 use Rattle.slate.specs.route.Held.{Held}
-use Rattle.sheet.specs.declared.Sheet.{Sheet}
 use Rattle.sheet.specs.route.Held.{packed}
 use Rattle.sheet.proofs.Holding.{packed-told}
 use Rattle.covering.proofs.EveryWord.{every-same}

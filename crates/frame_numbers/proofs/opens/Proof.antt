@@ -1,5 +1,5 @@
 -- `opens` meets its contract: the tests are those of the length and of the code. Assumes nothing.
-use mathlib.Core.Path.{_≡_, ap}
+use mathlib.Core.Path.{ap}
 use borrow.Author.Needs.{needs}
 use borrow.Author.Tests.{eq-eqb, ne-eqb}
 use Rattle.word.specs.declared.Terms.{Terms}
