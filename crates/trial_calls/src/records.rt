@@ -17,11 +17,10 @@ const MARKS: usize = RULES + Sheet::MARKS;
 
 pub const NUMBERS: usize = MARKS + 8;
 
-// What is raised by it is far off: a count of rules or of marks passes its limit.
-pub const FAR: u64 = Rule::LIMIT as u64;
+// The records here that are no sheet: seven sheets with each number raised by each of three amounts, and then five with the other edition.
+pub const RAISED: usize = 7 * 3 * NUMBERS;
 
-// What is raised by it is the same in its low half.
-pub const SAME_LOW: u64 = 0x1_0000_0000;
+pub const NO_SHEETS: usize = RAISED + 5;
 
 // The top word of 63 bits, the widest that has numbers above it.
 pub const TOP: u64 = 0x7fff_ffff_ffff_ffff;
@@ -54,6 +53,49 @@ pub fn turned(sheet: Sheet) -> Sheet {
         given: sheet.given,
         waiting: sheet.waiting,
         edition: other(edition),
+    }
+}
+
+// A record that is no sheet, by its number.
+pub fn no_sheet(at: usize) -> Sheet {
+    if at < RAISED {
+        let way = at / NUMBERS;
+        return raised(damaged(way / 3), at % NUMBERS, amount(way % 3));
+    }
+    turned(of_one_edition(at - RAISED))
+}
+
+// The sheets of which each number is raised: one of the old edition and two of the new, without and with something that waits, and the
+// blank one.
+fn damaged(at: usize) -> Sheet {
+    match at {
+        0 => stands(4, 15, Edition::Old),
+        1 => waited(stands(4, 15, Edition::Old), 15),
+        2 => stands(4, 15, Edition::New),
+        3 => waited(stands(4, 15, Edition::New), 15),
+        4 => stands(63, TOP, Edition::New),
+        5 => waited(stands(63, TOP, Edition::New), TOP),
+        _ => Sheet::blank(),
+    }
+}
+
+// The next number, one so far off that a count of rules or of marks passes its limit, and one that is the same in its low half.
+fn amount(at: usize) -> u64 {
+    match at {
+        0 => 1,
+        1 => Rule::LIMIT as u64,
+        _ => 0x1_0000_0000,
+    }
+}
+
+// Sheets that one edition has: the blank one is of the old, and one of more than 32 bits is of the new.
+fn of_one_edition(at: usize) -> Sheet {
+    match at {
+        0 => Sheet::blank(),
+        1 => stands(63, TOP, Edition::New),
+        2 => waited(stands(63, TOP, Edition::New), TOP),
+        3 => opened_in(33, Edition::New),
+        _ => opened_in(64, Edition::New),
     }
 }
 

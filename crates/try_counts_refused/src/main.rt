@@ -7,12 +7,8 @@
 // by each of 3 amounts, on 7 sheets, and at 5 records with the other edition: 7 * (3 * 840 * 7 + 5). known: 6 wrong expectations.
 ghost use Prim.Native.Nat.{_≤_};
 use sheet::Sheet;
-use trial_calls::records;
-use trial_calls::records::NUMBERS;
-use trial_calls::records::TOP;
-use trial_calls::records::stands;
-use trial_calls::records::turned;
-use trial_calls::records::waited;
+use trial_calls::records::NO_SHEETS;
+use trial_calls::records::no_sheet;
 use trial_calls::sheets::opened_in;
 use trial_counts::pieces;
 use trial_counts::refused::count_refused;
@@ -78,34 +74,11 @@ fn at_top(sheet: Sheet, top: u64) -> Tally {
 
 // 17 comes before 1 and 5.
 fn no_sheets() -> Tally {
-    let wide = stands(63, TOP, Edition::New);
-    damaged(stands(4, 15, Edition::Old), 15)
-        .plus(damaged(stands(4, 15, Edition::New), 15))
-        .plus(damaged(wide, TOP))
-        .plus(over_numbers(Sheet::blank()))
-        .plus(looks(turned(Sheet::blank())))
-        .plus(looks(turned(wide)))
-        .plus(looks(turned(waited(wide, TOP))))
-        .plus(looks(turned(opened_in(33, Edition::New))))
-        .plus(looks(turned(opened_in(64, Edition::New))))
-}
-
-fn damaged(sheet: Sheet, top: u64) -> Tally {
-    over_numbers(sheet).plus(over_numbers(waited(sheet, top)))
-}
-
-fn over_numbers(sheet: Sheet) -> Tally {
     let mut tally = Tally::none();
-    for at in 0..NUMBERS {
-        tally = tally.plus(over_amounts(sheet, at));
+    for at in 0..NO_SHEETS {
+        tally = tally.plus(looks(no_sheet(at)));
     }
     tally
-}
-
-fn over_amounts(sheet: Sheet, at: usize) -> Tally {
-    looks(records::raised(sheet, at, 1))
-        .plus(looks(records::raised(sheet, at, records::FAR)))
-        .plus(looks(records::raised(sheet, at, records::SAME_LOW)))
 }
 
 fn looks(sheet: Sheet) -> Tally {

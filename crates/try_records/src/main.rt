@@ -14,10 +14,10 @@ use trial_calls::answers::accepted;
 use trial_calls::answers::ask_refused;
 use trial_calls::answers::refused;
 use trial_calls::answers::same_sheet;
-use trial_calls::records::FAR;
+use trial_calls::records::NO_SHEETS;
 use trial_calls::records::NUMBERS;
-use trial_calls::records::SAME_LOW;
-use trial_calls::records::TOP;
+use trial_calls::records::RAISED;
+use trial_calls::records::no_sheet;
 use trial_calls::records::raised;
 use trial_calls::records::stands;
 use trial_calls::records::turned;
@@ -30,30 +30,23 @@ use trial_tally::Tally;
 use word::Edition;
 
 fn main() {
-    all().print(b"damaged");
+    no_sheets(0, RAISED).print(b"damaged");
     editions().print(b"edition");
     known().print(b"known");
 }
 
-fn all() -> Tally {
-    damaged(stands(4, 15, Edition::Old), 15)
-        .plus(damaged(stands(4, 15, Edition::New), 15))
-        .plus(damaged(stands(63, TOP, Edition::New), TOP))
-        .plus(over_numbers(Sheet::blank()))
+// Records that are no sheet, from one number to another.
+fn no_sheets(from: usize, to: usize) -> Tally {
+    let mut tally = Tally::none();
+    for at in from..to {
+        tally = tally.plus(looks(no_sheet(at)));
+    }
+    tally
 }
 
-fn damaged(sheet: Sheet, top: u64) -> Tally {
-    over_numbers(sheet).plus(over_numbers(waited(sheet, top)))
-}
-
-// Records with the other edition. The blank sheet is of the old one, and a sheet of more than 32 bits is of the new.
+// Records with the other edition.
 fn editions() -> Tally {
-    let wide = stands(63, TOP, Edition::New);
-    looks(turned(Sheet::blank()))
-        .plus(looks(turned(wide)))
-        .plus(looks(turned(waited(wide, TOP))))
-        .plus(looks(turned(opened_in(33, Edition::New))))
-        .plus(looks(turned(opened_in(64, Edition::New))))
+    no_sheets(RAISED, NO_SHEETS)
         .plus(turned_to(Edition::Old))
         .plus(turned_to(Edition::New))
 }
@@ -89,21 +82,6 @@ fn known() -> Tally {
         tally = tally.plus(Tally::one(same_sheet(sheet, raised(sheet, at, 1))));
     }
     tally
-}
-
-fn over_numbers(sheet: Sheet) -> Tally {
-    let mut tally = Tally::none();
-    for at in 0..NUMBERS {
-        tally = tally.plus(over_amounts(sheet, at));
-    }
-    tally
-}
-
-// The next number, one that is far off, and one that is the same in its low half.
-fn over_amounts(sheet: Sheet, at: usize) -> Tally {
-    looks(raised(sheet, at, 1))
-        .plus(looks(raised(sheet, at, FAR)))
-        .plus(looks(raised(sheet, at, SAME_LOW)))
 }
 
 // What is_sheet and each call but an opening say of a record that is no sheet.
