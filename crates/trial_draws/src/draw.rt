@@ -1,9 +1,9 @@
 // Calls drawn from a fixed seed, so that every run makes the same ones.
 use page::Opening;
 use rule::Rule;
+use sheet::Call;
 use trial_calls::sheets::other;
 use trial_direct::draw::next;
-use trial_pages::clerk::Call;
 use word::Edition;
 
 // Of so many numbers from 0 on, about half are forms.

@@ -3,19 +3,10 @@ use crate::lines::Line;
 use crate::lines::Lines;
 use crate::lines::MARK;
 use page::Opening;
-use rule::Rule;
+use sheet::Call;
 use sheet::Sheet;
 use trial_calls::sheets::opened_in;
 use word::Edition;
-
-// A call on a sheet. Asking changes no sheet, and no page.
-pub enum Call {
-    Open(Opening),
-    Add(Edition, Rule),
-    Mark,
-    Back,
-    Forward,
-}
 
 // What it was opened with; the lines that stand, the newest last; and those of the pile, the one next to come back last. A stretch lies
 // on the pile with its mark on top.

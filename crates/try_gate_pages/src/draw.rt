@@ -1,10 +1,10 @@
 // Gates and calls drawn from a fixed seed, so that every run makes the same ones.
 use gate::Gate;
 use page::Opening;
+use sheet::Call;
 use trial_direct::draw::next;
 use trial_gates::direct;
 use trial_gates::made;
-use trial_pages::clerk::Call;
 
 const SIGN: u32 = 0x8000_0000;
 

@@ -10,6 +10,7 @@ use gate::Turned;
 use page::Opening;
 use rule::Rule;
 use sheet::Answer;
+use sheet::Call;
 use sheet::Sheet;
 use trial_calls::answers::same_sheet;
 use trial_calls::sheets::gone_back;
@@ -17,7 +18,7 @@ use trial_calls::sheets::marked;
 use trial_calls::sheets::opened;
 use trial_direct::draw::next;
 use trial_gates::direct;
-use trial_pages::clerk::Call;
+use trial_pages::calls::made;
 use trial_pages::clerk::Page;
 use trial_tally::Tally;
 use word::Edition;
@@ -180,16 +181,6 @@ fn after(work: Work, answer: Answer, page: Page, fresh: Sheet, counts: Counts) -
         page,
         fresh,
         counts,
-    }
-}
-
-fn made(sheet: Sheet, call: Call) -> Answer {
-    match call {
-        Call::Open(opening) => sheet.open(opening),
-        Call::Add(edition, rule) => sheet.add(edition, rule),
-        Call::Mark => sheet.mark(),
-        Call::Back => sheet.back(),
-        Call::Forward => sheet.forward(),
     }
 }
 

@@ -4,10 +4,11 @@ use crate::long;
 use crate::long::Work;
 use page::Opening;
 use rule::Rule;
+use sheet::Call;
 use sheet::Sheet;
 use trial_calls::sheets::opened_in;
 use trial_draws::draw;
-use trial_pages::clerk::Call;
+use trial_pages::calls::made;
 use trial_pages::clerk::Page;
 use trial_tally::Split;
 use word::Edition;
@@ -87,7 +88,7 @@ fn called(work: Work, call: Call) -> Work {
     let sheet = work.sheet;
     let page = work.page;
     let calls = work.calls;
-    let answer = long::made(sheet, call);
+    let answer = made(sheet, call);
     let left = answer.sheet;
     Work {
         seed: draw::further(work.seed),

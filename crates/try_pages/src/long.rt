@@ -2,6 +2,7 @@
 // that is given what stands on the clerk's page and what waits beside it, and is taken back once for each stretch that waits.
 use page::Opening;
 use sheet::Answer;
+use sheet::Call;
 use sheet::Sheet;
 use trial_calls::answers::same_sheet;
 use trial_calls::sheets::added;
@@ -12,7 +13,7 @@ use trial_calls::sheets::opened;
 use trial_calls::sheets::opened_in;
 use trial_direct::draw::next;
 use trial_draws::draw;
-use trial_pages::clerk::Call;
+use trial_pages::calls::made;
 use trial_pages::clerk::Page;
 use trial_tally::Split;
 use trial_tally::Tally;
@@ -94,14 +95,4 @@ pub fn known() -> Tally {
         .joined()
         .plus(compared(0, gone_back(marked(opened(4))), page).joined())
         .plus(compared(0, opened_in(4, Edition::New), page).joined())
-}
-
-pub fn made(sheet: Sheet, call: Call) -> Answer {
-    match call {
-        Call::Open(opening) => sheet.open(opening),
-        Call::Add(edition, rule) => sheet.add(edition, rule),
-        Call::Mark => sheet.mark(),
-        Call::Back => sheet.back(),
-        Call::Forward => sheet.forward(),
-    }
 }
