@@ -1,7 +1,8 @@
 // A picture of a sheet, by all rules in force: how each column goes.
 ghost use mathlib.Core.Path.{_≡_};
 ghost use Rattle.picture.specs.Picture.{allCell};
-use picture::is_drawn;
+use picture::Shown;
+use picture::words_of;
 use rows::InForce;
 use rows::NUMBERS;
 use rule::Rule;
@@ -18,11 +19,10 @@ pub fn all_at(sheet: Sheet, column: u64) -> Cell
     let bits = head.opening.width;
     let count = head.counts.count;
     let fixed = head.fixed;
-    if !is_drawn(head.stands, bits, column) {
+    let Shown::Words(words) = words_of(head.stands, bits, column) else {
         return Cell::Nowhere;
-    }
+    };
     let width = Width { bits };
-    let words = column::words(width, column);
     let force = InForce {
         count,
         fixed,

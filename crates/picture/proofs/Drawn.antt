@@ -13,6 +13,7 @@ use Rattle.word.proofs.Tests.{both-pass}
 use Rattle.rule.specs.declared.Rule.{Rule}
 use Rattle.rule.specs.Meaning.{AllLawful, Lawful, RULES, fits, meets}
 use Rattle.band.specs.declared.Band.{Band}
+use Rattle.band.specs.declared.Run.{Run}
 use Rattle.band.specs.route.Band.{AllLaid, bandOf}
 use Rattle.bits.specs.declared.Fixed.{Fixed}
 use Rattle.bits.specs.declared.Fixed.the-variants.{Bits}
@@ -29,10 +30,15 @@ use Rattle.slate.specs.route.Held.{Held}
 use Rattle.sheet.specs.route.Held.{packed}
 use Rattle.sheet.proofs.Holding.{packed-told}
 use Rattle.covering.proofs.EveryWord.{every-same}
+use Rattle.shade.specs.declared.Cell.{Cell}
 use Rattle.shade.specs.declared.Cell.the-variants.{Fails, Meets, Nowhere, Partly}
 use Rattle.shade.specs.Cell.{cellOf}
-use Rattle.column.specs.Column.{columns}
+use Rattle.column.specs.Column.{columns, wordsOf}
+use Rattle.column.proofs.Columns.{column-ends}
+use Rattle.picture.specs.declared.Shown.{Shown}
+use Rattle.picture.specs.declared.Shown.the-variants.{Nothing, Words}
 use Rattle.picture.specs.Picture.{allCell, columnCell, drawable, ruleCell}
+use Rattle.picture.specs.route.Shown.{shown}
 
 -- tests that agree on a stretch draw it alike
 same-cell : (f g : ℕ → Bool) (p q : ℕ) → ((x : ℕ) → p ≤ x → x ≤ q → f x ≡ g x) → cellOf f p q ≡ cellOf g p q
@@ -85,6 +91,18 @@ pub alone-tidy : (r : Rule) → Tidy (joined (Bits 0 0) r)
 unfolding fixedBits fixedFrom
 alone-tidy r = fixed-tidy (r ∷ [])
 
+-- a column's cell, by how its words go
+abbrev pub cells : (Run → Cell) → Shown → Cell
+cells k (Words v) = k v
+cells k Nothing = Nowhere
+
+-- words of a sheet that is not blank, in order
+pub record Laid (h : Head) (v : Run) : Type 0 where
+  pub stands : h .stands ≡ true
+  pub opened : h .opening .width ≡ 0 → ⊥
+  pub order : v .from ≤ v .to
+  pub below : v .to ≤ top (h .opening .width)
+
 module _ {h : Head} {rows : List (List ℕ)} {marks : List ℕ} (held : Held h rows marks) (c : ℕ) where
   abbrev w : ℕ
   w = h .opening .width
@@ -96,21 +114,46 @@ module _ {h : Head} {rows : List (List ℕ)} {marks : List ℕ} (held : Held h r
   abbrev test : Bool
   test = h .stands && (not (eqb w 0) && ltb c (columns w))
 
-  pub drawn-so : test ≡ drawable (packed h rows marks) c
+  drawn-so : test ≡ drawable (packed h rows marks) c
   unfolding drawable packed
   drawn-so = sym (ap (λ (b : Bool). b && (not (eqb w 0) && ltb c (columns w))) (packed-told h rows marks ∙ sym (held .tested)))
 
-  pub of-drawn : test ≡ true → (h .stands ≡ true) × (w ≡ 0 → ⊥) × (c < columns w)
-  of-drawn e =
-      let (a, r) = both-pass (h .stands) _ e in
-      let (b, d) = both-pass (not (eqb w 0)) _ r in
-      (a, (λ z. false≢true (sym (not-true _ b) ∙ eq-eqb w 0 z)), ltb-true c (columns w) d)
+  module _ {s : Shown} (e : s ≡ shown (h .stands) w c) where
+    pub all-shown : cells (λ r. cellOf (fits w own) (r .from) (r .to)) s ≡ allCell (packed h rows marks) c
+    unfolding shown allCell columnCell packed
+    all-shown = ap (cells _) e ∙ go test ∙ ap (λ (b : Bool). cond b (columnCell w c (fits w own)) Nowhere) drawn-so
+      where
+        go : (b : Bool) → cells (λ r. cellOf (fits w own) (r .from) (r .to)) (cond b (Words (wordsOf w c)) Nothing) ≡ cond b (columnCell w c (fits w own)) Nowhere
+        go true = refl
+        go false = refl
 
-  module _ (v : Bool) (d : v ≡ drawable (packed h rows marks) c) where
-    pub all-as : cond v (columnCell w c (fits w own)) Nowhere ≡ allCell (packed h rows marks) c
-    unfolding allCell packed
-    all-as = ap (λ (b : Bool). cond b (columnCell w c (fits w own)) Nowhere) d
+    pub one-shown : (i : ℕ) {u : Bool} → ltb i (h .counts .count) ≡ u
+        → cells (λ r. cond u (cellOf (meets w (nth own i)) (r .from) (r .to)) Nowhere) s ≡ ruleCell (packed h rows marks) i c
+    unfolding shown ruleCell columnCell packed
+    one-shown i {u = u} t =
+        ap (cells _) e
+        ∙ go test
+        ∙ ap₂ (λ (a b : Bool). cond (a && b) (columnCell w c (meets w (nth own i))) Nowhere) drawn-so (sym t)
+      where
+        go : (b : Bool)
+            → cells (λ r. cond u (cellOf (meets w (nth own i)) (r .from) (r .to)) Nowhere) (cond b (Words (wordsOf w c)) Nothing)
+            ≡ cond (b && u) (columnCell w c (meets w (nth own i))) Nowhere
+        go true = refl
+        go false = refl
 
-    pub rule-as : (i : ℕ) {u : Bool} → ltb i (h .counts .count) ≡ u → cond (v && u) (columnCell w c (meets w (nth own i))) Nowhere ≡ ruleCell (packed h rows marks) i c
-    unfolding ruleCell packed
-    rule-as i e = ap₂ (λ (a b : Bool). cond (a && b) (columnCell w c (meets w (nth own i))) Nowhere) d (sym e)
+  -- words that are shown are the column's, of a sheet that is not blank
+  pub words-so : {v : Run} → Words v ≡ shown (h .stands) w c → Laid h v
+  unfolding shown
+  words-so {v = v} s = go test refl s
+    where
+      run : Shown → Run
+      run (Words r) = r
+      run Nothing = v
+
+      go : (b : Bool) → b ≡ test → Words v ≡ cond b (Words (wordsOf w c)) Nothing → Laid h v
+      go true p e =
+          let (a, r) = both-pass (h .stands) _ (sym p) in
+          let (b, d) = both-pass (not (eqb w 0)) _ r in
+          let (f, t) = column-ends w c (ltb-true c (columns w) d) (ap run e) in
+          record { stands = a; opened = λ z. false≢true (sym (not-true _ b) ∙ eq-eqb w 0 z); order = f; below = t }
+      go false p e = let z : _≡_ {A = ℕ} 0 1 = cc in absurd (omega arith)

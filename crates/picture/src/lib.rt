@@ -1,12 +1,11 @@
-// A picture of a sheet, the line of words in at most 64 columns: whether there is such a column, and how words go by one rule alone.
+// A picture of a sheet, the line of words in at most 64 columns: the words of a column, and how words go by one rule alone.
 ghost use mathlib.Core.Path.{_≡_};
-ghost use mathlib.Core.Bool.{true, not, _&&_};
+ghost use mathlib.Core.Bool.{true};
 ghost use Prim.Native.Nat.{_≤_};
-ghost use lib.Dec.{eqb, ltb};
 ghost use Rattle.word.specs.Word.{IsWidth, top};
 ghost use Rattle.rule.specs.Meaning.{Lawful, meets};
 ghost use Rattle.shade.specs.Cell.{cellOf};
-ghost use Rattle.column.specs.Column.{columns};
+ghost use Rattle.picture.specs.route.Shown.{shown};
 use band::Band;
 use band::Run;
 use bits::Fixed;
@@ -16,18 +15,28 @@ use rule::Rule;
 use shade::Cell;
 use word::Width;
 
-// Whether there is a sheet that is not blank, and such a column.
-pub fn is_drawn(stands: bool, bits: u64, column: u64) -> bool
+// What there is to draw of a column: its words, or nothing.
+pub enum Shown {
+    Words(Run),
+    Nothing,
+}
+
+// A column's words, where there is a sheet that is not blank and such a column.
+pub fn words_of(stands: bool, bits: u64, column: u64) -> Shown
     requires { ⌜ (stands ≡ true → (bits ≡ 0 → ⊥) → IsWidth bits) ⌝ }
-    ensures { λ r. ⌜ r ≡ (stands && (not (eqb bits 0) && ltb column (columns bits))) ⌝ }
+    ensures { λ r. ⌜ r ≡ shown stands bits column ⌝ }
 {
     if !stands {
-        return false;
+        return Shown::Nothing;
     }
     if bits == 0 {
-        return false;
+        return Shown::Nothing;
     }
-    column < column::count(Width { bits })
+    let width = Width { bits };
+    if column::count(width) <= column {
+        return Shown::Nothing;
+    }
+    Shown::Words(column::words(width, column))
 }
 
 // The words from one to another by a rule alone.

@@ -1,22 +1,20 @@
 -- `all_at` meets its contract: what is drawn of the record as it is laid out is drawn of the record. Assumes nothing.
-use mathlib.Core.Path.{_≡_, refl, sym, ap, _∙_, subst}
-use Prim.Native.Nat.{ℕ, _≤_, _<_}
-use mathlib.Core.Bool.{true, false}
-use borrow.Author.Tests.{not-false, not-true}
+use mathlib.Core.Path.{_≡_, refl, sym, _∙_, subst}
+use Prim.Native.Nat.{ℕ, _≤_}
+use mathlib.Core.Bool.{true}
+use borrow.Author.Needs.{needs}
 use lib.ListN.{take}
 use Rattle.word.specs.Word.{top}
-use Rattle.rule.specs.Meaning.{fits}
 use Rattle.band.specs.declared.Run.{Run}
 use Rattle.rows.specs.route.Rows.{rulesIn}
 use Rattle.sheet.specs.declared.Sheet.{Sheet}
 use Rattle.sheet.specs.route.Held.{packed}
 use Rattle.checker.proofs.Held.{lie-so, own-rules, tidy-so, width-so}
 use Rattle.shade.specs.declared.Cell.{Cell}
-use Rattle.shade.specs.Cell.{cellOf}
-use Rattle.column.specs.Column.{columns}
-use Rattle.picture.specs.Picture.{allCell, columnCell, drawable}
-use Rattle.column.proofs.Columns.{column-ends}
-use Rattle.picture.proofs.Drawn.{all-as, by-fits, drawn-so, of-drawn}
+use Rattle.picture.specs.declared.Shown.the-variants.{Words}
+use Rattle.picture.specs.Picture.{allCell}
+use Rattle.picture.specs.route.Shown.{shown}
+use Rattle.picture.proofs.Drawn.{Laid, all-shown, by-fits, words-so}
 use Rattle.all_cells.proofs.all_at.Statement.{statement}
 use Rattle.all_cells.proofs.all_at.Tie as tie
 
@@ -33,76 +31,65 @@ right o r e = subst (λ (s : Sheet). r ≡ allCell s (column o)) (o .lay-out .en
 lay-out-requires : tie.Need-lay-out-requires
 lay-out-requires c κs = refl
 
-is-drawn-requires : tie.Need-is-drawn-requires
-is-drawn-requires c κs = width-so (c .lay-out .ensures .held)
+words-of-requires : tie.Need-words-of-requires
+words-of-requires c κs = width-so (c .lay-out .ensures .held)
 
--- the test, as it is defined
-told : (a : tie.After-is-drawn) → let o = a .before in a .is-drawn .result ≡ drawable (sheet-of o) (column o)
-told a = let o = a .before in a .is-drawn .ensures ∙ drawn-so (o .lay-out .ensures .held) (column o)
+enum-known-words : tie.Need-enum-known-words
+enum-known-words c = search needs
+
+enum-told : tie.Need-enum-told
+enum-told c = search needs
 
 returns : tie.Need-returns
 returns c =
-    let a = c .before in
+    let a = c .before .before in
     let o = a .before in
-    right o _ (all-as (o .lay-out .ensures .held) (column o) false (sym (not-true _ (c .if1 .taken)) ∙ told a))
-
--- what the test shows
-drawn : (e : tie.Else1) → let o = e .before .before in let h = o .lay-out .result in
-    (h .stands ≡ true) × (h .opening .width ≡ 0 → ⊥) × (column o < columns (h .opening .width))
-drawn e =
-    let o = e .before .before in
-    of-drawn (o .lay-out .ensures .held) (column o) (sym (e .before .is-drawn .ensures) ∙ not-false _ (e .if1 .left))
-
-words-requires : tie.Need-words-requires
-words-requires c κs =
-    let o = c .before .before in
-    let d = drawn c in
-    (width-so (o .lay-out .ensures .held) (d .0) (d .1), d .2)
+    right o _ (all-shown (o .lay-out .ensures .held) (column o) (sym (c .enum-told .given .1) ∙ a .words-of .ensures))
 
 -- the words of the column
-module _ (d : tie.After-words) where
-  abbrev found : tie.Else1
-  found = d .before
-
+module _ (d : tie.After-known-told) where
   abbrev laid : tie.After-lay-out
-  laid = found .before .before
+  laid = d .before .before .before .before
+
+  abbrev words : Run
+  words = d .before .words .given .0 .0
 
   abbrev bits : ℕ
   bits = laid .lay-out .result .opening .width
 
-  ends : (d .words .result .from ≤ d .words .result .to) × (d .words .result .to ≤ top bits)
-  ends = column-ends bits (column laid) (drawn found .2) (d .words .ensures)
+  told : Words words ≡ shown (laid .lay-out .result .stands) bits (column laid)
+  told = sym (d .before .words .given .1) ∙ d .before .before .before .words-of .ensures
+
+  so : Laid (laid .lay-out .result) words
+  so = words-so (laid .lay-out .ensures .held) (column laid) told
 
 stretch-requires : tie.Need-stretch-requires
 stretch-requires c κs =
     let d = c .before in
     let h = laid d .lay-out .ensures .held in
-    let s = drawn (found d) .0 in
-    let z = drawn (found d) .1 in
-    (width-so h s z, (lie-so h s z, (tidy-so h s z, ends d .0, ends d .1)))
+    let w = so d in
+    (width-so h (w .stands) (w .opened), (lie-so h (w .stands) (w .opened), (tidy-so h (w .stands) (w .opened), w .order, w .below)))
 
 returns-2 : tie.Need-returns-2
-unfolding columnCell
 returns-2 c =
     let d = c .before .before in
     let o = laid d in
     let h = o .lay-out .ensures .held in
-    let s = drawn (found d) .0 in
-    let z = drawn (found d) .1 in
+    let w = so d in
     let rs = take (o .lay-out .result .counts .count) (rulesIn (o .lay-out .last .1 .0)) in
     right o _
     (c .stretch .ensures
-    ∙ by-fits (bits d) (width-so h s z .low) _ _ rs (own-rules h s z) (d .words .result .from) (d .words .result .to) (ends d .1)
-    ∙ ap (λ (r : Run). cellOf (fits (bits d) rs) (r .from) (r .to)) (d .words .ensures)
-    ∙ all-as h (column o) true (sym (not-false _ (found d .if1 .left)) ∙ told (found d .before)))
+    ∙ by-fits (bits d) (width-so h (w .stands) (w .opened) .low) _ _ rs (own-rules h (w .stands) (w .opened)) (words d .from) (words d .to) (w .below)
+    ∙ all-shown h (column o) (told d))
 
 pub all-at-spec : {M : Type 1} → statement M
 all-at-spec =
     tie.close
     (tie.spec
     lay-out-requires
-    is-drawn-requires
+    words-of-requires
+    enum-known-words
+    enum-told
     returns
-    words-requires
     stretch-requires
     returns-2)
