@@ -7,6 +7,7 @@ ghost use Rattle.slate.specs.route.Held.{Held};
 ghost use Rattle.feed.specs.route.Statements.{FedOn, deskOf};
 use exchange::Begun;
 use frame::Frame;
+use next_line::Next;
 use rows::NUMBERS;
 use rule::Rule;
 use sheet::Sheet;
@@ -47,27 +48,27 @@ pub fn feed(
         if out.len() - written < Frame::ROOM {
             break;
         }
-        let line = exchange::line_at(part, used);
-        let end = used + line.len();
-        if end == part.len() {
-            begun = begun.with(line);
-            used = end;
-            continue;
+        match next_line::take(begun, part, used) {
+            Next::Rest => {
+                begun = begun.with(&part[used..]);
+                used = part.len();
+            }
+            Next::Line(frame, next) => {
+                let after = answer::answer(
+                    head,
+                    &mut *rows,
+                    &mut *marks,
+                    &mut *chain,
+                    frame,
+                    &mut *out,
+                    written,
+                );
+                head = after.head;
+                begun = Begun::none();
+                used = next;
+                written = after.end;
+            }
         }
-        let frame = begun.frame(line);
-        let after = answer::answer(
-            head,
-            &mut *rows,
-            &mut *marks,
-            &mut *chain,
-            frame,
-            &mut *out,
-            written,
-        );
-        head = after.head;
-        begun = Begun::none();
-        used = end + 1;
-        written = after.end;
     }
     Fed {
         state: State { head, begun },

@@ -1,20 +1,19 @@
 -- `feed` meets its contract. The loop's invariant: the slate holds the record, and what goes on from here goes on from the start. The measure
 -- is the bytes left, of which each line uses one at least. Assumes nothing.
+use mathlib.Core.Path.{_≡_, refl, sym, _∙_}
 use mathlib.Core.List.{List}
 use Prim.Native.Nat.{ℕ, _+_, _-_, _≤_, _<_}
 use native.Mathlib.Omega.{arith}
 use borrow.Author.Needs.{needs}
-use mathlib.Core.Path.{_≡_, refl, ap, _∙_}
 use lib.ListN.{drop, length, length-drop}
 use Rattle.rule.specs.Meaning.{RULES}
 use Rattle.chain.specs.Links.{chainRoom}
-use Rattle.frame.specs.Calls.{lineCall}
-use Rattle.frame.specs.Statements.{Answered}
+use Rattle.fields.specs.Answers.{ROOM}
 use Rattle.input_line.specs.Lines.{withEnd}
-use Rattle.input_line.proofs.Lines.{end-fits, end-some, line-fits}
-use Rattle.exchange.specs.route.Begun.{begunLine, joined}
+use Rattle.input_line.proofs.Lines.{end-fits, end-some}
 use Rattle.exchange.specs.route.Desk.{Desk, desk}
-use Rattle.exchange.proofs.Parts.{Midway, NextLine, fed-all, fed-full, line-ended, line-unended, midway-on, midway-start}
+use Rattle.exchange.proofs.Parts.{Midway, NextLine, fed-all, fed-full, midway-on, midway-start}
+use Rattle.next_line.proofs.Told.{is-line, is-rest}
 use Rattle.slate.specs.route.Held.{Held}
 use Rattle.sheet.specs.route.Held.{packed}
 use Rattle.feed.proofs.feed.Statement.{statement}
@@ -55,78 +54,99 @@ loop-holds c = let p = c .before .before .before .before .pre in (omega arith, o
 sub-if1 : tie.Need-sub-if1 Inv-loop μ-loop
 sub-if1 c = omega (arith, c .before .loop .inv .1, c .before .loop .inv .2)
 
-line-at-requires : tie.Need-line-at-requires Inv-loop μ-loop
-line-at-requires c κs = c .before .before .loop .inv .0
+take-requires : tie.Need-take-requires Inv-loop μ-loop
+take-requires c κs = c .before .before .loop .inv .0
 
-add-end : tie.Need-add-end Inv-loop μ-loop
-add-end c =
-    let l = c .before .before .before in
-    omega (arith, l .loop .inv .0, ap length (c .line-at .ensures), line-fits (drop (l .loop .used) (part l)), length-drop (l .loop .used) (part l))
+-- where the next line was looked at, and that it has room for its answer
+module _ (t : tie.After-take Inv-loop μ-loop) where
+  abbrev from : tie.At-loop Inv-loop μ-loop
+  from = t .before .before .before
+
+  room : ROOM ≤ length (from .before .before .before .before .before .args .out .now) - from .loop .written
+  room = omega (arith, t .before .if1 .left, from .loop .inv .1, from .loop .inv .2)
+
+enum-told : tie.Need-enum-told Inv-loop μ-loop
+enum-told c = search needs
+
+sub-with : tie.Need-sub-with Inv-loop μ-loop
+sub-with c = search needs
+
+part-with-start : tie.Need-part-with-start Inv-loop μ-loop
+part-with-start c = from (c .before .before) .loop .inv .0
+
+part-with-end : tie.Need-part-with-end Inv-loop μ-loop
+part-with-end c = search needs
 
 with-requires : tie.Need-with-requires Inv-loop μ-loop
 with-requires c κs = search needs
 
 -- the rest of the part goes to the line
-tail : (c : tie.After-with Inv-loop μ-loop)
-    → let l = c .before .before .before .before .before in NextLine (here l) (part l) (l .loop .used) (l .loop .out) (l .loop .written) (l .loop .out) (desk (here l .sheet) (c .with .result)) (l .loop .used + length (c .before .before .line-at .result .now)) (l .loop .written)
-tail c =
-    let l = c .before .before .before .before .before in
-    line-unended _ _ _ (c .before .before .line-at .ensures) (l .loop .inv .0) _ _ (omega (arith, l .loop .inv .1, l .loop .inv .2)) (c .with .ensures) (c .before .if2 .taken)
+rest : (c : tie.After-with Inv-loop μ-loop) → let l = from (c .before .before .before .before) in
+    NextLine (here l) (part l) (l .loop .used) (l .loop .out) (l .loop .written) (l .loop .out) (desk (here l .sheet) (c .with .result)) (length (part l)) (l .loop .written)
+rest c =
+    let e = c .before .before in
+    let t = e .before .before in
+    let l = from t in
+    is-rest (here l) (part l) (l .loop .used) (l .loop .inv .0) (sym (e .enum-told .given .1) ∙ t .take .ensures) (c .with .ensures) (l .loop .out) (l .loop .written) (omega (arith, l .loop .inv .1, l .loop .inv .2))
 
 loop-less : tie.Need-loop-less Inv-loop μ-loop
-loop-less c = less (c .before .before .before .before .before) (c .before .before .before .before .loop-test .taken) (tail c .goes)
+loop-less c = let t = c .before .before .before .before in less (from t) (t .before .before .loop-test .taken) (rest c .goes)
 
 loop-again : tie.Need-loop-again Inv-loop μ-loop
 loop-again c =
-    let l = c .before .before .before .before .before in
-    let t = tail c in (
-      within l (t .goes),
+    let t = c .before .before .before .before in
+    let l = from t in (
+      within l (rest c .goes),
       l .loop .inv .1,
       l .loop .inv .2,
       l .loop .inv .3,
       l .loop .inv .4,
-      midway-on (l .loop .inv .5) t (omega (arith, c .before .before .before .if1 .left, l .loop .inv .1, l .loop .inv .2)) (c .before .before .before .before .loop-test .taken),
+      midway-on (l .loop .inv .5) (rest c) (room t) (t .before .before .loop-test .taken),
     )
 
-frame-requires : tie.Need-frame-requires Inv-loop μ-loop
-frame-requires c κs = search needs
+enum-known-frame : tie.Need-enum-known-frame Inv-loop μ-loop
+enum-known-frame c = search needs
 
 answer-requires : tie.Need-answer-requires Inv-loop μ-loop
 answer-requires c κs =
-    let l = c .before .before .before .before .before .before .before .before .before in
-    (l .loop .inv .4, (l .loop .inv .3, omega (arith, c .before .before .before .before .before .before .before .if1 .left, l .loop .inv .1, l .loop .inv .2)))
+    let t = c .before .before .before .before .before .before .before in
+    let l = from t in
+    (l .loop .inv .4, (l .loop .inv .3, omega (arith, room t, l .loop .inv .1, l .loop .inv .2)))
 
 none-requires : tie.Need-none-requires Inv-loop μ-loop
 none-requires c κs = search needs
 
-add-used : tie.Need-add-used Inv-loop μ-loop
-add-used c =
-    let l = c .before .before .before .before .before .before .before .before .before .before .before .before .before .before in
-    omega (arith, c .before .before .before .before .before .before .before .before .before .before, l .loop .inv .0, ap length (c .before .before .before .before .before .before .before .before .before .before .before .line-at .ensures), line-fits (drop (l .loop .used) (part l)), length-drop (l .loop .used) (part l))
-
 -- the line that ends here gets its answer
-answered : (c : tie.After-none Inv-loop μ-loop)
-    → let l = c .before .before .before .before .before .before .before .before .before .before .before .before .before .before in let a = c .before .before .before .before .answer in Answered (here l .sheet) (lineCall (begunLine (joined (l .loop .begun) (c .before .before .before .before .before .before .before .before .before .before .before .line-at .result .now)))) (l .loop .out) (l .loop .written) (a .last .1 .1 .1 .1 .1 .0) (packed (a .result .head) (a .last .1 .0) (a .last .1 .1 .0)) (a .result .end)
-unfolding lineCall
-answered c = rw (c .before .before .before .before .before .before .before .before .before .frame .ensures) at (c .before .before .before .before .answer .ensures .0 .answered)
+module _ (c : tie.After-none Inv-loop μ-loop) where
+  abbrev said : tie.After-answer Inv-loop μ-loop
+  said = c .before .before .before .before
+
+  abbrev line : tie.After-frame Inv-loop μ-loop
+  line = said .before .before .before .before .before .before
+
+  abbrev taken : tie.After-take Inv-loop μ-loop
+  taken = line .before .before
+
+  answered : let l = from taken in let a = said .answer in
+      NextLine (here l) (part l) (l .loop .used) (l .loop .out) (l .loop .written) (a .last .1 .1 .1 .1 .1 .0) (desk (packed (a .result .head) (a .last .1 .0) (a .last .1 .1 .0)) (c .none .result)) (line .frame .given .0 .1 .0) (a .result .end)
+  answered =
+      let l = from taken in
+      is-line (here l) (part l) (l .loop .used) (l .loop .inv .0) (sym (line .frame .given .1) ∙ taken .take .ensures) (said .answer .ensures .0 .answered) (c .none .ensures)
 
 loop-less-2 : tie.Need-loop-less-2 Inv-loop μ-loop
-loop-less-2 c =
-    let l = c .before .before .before .before .before .before .before .before .before .before .before .before .before .before in
-    less l (c .before .before .before .before .before .before .before .before .before .before .before .before .before .loop-test .taken) (line-ended (here l) (part l) (l .loop .used) (c .before .before .before .before .before .before .before .before .before .before .before .line-at .ensures) (l .loop .inv .0) (answered c) (c .none .ensures) (c .before .before .before .before .before .before .before .before .before .before .if2 .left) .goes)
+loop-less-2 c = less (from (taken c)) (taken c .before .before .loop-test .taken) (answered c .goes)
 
 loop-again-2 : tie.Need-loop-again-2 Inv-loop μ-loop
 loop-again-2 c =
-    let l = c .before .before .before .before .before .before .before .before .before .before .before .before .before .before in
-    let u = c .before .before .before .before .answer in
-    let t = line-ended (here l) (part l) (l .loop .used) (c .before .before .before .before .before .before .before .before .before .before .before .line-at .ensures) (l .loop .inv .0) (answered c) (c .none .ensures) (c .before .before .before .before .before .before .before .before .before .before .if2 .left) in
-    let room = c .before .before .before .before .before .before .before .before .before .before .before .before .if1 .left in (
+    let u = said c .answer in
+    let t = answered c in
+    let l = from (taken c) in (
       within l (t .goes),
-      omega (arith, t .puts .ends, t .fits, room, l .loop .inv .1, l .loop .inv .2),
+      omega (arith, t .puts .ends, t .fits, room (taken c), l .loop .inv .1, l .loop .inv .2),
       u .kept .1 .1 .1 .1 .1 .0 ∙ l .loop .inv .2,
       u .ensures .1 .0,
       u .ensures .0 .held,
-      midway-on (l .loop .inv .5) t (omega (arith, room, l .loop .inv .1, l .loop .inv .2)) (c .before .before .before .before .before .before .before .before .before .before .before .before .before .loop-test .taken),
+      midway-on (l .loop .inv .5) t (room (taken c)) (taken c .before .before .loop-test .taken),
     )
 
 same-length : tie.Need-same-length Inv-loop μ-loop
@@ -153,15 +173,17 @@ feed-spec =
     μ-loop
     loop-holds
     sub-if1
-    line-at-requires
-    add-end
+    take-requires
+    enum-told
+    sub-with
+    part-with-start
+    part-with-end
     with-requires
     loop-less
     loop-again
-    frame-requires
+    enum-known-frame
     answer-requires
     none-requires
-    add-used
     loop-less-2
     loop-again-2
     same-length
