@@ -10,7 +10,7 @@ use Rattle.exchange.specs.route.Desk.{Desk}
 use Rattle.feed.specs.route.Statements.{deskOf}
 use Rattle.coming.specs.Calls.{cameTo}
 use Rattle.serving.specs.Passed.{Passed}
-use Rattle.one_turn.specs.declared.Turn.{Turn}
+use Rattle.turn.specs.declared.Turn.{Turn}
 
 -- a turn on a read's answer, with rows and marks as they are then: where the answers are taken, what was read went in whole
 pub record Hears (d : Desk) (got error : ℤ) (input : List ℕ) (r : Turn) (rows : List (List ℕ)) (marks : List ℕ) : Type 0 where

@@ -7,31 +7,11 @@ ghost use Rattle.chain.specs.Links.{chainRoom};
 ghost use Rattle.fields.specs.Answers.{ROOM};
 ghost use Rattle.slate.specs.route.Held.{Held};
 ghost use Rattle.feed.specs.route.Statements.{deskOf};
-ghost use Rattle.coming.specs.Calls.{goesOn};
 ghost use Rattle.one_turn.specs.Turned.{Turned};
-use coming::Came;
-use feed::State;
 use rows::NUMBERS;
 use rule::Rule;
 use sheet::Sheet;
-
-// The state after a turn, what its read came to, and whether the answers were taken.
-pub struct Turn {
-    pub state: State,
-    pub came: Came,
-    pub taken: bool,
-}
-
-impl Turn {
-    // Whether another turn follows, after so many.
-    pub fn goes_on(self, turns: u64) -> bool
-        ensures { λ r. ⌜ r ≡ goesOn (self .came) (self .taken) turns ⌝ }
-    {
-        let turn = self;
-        let came = turn.came;
-        came.goes_on(turn.taken, turns)
-    }
-}
+use turn::Turn;
 
 // One read after the last turn, and what is read is answered before the next, so that a conversation can be held.
 pub fn take_turn(

@@ -10,7 +10,7 @@ use Rattle.feed.specs.route.Statements.{deskOf}
 use Rattle.coming.specs.declared.Came.{Came}
 use Rattle.coming.specs.declared.Came.the-variants.{Interrupted}
 use Rattle.coming.specs.Calls.{goesOn}
-use Rattle.one_turn.specs.declared.Turn.{Turn}
+use Rattle.turn.specs.declared.Turn.{Turn}
 use Rattle.one_turn.specs.Turned.{Turned}
 use Rattle.turns.specs.declared.Talk.{Talk}
 

@@ -10,12 +10,12 @@ ghost use Rattle.turns.specs.Turns.{Stops};
 use coming::Came;
 use exchange::Begun;
 use feed::State;
-pub use one_turn::Turn;
 use one_turn::take_turn;
 use rows::NUMBERS;
 use rule::Rule;
 use sheet::Sheet;
 use sheet::laid;
+use turn::Turn;
 
 // The last turn, and how many turns there were.
 pub struct Talk {

@@ -9,7 +9,7 @@ use lib.Seq.{length-take-le}
 use Rattle.exchange.specs.route.Desk.{Desk}
 use Rattle.feed.specs.route.Statements.{deskOf}
 use Rattle.coming.specs.declared.hearing.Hearing.{Hearing}
-use Rattle.one_turn.specs.declared.Turn.{Turn}
+use Rattle.turn.specs.declared.Turn.{Turn}
 use Rattle.serving.specs.Passed.{Passed}
 use Rattle.one_read.specs.Listened.{Listened}
 use Rattle.one_turn.specs.Turned.{Turned}
