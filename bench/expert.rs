@@ -1,14 +1,14 @@
 // A Rust desk written for speed, for comparison: the same frames and answers, without proofs. Its sheet is private, so 17 is never
 // tested; what is kept of the rules up to each one is remembered, so a step back or forward looks it up; and an add looks at the new
-// rule alone where the old ends meet it. The three limits are those of the desk that it is compared with: they are handed to the
-// compiler (`rivals`).
+// rule alone where the old ends meet it. The limits are those of the desk that it is compared with (`limits`).
 use std::fs::File;
 use std::io::{Read, Result, Write, stdin, stdout};
 use std::os::fd::AsFd;
 
-const FORMS: u64 = limit(env!("FORMS")) as u64;
-const RULES: usize = limit(env!("RULES"));
-const MARKS: usize = limit(env!("MARKS"));
+mod limits;
+
+use limits::{FORMS, MARKS, RULES};
+
 // The digits of the longest frame: an add with the new edition's words.
 const LONGEST: usize = 6 + 2 * 16;
 const PART: usize = 65536;
@@ -19,16 +19,6 @@ const BITS: u64 = 255;
 const NONE: u8 = 255;
 const VALUES: [u8; 256] = values();
 const DIGITS: &[u8; 16] = b"0123456789abcdef";
-
-const fn limit(digits: &str) -> usize {
-    let mut number = 0;
-    let mut at = 0;
-    while at < digits.len() {
-        number = 10 * number + (digits.as_bytes()[at] - b'0') as usize;
-        at += 1;
-    }
-    number
-}
 
 const fn values() -> [u8; 256] {
     let mut table = [NONE; 256];

@@ -1,27 +1,18 @@
 // A plain Rust desk, for comparison: the same frames and answers, written as one would without proofs, with every refusal
 // tested on every line, 17 among them. `plain` answers standard input; `plain talk COMMAND FILE` holds a conversation with
-// a command, one line of the file at a time, and says how many microseconds it took. The three limits are those of the desk
-// that it is compared with: they are handed to the compiler (`rivals`).
+// a command, one line of the file at a time, and says how many microseconds it took. The limits are those of the desk
+// that it is compared with (`limits`).
 use std::io::{BufRead, BufReader, Read, Write};
 use std::process::{Command, Stdio};
 use std::time::Instant;
 
-const FORMS: u64 = limit(env!("FORMS")) as u64;
-const RULES: usize = limit(env!("RULES"));
-const MARKS: usize = limit(env!("MARKS"));
+mod limits;
+
+use limits::{FORMS, MARKS, RULES};
+
 // The longest frame: an add with the new edition's words.
 const LONGEST: usize = 6 + 2 * Edition::New.terms().digits;
 const BITS: u64 = 255;
-
-const fn limit(digits: &str) -> usize {
-    let mut number = 0;
-    let mut at = 0;
-    while at < digits.len() {
-        number = 10 * number + (digits.as_bytes()[at] - b'0') as usize;
-        at += 1;
-    }
-    number
-}
 
 #[derive(Clone, Copy, PartialEq, Eq)]
 enum Edition {
@@ -533,11 +524,7 @@ fn desk() -> std::io::Result<()> {
     let mut out = Vec::with_capacity(65536);
     let mut links = Vec::new();
     let mut sheet = Sheet::blank();
-    loop {
-        let n = input.read(&mut part)?;
-        if n == 0 {
-            break;
-        }
+    while let n @ 1.. = input.read(&mut part)? {
         let mut rest = &part[..n];
         while let Some(end) = rest.iter().position(|byte| *byte == b'\n') {
             if begun.is_empty() {
