@@ -35,15 +35,19 @@ Loop = tie.At-loop Inv-loop μ-loop
 abbrev Body : Type 0
 Body = tie.In-loop Inv-loop μ-loop
 
-abbrev start : Loop → tie.Start Inv-loop μ-loop
-start l = l .before .before .before .before
+-- where the loop began: the numbers of the list, the width and the rules in force
+module _ (l : Loop) where
+  abbrev start : tie.Start Inv-loop μ-loop
+  start = l .before .before .before .before
 
--- the numbers of the list, and the width
-abbrev numbers : Loop → List ℕ
-numbers l = start l .args .links .now
+  abbrev numbers : List ℕ
+  numbers = start .args .links .now
 
-abbrev width : Loop → ℕ
-width l = start l .args .force .width .bits
+  abbrev width : ℕ
+  width = start .args .force .width .bits
+
+  abbrev own : List Rule
+  own = take (start .args .force .count) (rulesIn (start .args .rows .now))
 
 top-requires : tie.Need-top-requires Inv-loop μ-loop
 top-requires c κs = search needs
@@ -107,9 +111,6 @@ is-yes-requires-2 : tie.Need-is-yes-requires-2 Inv-loop μ-loop
 is-yes-requires-2 c κs = search needs
 
 -- what is found of its reason
-abbrev own : Loop → List Rule
-own l = take (start l .args .force .count) (rulesIn (start l .args .rows .now))
-
 reasoned : (f : tie.After-shows Inv-loop μ-loop) → let b = body (f .before) in let l = b .before in
     f .shows .result ≡ firstBroken (reasonClauses (width l) (own l) (l .loop .number) (link b))
 reasoned f =
