@@ -1,4 +1,4 @@
--- How many numbers a record has that are raised one by one, and how many records of such are no sheet, as the code has it. Assumes nothing.
+-- How many numbers a record has that are raised one by one, and how many records that are no sheet the trials go through, as the code has it. Assumes nothing.
 use Prim.Native.Nat.{ℕ, _+_, _*_}
 use Rattle.rule.specs.Meaning.{RULES}
 use Rattle.page.specs.Page.{MARKS}
@@ -7,6 +7,6 @@ use Rattle.page.specs.Page.{MARKS}
 abbrev pub NUMBERS : ℕ
 NUMBERS = 4 * RULES + MARKS + 8
 
--- the records that are no sheet: seven with each number raised by three amounts, and five with the other edition
+-- the records that are no sheet: seven sheets with each number raised by each of three amounts, and five with the other edition
 abbrev pub NO-SHEETS : ℕ
 NO-SHEETS = 7 * 3 * NUMBERS + 5

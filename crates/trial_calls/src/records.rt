@@ -23,7 +23,7 @@ pub const RAISED: usize = 7 * 3 * NUMBERS;
 pub const NO_SHEETS: usize = RAISED + 5;
 
 // The top word of 63 bits, the widest that has numbers above it.
-pub const TOP: u64 = 0x7fff_ffff_ffff_ffff;
+const TOP: u64 = 0x7fff_ffff_ffff_ffff;
 
 // A sheet with two rules and a mark. The second rule, signed, has every word.
 pub fn stands(width: u64, top: u64, edition: Edition) -> Sheet {
@@ -35,6 +35,15 @@ pub fn stands(width: u64, top: u64, edition: Edition) -> Sheet {
 pub fn waited(sheet: Sheet, top: u64) -> Sheet {
     let one = added(marked(sheet), rule(8, 1, top, top));
     gone_back(gone_back(marked(one)))
+}
+
+// No sheet keeps a verdict 3.
+pub fn hurt(sheet: Sheet) -> Sheet {
+    let mut kept = sheet.kept;
+    kept.verdict = 3;
+    let mut no_sheet = sheet;
+    no_sheet.kept = kept;
+    no_sheet
 }
 
 // The record with the other edition.
@@ -60,14 +69,14 @@ pub fn turned(sheet: Sheet) -> Sheet {
 pub fn no_sheet(at: usize) -> Sheet {
     if at < RAISED {
         let way = at / NUMBERS;
-        return raised(damaged(way / 3), at % NUMBERS, amount(way % 3));
+        return raised(sound(way / 3), at % NUMBERS, amount(way % 3));
     }
     turned(of_one_edition(at - RAISED))
 }
 
 // The sheets of which each number is raised: one of the old edition and two of the new, without and with something that waits, and the
 // blank one.
-fn damaged(at: usize) -> Sheet {
+fn sound(at: usize) -> Sheet {
     match at {
         0 => stands(4, 15, Edition::Old),
         1 => waited(stands(4, 15, Edition::Old), 15),

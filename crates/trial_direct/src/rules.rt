@@ -81,6 +81,14 @@ pub fn strays(rule: Rule) -> bool {
     false
 }
 
+// Whether neither of the first two rules has such a bit.
+pub fn two_taken(rules: [Rule; Rule::LIMIT]) -> bool {
+    if strays(rules[0]) {
+        return false;
+    }
+    !strays(rules[1])
+}
+
 // Whether the leaves take the rule: its constants are words, and a bit rule is not negated.
 pub fn lawful(rule: Rule, width: Width) -> bool
     requires { ⌜ IsWidth (width .bits) ⌝ }

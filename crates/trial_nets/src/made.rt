@@ -3,6 +3,7 @@ use net::Join;
 use net::Net;
 use span::Interval;
 use span::Op;
+use trial_direct::draw::next;
 use trial_spans::expected;
 use trial_spans::made;
 
@@ -23,7 +24,7 @@ fn intervals(seed: u64, top: u64, count: usize) -> [Interval; Net::WORDS] {
     let mut words = [Interval { low: 7, high: 7 }; Net::WORDS];
     let mut s = seed;
     for p in 0..Net::WORDS {
-        s = made::next(s);
+        s = next(s);
         if p < count {
             words[p] = interval(s, top);
         }
@@ -40,9 +41,9 @@ fn interval(s: u64, top: u64) -> Interval {
 
 fn joins(seed: u64, count: usize) -> [Join; Net::JOINS] {
     let mut joins = [join(Op::Not, 0, 0, 0); Net::JOINS];
-    let mut s = made::next(seed);
+    let mut s = next(seed);
     for k in 0..Net::JOINS {
-        s = made::next(s);
+        s = next(s);
         joins[k] = drawn_join(s, count);
     }
     joins
@@ -96,5 +97,5 @@ pub fn changed() -> [Interval; Net::WORDS] {
 
 // The number drawn after s.
 pub fn further(s: u64) -> u64 {
-    made::next(s)
+    next(s)
 }

@@ -8,6 +8,7 @@ use span::Joined;
 use span::Op;
 use trial_spans::expected;
 use trial_spans::expected::Way;
+use trial_spans::expected::common;
 
 // Where a run stands: the words, the next join, and how many joins in a row left all words alone.
 struct Stand {
@@ -126,13 +127,6 @@ fn at(p: usize, word: Interval, join: Join, found: Joined) -> Interval {
         left = common(left, y);
     }
     left
-}
-
-fn common(i: Interval, j: Interval) -> Interval {
-    Interval {
-        low: if i.low < j.low { j.low } else { i.low },
-        high: if i.high < j.high { i.high } else { j.high },
-    }
 }
 
 // Whether an interval has no word, of all places: those not in use hold one word.

@@ -86,7 +86,7 @@ fn refusal(width: u64, h: Interval, x: Interval, y: Interval) -> u64 {
 }
 
 // The words of both.
-fn common(i: Interval, j: Interval) -> Interval {
+pub fn common(i: Interval, j: Interval) -> Interval {
     Interval {
         low: if i.low < j.low { j.low } else { i.low },
         high: if i.high < j.high { i.high } else { j.high },

@@ -44,13 +44,6 @@ pub fn all(width: u64) -> Interval {
     }
 }
 
-// The number drawn after s (xorshift: 13 up, 7 down, 17 up).
-pub fn next(s: u64) -> u64 {
-    let a = s ^ s << 13;
-    let b = a ^ a >> 7;
-    b ^ b << 17
-}
-
 // An interval of the words up to top, which is at most 255, from two bytes of a drawn number.
 pub fn drawn(s: u64, top: u64) -> Interval {
     let a = s >> 8 & top;

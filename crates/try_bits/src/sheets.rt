@@ -66,20 +66,12 @@ fn over_words(way: Way, rules: [Rule; Rule::LIMIT], k: usize, width: Width) -> T
     direct::fill(rules, k, width, &mut table);
     match way {
         Way::Next => upwards(rules, k, width, &table),
-        Way::Prev => if taken(rules) {
+        Way::Prev => if rules::two_taken(rules) {
             downwards(rules, k, width, &table)
         } else {
             Tally::none()
         },
     }
-}
-
-// Whether neither of the first two rules has a bit that a sheet refuses.
-fn taken(rules: [Rule; Rule::LIMIT]) -> bool {
-    if rules::strays(rules[0]) {
-        return false;
-    }
-    !rules::strays(rules[1])
 }
 
 // From each word the next one that has the bits. (Of one rule, the second fixes none.)

@@ -89,19 +89,11 @@ fn over_firsts(n: usize, second: Rule, width: Width) -> Split
     for i in 0..count {
         let mut rules = [second; Rule::LIMIT];
         rules[0] = rules::numbered(i, width);
-        if taken(rules) {
+        if rules::two_taken(rules) {
             split = split.plus(sheet(rules, n, width, &mut table));
         }
     }
     split
-}
-
-// Whether neither of the first two rules has a bit that a sheet refuses.
-fn taken(rules: [Rule; Rule::LIMIT]) -> bool {
-    if rules::strays(rules[0]) {
-        return false;
-    }
-    !rules::strays(rules[1])
 }
 
 // Sheets drawn by a fixed rule, of the widths 1 to 8.

@@ -15,15 +15,6 @@ pub fn no_number() -> f32 {
     0.0 / 0.0
 }
 
-// No sheet keeps a verdict 3.
-pub fn hurt(sheet: Sheet) -> Sheet {
-    let mut kept = sheet.kept;
-    kept.verdict = 3;
-    let mut no_sheet = sheet;
-    no_sheet.kept = kept;
-    no_sheet
-}
-
 // The sheet with n rules more.
 pub fn filled(sheet: Sheet, n: usize) -> Sheet {
     let mut more = sheet;

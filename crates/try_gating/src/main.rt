@@ -14,6 +14,7 @@ use sheet::Sheet;
 use trial_calls::answers::accepted;
 use trial_calls::answers::refused;
 use trial_calls::answers::same_sheet;
+use trial_calls::records::hurt;
 use trial_calls::sheets::added;
 use trial_calls::sheets::case2;
 use trial_calls::sheets::gone_back;
@@ -89,10 +90,10 @@ fn order(edition: Edition) -> Tally {
     let narrow = opened_in(4, edition);
     let full = made::filled(sheet, Rule::LIMIT);
     let narrow_full = made::filled(narrow, Rule::LIMIT);
-    refuses(made::hurt(Sheet::blank()), one, 17)
-        .plus(refuses(made::hurt(narrow), one, 17))
-        .plus(refuses(made::hurt(sheet), none, 17))
-        .plus(refuses(made::hurt(full), one, 17))
+    refuses(hurt(Sheet::blank()), one, 17)
+        .plus(refuses(hurt(narrow), one, 17))
+        .plus(refuses(hurt(sheet), none, 17))
+        .plus(refuses(hurt(full), one, 17))
         .plus(refuses(Sheet::blank(), one, 1))
         .plus(refuses(Sheet::blank(), none, 1))
         .plus(refuses(opened_in(31, edition), one, 13))

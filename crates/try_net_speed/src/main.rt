@@ -5,6 +5,7 @@ use net::Join;
 use net::Net;
 use span::Interval;
 use span::Op;
+use trial_spans::made;
 
 const RUNS: u64 = 400;
 
@@ -60,19 +61,10 @@ fn joins() -> [Join; Net::JOINS] {
         let h = 2 + k % 14;
         let x = 1 + k % 14;
         let y = k % 14;
-        let op = operation(h);
+        let op = made::op(h as u64);
         joins[k] = Join { op, h, x, y };
     }
     joins
-}
-
-fn operation(h: usize) -> Op {
-    match h % 4 {
-        0 => Op::Not,
-        1 => Op::And,
-        2 => Op::Or,
-        _ => Op::Xor,
-    }
 }
 
 // Up to 15 words on each side of words that satisfy all joins: no cut is empty, and a span goes down nearly all bits.
@@ -85,7 +77,7 @@ fn intervals(one: u64, other: u64) -> [Interval; Net::WORDS] {
     let mut word = other;
     for k in 0..Net::WORDS {
         words[k] = around(before);
-        let next = result(operation(2 + k), word, before);
+        let next = result(made::op(2 + k as u64), word, before);
         before = word;
         word = next;
     }

@@ -10,6 +10,7 @@ use trial_calls::answers::kept;
 use trial_calls::answers::refused;
 use trial_calls::answers::replied;
 use trial_calls::answers::untouched;
+use trial_calls::records::hurt;
 use trial_calls::sheets::added;
 use trial_calls::sheets::all_marks;
 use trial_calls::sheets::case2;
@@ -44,15 +45,6 @@ fn in_edition(edition: Edition) -> Tally {
         .plus(form(sheet))
         .plus(sense(sheet))
         .plus(places(full))
-}
-
-// No sheet keeps a verdict 3.
-fn hurt(sheet: Sheet) -> Sheet {
-    let mut kept = sheet.kept;
-    kept.verdict = 3;
-    let mut no_sheet = sheet;
-    no_sheet.kept = kept;
-    no_sheet
 }
 
 // An add in the sheet's edition, and one in another.

@@ -4,6 +4,7 @@
 // Seven corners have 28 intervals, which is 784 pairs, at four widths, with three intervals of h and four operations.
 use span::Interval;
 use span::Op;
+use trial_direct::draw::next;
 use trial_spans::expected;
 use trial_spans::expected::Way;
 use trial_spans::made;
@@ -107,13 +108,13 @@ fn drawn() -> Tally {
     for i in 0..DRAWN {
         let width = 5 + i % 4;
         let top = expected::top(width);
-        let second = made::next(seed);
-        let third = made::next(second);
+        let second = next(seed);
+        let third = next(second);
         let op = made::op(i / 4);
         let h = made::drawn(seed, top);
         let x = made::drawn(second, top);
         tally = tally.plus(one(Way::Words, width, op, h, x, made::drawn(third, top)));
-        seed = made::next(third);
+        seed = next(third);
     }
     tally
 }

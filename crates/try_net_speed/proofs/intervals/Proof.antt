@@ -23,11 +23,11 @@ mul-words c = search needs
 array-set-from-words : tie.Need-array-set-from-words Inv-loop μ-loop
 array-set-from-words c = search needs
 
-add-operation : tie.Need-add-operation Inv-loop μ-loop
-add-operation c = search needs
+add-op : tie.Need-add-op Inv-loop μ-loop
+add-op c = search needs
 
-operation-requires : tie.Need-operation-requires Inv-loop μ-loop
-operation-requires c κs = search needs
+op-requires : tie.Need-op-requires Inv-loop μ-loop
+op-requires c κs = search needs
 
 result-requires : tie.Need-result-requires Inv-loop μ-loop
 result-requires c κs = search needs
@@ -54,8 +54,8 @@ intervals-spec =
     around-requires
     mul-words
     array-set-from-words
-    add-operation
-    operation-requires
+    add-op
+    op-requires
     result-requires
     add-k
     loop-less

@@ -20,8 +20,8 @@ add-h c = search needs
 add-x : tie.Need-add-x Inv-loop μ-loop
 add-x c = search needs
 
-operation-requires : tie.Need-operation-requires Inv-loop μ-loop
-operation-requires c κs = search needs
+op-requires : tie.Need-op-requires Inv-loop μ-loop
+op-requires c κs = search needs
 
 mul-joins : tie.Need-mul-joins Inv-loop μ-loop
 mul-joins c = search needs
@@ -50,7 +50,7 @@ joins-spec =
     loop-holds
     add-h
     add-x
-    operation-requires
+    op-requires
     mul-joins
     array-set-from-joins
     add-k
