@@ -141,7 +141,7 @@ module _ {h : Head} {rows : List (List ℕ)} {marks : List ℕ} (held : Held h r
         go true = refl
         go false = refl
 
-  -- words that are shown are the column's, of a sheet that is not blank
+  -- words that are shown are in order and within the width, of a sheet that is not blank
   pub words-so : {v : Run} → Words v ≡ shown (h .stands) w c → Laid h v
   unfolding shown
   words-so {v = v} s = go test refl s

@@ -1,7 +1,6 @@
 // Long sequences of calls. After each call, accepted or refused, the desk's sheet is the one that a fresh sheet comes to
 // that is given what stands on the clerk's page and what waits beside it, and is taken back once for each stretch that waits.
 use page::Opening;
-use sheet::Answer;
 use sheet::Call;
 use sheet::Sheet;
 use trial_calls::answers::same_sheet;

@@ -1,10 +1,8 @@
 -- `all_at` meets its contract: what is drawn of the record as it is laid out is drawn of the record. Assumes nothing.
 use mathlib.Core.Path.{_≡_, refl, sym, _∙_, subst}
-use Prim.Native.Nat.{ℕ, _≤_}
-use mathlib.Core.Bool.{true}
+use Prim.Native.Nat.{ℕ}
 use borrow.Author.Needs.{needs}
 use lib.ListN.{take}
-use Rattle.word.specs.Word.{top}
 use Rattle.band.specs.declared.Run.{Run}
 use Rattle.rows.specs.route.Rows.{rulesIn}
 use Rattle.sheet.specs.declared.Sheet.{Sheet}

@@ -1,5 +1,5 @@
 -- A route: what comes next in a part of the input, where a line may have begun before it. That lines taken so are those of the exchange is proved
--- (exchange: proofs/Parts.antt).
+-- (proofs/Told.antt).
 use mathlib.Core.Bool.{cond}
 use mathlib.Core.List.{List}
 use Prim.Native.Nat.{ℕ, _+_}
@@ -12,7 +12,7 @@ use Rattle.exchange.specs.route.Begun.{begunLine, joined}
 use Rattle.next_line.specs.declared.Next.{Next}
 use Rattle.next_line.specs.declared.Next.the-variants.{Line, Rest}
 
--- a line that starts at a place goes on where the part ends with it
+-- a line that ends at a place: the rest of the part, where that ends there too, and else its frame and the place after its byte 10
 abbrev pub after : Begun → (line part : List ℕ) (end : ℕ) → Next
 after g line part end = cond (eqb end (length part)) Rest (Line (frameOf (begunLine (joined g line))) (end + 1))
 

@@ -1,10 +1,9 @@
 -- `words_of` meets its contract. Assumes nothing.
-use mathlib.Core.Path.{_≡_, ap, _∙_}
+use mathlib.Core.Path.{_≡_, ap}
 use mathlib.Core.Bool.{true, false}
 use Prim.Native.Nat.{_<_}
 use native.Mathlib.Omega.{arith}
 use borrow.Author.Tests.{eq-eqb, le-ltb, lt-ltb, ne-eqb, not-false, not-true}
-use Rattle.band.specs.declared.Run.{Run}
 use Rattle.column.specs.Column.{columns}
 use Rattle.picture.specs.declared.Shown.the-variants.{Words}
 use Rattle.picture.specs.route.Shown.{shown}
