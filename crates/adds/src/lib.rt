@@ -1,5 +1,6 @@
 // A list of rules added on a slate one after another, up to the first refusal.
 #![tactic(auto)]
+
 ghost use Rattle.std.specs.Prelude.{◌≡◌, ◌+◌, ◌≤◌, take};
 ghost use Rattle.rule.specs.Meaning.{RULES};
 ghost use Rattle.slate.specs.route.Held.{Held};

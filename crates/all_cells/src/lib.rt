@@ -1,5 +1,6 @@
 // A picture of a sheet, by all rules in force: how each column goes.
 #![tactic(auto)]
+
 ghost use Rattle.std.specs.Prelude.{◌≡◌};
 ghost use Rattle.picture.specs.Picture.{all_cell};
 

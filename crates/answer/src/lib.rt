@@ -1,5 +1,6 @@
 // A frame answered on a slate: one place makes its call, and one writes what the call comes to into a lent buffer, from a place on.
 #![tactic(auto)]
+
 ghost use Rattle.std.specs.Prelude.{◌≡◌, ◌+◌, ◌≤◌, length};
 ghost use Rattle.rule.specs.Meaning.{RULES};
 ghost use Rattle.chain.specs.Links.{chain_room};
@@ -10,11 +11,11 @@ ghost use Rattle.sheet.specs.route.Held.{packed};
 ghost use Rattle.frame_call.specs.Chain.{ChainLeft};
 ghost use Rattle.answer.specs.Statements.{FrameAnswered};
 
-use rule::bits::Fixed;
 use frame::Frame;
 use frame_call::call;
 use rows::NUMBERS;
 use rule::Rule;
+use rule::bits::Fixed;
 use sheet::Sheet;
 use slate::Head;
 use told::put;

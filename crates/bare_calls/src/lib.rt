@@ -2,6 +2,7 @@
 // but the first reads the numbers anew, tests them for 17 as the call beneath does, and writes them down again only where it is accepted:
 // a refused call leaves every number as it was.
 #![tactic(auto)]
+
 ghost use Rattle.std.specs.Prelude.{◌≡◌};
 ghost use Rattle.page.specs.Calls.{back, forward, mark};
 ghost use Rattle.sheet.specs.Record.{blank};

@@ -1,5 +1,6 @@
 // The batch call: an opening, a lent list of rules and a chain buffer, answered as the calls one by one would be.
 #![tactic(auto)]
+
 ghost use Rattle.std.specs.Prelude.{◌≡◌, replicate};
 ghost use Rattle.rule.specs.accept.Accept.{no_rule};
 ghost use Rattle.course.specs.Batch.{Batched, MOST};

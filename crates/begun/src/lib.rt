@@ -1,5 +1,6 @@
 // A batch on its slate before it is asked: the blank sheet is laid out, opened and given each rule in order, up to the first refusal.
 #![tactic(auto)]
+
 ghost use Rattle.std.specs.Prelude.{take};
 ghost use Rattle.slate.specs.route.Held.{Held, Room};
 ghost use Rattle.sheet.specs.route.Held.{packed};

@@ -1,5 +1,6 @@
 // The number with which asking why a word fails is refused: what is looked at before any rule is.
 #![tactic(auto)]
+
 ghost use Rattle.std.specs.Prelude.{◌≡◌, true};
 ghost use Rattle.word.specs.Word.{IsWidth};
 ghost use Rattle.blame_refusal.specs.route.Seen.{WhySeen};

@@ -1,5 +1,6 @@
 // Which rules in force a word fails, on any record.
 #![tactic(auto)]
+
 ghost use Rattle.std.specs.Prelude.{◌≡◌};
 ghost use Rattle.listing.specs.Listed.{listings};
 ghost use Rattle.blaming.specs.Blamed.{Blamed};

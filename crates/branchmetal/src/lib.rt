@@ -2,6 +2,7 @@
 // and answers 0 or the paper's number of a refusal; include/branchmetal.h declares them. A static library has the functions of one crate
 // alone, so that each call is exported here and is made in the crate that it comes from.
 #![tactic(auto)]
+
 mod lists;
 mod sheets;
 mod words;

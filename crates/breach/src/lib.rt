@@ -1,5 +1,6 @@
 // Why a list of links is no chain: the first clause of the paper that does not hold, found by bands and bits and never word by word.
 #![tactic(auto)]
+
 ghost use Rattle.std.specs.Prelude.{◌≡◌, ◌%◌, length, take};
 ghost use Rattle.word.specs.Word.{IsWidth, top};
 ghost use Rattle.rule.specs.bits.route.Fixed.{Tidy};

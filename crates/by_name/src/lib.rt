@@ -1,5 +1,6 @@
 // The rule that has a name, among the rows of names that are kept beside a sheet.
 #![tactic(auto)]
+
 ghost use Rattle.std.specs.Prelude.{◌≡◌};
 ghost use Rattle.by_name.specs.Which.{has_name, number_of};
 

@@ -1,5 +1,6 @@
 // The chain of links from zero to the top word that shows why no word fits.
 #![tactic(auto)]
+
 ghost use Rattle.std.specs.Prelude.{◌≡◌, ◌++◌, ◌∷◌, ◌+◌, ◌≤◌, drop, length, take};
 ghost use Rattle.rule.specs.Meaning.{RULES};
 ghost use Rattle.chain.specs.Links.{chain_room, further, link_from};

@@ -1,5 +1,6 @@
 // A chain that somebody else wrote, checked: whether its links show that no word fits the sheet.
 #![tactic(auto)]
+
 ghost use Rattle.std.specs.Prelude.{true, ◌↔◌, ◌≡◌};
 ghost use Rattle.checker.specs.Accepted.{Accepted};
 ghost use Rattle.checker.specs.Check.{accepts};

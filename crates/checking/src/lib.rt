@@ -1,6 +1,7 @@
 // A chain that a lab wrote, read from a descriptor line by line and checked against a sheet: what is found of it, in one line on standard output,
 // or where the chain is mistaken, on standard error.
 #![tactic(auto)]
+
 mod settling;
 mod words;
 

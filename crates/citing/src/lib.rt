@@ -1,5 +1,6 @@
 // A line of a chain, as a lab writes it or as the desk does: read into a link, or into its first mistake.
 #![tactic(auto)]
+
 ghost use Rattle.std.specs.Prelude.{◌≡◌};
 ghost use Rattle.citing.specs.Citation.{citation, cited, is_reason, lab_says, said, wrong_at};
 

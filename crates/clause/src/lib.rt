@@ -1,5 +1,6 @@
 // Why the check of a chain says no: the first clause of the paper that does not hold of a sheet and a list of links.
 #![tactic(auto)]
+
 ghost use Rattle.std.specs.Prelude.{◌≡◌};
 ghost use Rattle.checker.specs.Check.{accepts};
 ghost use Rattle.finding.specs.Clauses.{is_yes};

@@ -1,5 +1,6 @@
 // The columns of a picture: 64, or at fewer than 6 bits a column a word.
 #![tactic(auto)]
+
 ghost use Rattle.std.specs.Prelude.{◌≡◌, ◌<◌};
 ghost use Rattle.word.specs.Word.{IsWidth};
 ghost use Rattle.column.specs.Column.{columns, size, words_of};

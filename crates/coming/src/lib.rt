@@ -1,5 +1,6 @@
 // What a call to the system came to, and whether to go on after it; what a read brought, and answers written.
 #![tactic(auto)]
+
 ghost use Rattle.std.specs.Prelude.{◌≡◌};
 ghost use Rattle.coming.specs.Calls.{came_to, goes_on};
 

@@ -1,5 +1,6 @@
 // How many words fit by the rows that a record was laid out in, and none where it is refused.
 #![tactic(auto)]
+
 ghost use Rattle.std.specs.Prelude.{◌≡◌, suc, take};
 ghost use Rattle.word.specs.Search.{count};
 ghost use Rattle.word.specs.Word.{IsWidth, top};

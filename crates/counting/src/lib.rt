@@ -1,5 +1,6 @@
 // How many words fit a sheet: any record, counted by sections of words, never word by word.
 #![tactic(auto)]
+
 ghost use Rattle.counting.specs.Counted.{Counted};
 
 use rows::NUMBERS;

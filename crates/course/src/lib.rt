@@ -1,5 +1,6 @@
 // A batch on its slate: a sheet is opened there, given each rule in order, and asked. What the batch call answers is said here.
 #![tactic(auto)]
+
 ghost use Rattle.std.specs.Prelude.{◌≡◌, length, take};
 ghost use Rattle.adds.specs.route.Few.{few};
 ghost use Rattle.course.specs.Batch.{Gives, batches};

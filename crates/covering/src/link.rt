@@ -10,11 +10,11 @@ ghost use Rattle.rows.specs.route.Rows.{bands_in};
 ghost use Rattle.covering.specs.Check.{every_word, right_reason};
 ghost use Rattle.covering.specs.route.Route.{covered};
 
-use rows::band::Band;
-use rule::bits::Fixed;
 use chain::Link;
 use rows::InForce;
+use rows::band::Band;
 use rule::Rule;
+use rule::bits::Fixed;
 use word::{Found, Width};
 
 // Whether a link at place i of the list may start at a word: the first at 0, a later one at most one past the largest end so far.

@@ -1,6 +1,7 @@
 // Lines one after another on a sheet, up to the first mistake or refusal: each does what its call does, and nothing after that
 // one is done or answered.
 #![tactic(auto)]
+
 ghost use Rattle.std.specs.Prelude.{◌≡◌, false};
 ghost use Rattle.sheet.specs.Record.{blank};
 ghost use Rattle.saying.specs.Says.{lent};

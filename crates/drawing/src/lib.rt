@@ -1,5 +1,6 @@
 // The picture of a sheet on standard output, as comment lines of a sheet: a row for each rule in force, and one for all.
 #![tactic(auto)]
+
 use column::COLUMNS;
 use libc::STDOUT_FILENO;
 use rule::Rule;

@@ -1,6 +1,7 @@
 // The band of furthest reach found by the order of the bands: after a link only bands whose later run has started since then can fail, so
 // that each is looked at once in a whole chain.
 #![tactic(auto)]
+
 ghost use Rattle.std.specs.Prelude.{◌≡◌, ◌≤◌, take};
 ghost use Rattle.rows.specs.route.Bands.{Lie};
 ghost use Rattle.rows.specs.route.Rows.{bands_in};

@@ -1,6 +1,7 @@
 // The exchange of lines and answers, a part of the input at a time: what is held of a line that is cut, and what feeding a part
 // promises. Where a line ends stands in `input_line`, and is handed on here.
 #![tactic(auto)]
+
 mod holding;
 
 use frame::Frame;

@@ -1,5 +1,6 @@
 // The span of an operation over intervals, down the bits once.
 #![tactic(auto)]
+
 ghost use Rattle.std.specs.Prelude.{◌≡◌};
 ghost use Rattle.word.specs.Word.{IsWidth};
 ghost use Rattle.interval.specs.Interval.{Words};

@@ -1,5 +1,6 @@
 // The batch call on the first rules of an array.
 #![tactic(auto)]
+
 ghost use Rattle.std.specs.Prelude.{take};
 ghost use Rattle.course.specs.Batch.{Batched};
 

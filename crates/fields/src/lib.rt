@@ -1,5 +1,6 @@
 // What a line is made of, numbers in so many digits, and the lines of an answer, written into a lent buffer from a place on.
 #![tactic(auto)]
+
 ghost use Rattle.std.specs.Prelude.{◌≡◌, ◌+◌, ◌*◌, ◌≤◌, length};
 ghost use Rattle.rule.specs.Meaning.{RULES};
 ghost use Rattle.chain.specs.Links.{most_links};

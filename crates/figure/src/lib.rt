@@ -1,5 +1,6 @@
 // A number as answers have it: in decimal, and in hexadecimal in parentheses.
 #![tactic(auto)]
+
 ghost use Rattle.std.specs.Prelude.{◌+◌, ◌≤◌, length};
 ghost use Rattle.phrase.specs.Phrase.{Put};
 ghost use Rattle.figure.specs.Figure.{NUMBER, number_text};

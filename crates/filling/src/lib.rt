@@ -1,5 +1,6 @@
 // Words that pass bands and bits, written into a lent buffer in rising order, section by section.
 #![tactic(auto)]
+
 ghost use Rattle.std.specs.Prelude.{◌≡◌, suc, ◌-◌, ◌≤◌, length, take};
 ghost use Rattle.word.specs.Search.{passing};
 ghost use Rattle.word.specs.Word.{IsWidth, top};

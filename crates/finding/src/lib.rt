@@ -1,5 +1,6 @@
 // What is found of a list of links, clause by clause of the paper, and the clauses on where a link lies.
 #![tactic(auto)]
+
 ghost use Rattle.std.specs.Prelude.{◌≡◌};
 ghost use Rattle.finding.specs.Clauses.{first_broken, is_yes, lie_clauses};
 

@@ -1,5 +1,6 @@
 // The rows of the forms as people write them, and those with two numbers, written.
 #![tactic(auto)]
+
 ghost use Rattle.std.specs.Prelude.{◌+◌, ◌≤◌, length};
 ghost use Rattle.phrase.specs.Phrase.{Put};
 ghost use Rattle.form_rows.specs.route.Pairs.{pair_text};

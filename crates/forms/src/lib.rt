@@ -1,5 +1,6 @@
 // The row of a form, written with its numbers.
 #![tactic(auto)]
+
 ghost use Rattle.std.specs.Prelude.{◌+◌, ◌≤◌, length};
 ghost use Rattle.word.specs.Word.{IsWidth};
 ghost use Rattle.phrase.specs.Phrase.{Put};

@@ -1,5 +1,6 @@
 // Lines of hexadecimal: which frame a line is. How an answer is written stands in `fields`, and is handed on here.
 #![tactic(auto)]
+
 mod reading;
 
 use chain::Link;

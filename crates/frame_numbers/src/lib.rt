@@ -1,6 +1,7 @@
 // What the code and the numbers of a line say before it is a frame: the edition whose frames have the code, whether the line is as
 // long as one that opens or adds, and the rule that an add's digits write.
 #![tactic(auto)]
+
 ghost use Rattle.std.specs.Prelude.{◌≡◌, ◌&&◌, eqb, length};
 ghost use Rattle.word.specs.Edition.{terms};
 ghost use Rattle.fields.specs.Fields.{WORD};

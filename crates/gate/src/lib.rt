@@ -1,5 +1,6 @@
 // Gates on a reading of watts, and the four rules that a gate is on the sheet of the reading's 32 bits.
 #![tactic(auto)]
+
 ghost use Rattle.std.specs.Prelude.{◌≡◌, ◌+◌, ◌≤◌};
 ghost use Rattle.word.specs.Word.{top};
 ghost use Rattle.gate.specs.Gate.{failing, turned};

@@ -1,5 +1,6 @@
 // The number with which a gate is refused: what is looked at before its rules are added.
 #![tactic(auto)]
+
 ghost use Rattle.gate_refusal.specs.route.Seen.{SeenFor};
 
 use gate::Gate;

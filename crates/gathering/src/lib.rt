@@ -1,5 +1,6 @@
 // A lab's chain, read from a descriptor part by part and line by line: its links, and the line of each. A mistake is said on standard error.
 #![tactic(auto)]
+
 mod errors;
 
 use chain::Link;

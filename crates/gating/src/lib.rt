@@ -1,5 +1,6 @@
 // Setting a power gate on a sheet: its four rules are added, or none is.
 #![tactic(auto)]
+
 ghost use Rattle.page.specs.Calls.{set_gate};
 ghost use Rattle.sheet.specs.Statements.{Outcome};
 ghost use Rattle.gating.specs.route.Added.{AddedFor};

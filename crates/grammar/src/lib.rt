@@ -1,5 +1,6 @@
 // The grammar of a line: its rows, each a list of kinds, and how far the kinds of a line follow them.
 #![tactic(auto)]
+
 pub mod kind;
 
 ghost use Rattle.std.specs.Prelude.{◌≡◌, ◌≤◌};

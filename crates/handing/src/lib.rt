@@ -1,5 +1,6 @@
 // What a caller outside hands in, as numbers: rules, four numbers each, and the numbers of editions.
 #![tactic(auto)]
+
 ghost use Rattle.std.specs.Prelude.{◌≡◌, [], ◌<◌, get_or, length};
 ghost use Rattle.handing.specs.Handed.{edition_of, opening_of, rule_in, weigh_number};
 

@@ -1,5 +1,6 @@
 // Hexadecimal in lowercase digits: numbers written and read, in so many digits.
 #![tactic(auto)]
+
 ghost use Rattle.std.specs.Prelude.{◌≡◌, ◌+◌, ◌≤◌, ◌<◌, length};
 ghost use Rattle.std.proofs.Math.Seq.{slice};
 ghost use Rattle.hexadecimal.specs.Hex.{MOST, Written, all_digits, glyph, hex, is_digit, is_letter, is_numeral, number, value};

@@ -1,5 +1,6 @@
 // The end of the input, on a slate: the last line, which may lack its byte 10.
 #![tactic(auto)]
+
 ghost use Rattle.std.specs.Prelude.{◌≡◌, ◌≤◌, length};
 ghost use Rattle.rule.specs.Meaning.{RULES};
 ghost use Rattle.chain.specs.Links.{chain_room};

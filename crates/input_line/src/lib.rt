@@ -1,5 +1,6 @@
 // A line of the input: its bytes up to the next byte 10, found eight at a step.
 #![tactic(auto)]
+
 ghost use Rattle.std.specs.Prelude.{◌≡◌, ◌+◌, ◌≤◌, leb, drop, length};
 ghost use Rattle.input_line.specs.Lines.{line_of};
 

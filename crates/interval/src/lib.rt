@@ -1,5 +1,6 @@
 // Intervals of words and the operations that join them: what lies in two, what lies below and above a half, and words turned round.
 #![tactic(auto)]
+
 ghost use Rattle.std.specs.Prelude.{◌≤◌, ◌<◌, min, max, ◌≡◌};
 ghost use Rattle.interval.specs.Interval.{cut, hollow, lower, turned, upper, within};
 ghost use Rattle.interval.specs.Op.{inverted, second};

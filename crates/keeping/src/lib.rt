@@ -1,6 +1,7 @@
 // A sheet that a caller outside keeps between calls: its numbers, read into a record, and a record written down again. C can spoil
 // memory: any numbers are read, and those that are no sheet's make a record that is none.
 #![tactic(auto)]
+
 ghost use Rattle.std.specs.Prelude.{◌≡◌, cond, eqb, length};
 ghost use Rattle.kept_numbers.specs.Numbers.{NUMBERS, numbers_of};
 ghost use Rattle.kept_numbers.specs.route.Reading.{sheet_in};

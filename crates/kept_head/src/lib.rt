@@ -1,5 +1,6 @@
 // The head of the numbers that a caller keeps, before the marks and the rules: its opening read, and a record's head put there.
 #![tactic(auto)]
+
 ghost use Rattle.std.specs.Prelude.{◌≡◌, ◌++◌, drop, length};
 ghost use Rattle.kept_numbers.specs.Numbers.{HEAD, NUMBERS, head_of, number_of};
 ghost use Rattle.kept_numbers.specs.route.Reading.{opening_in};

@@ -1,5 +1,6 @@
 // The numbers of a sheet that a caller outside keeps: where each lies, what they mean, and what any numbers are read as.
 #![tactic(auto)]
+
 use rule::Rule;
 use sheet::Sheet;
 

@@ -1,5 +1,6 @@
 // A record written down as the numbers that a caller keeps: its head, its marks and its rules, each put in its place and the others left as they are.
 #![tactic(auto)]
+
 ghost use Rattle.std.specs.Prelude.{◌≡◌, ◌++◌, drop, length, take};
 ghost use Rattle.page.specs.Page.{MARKS};
 ghost use Rattle.kept_numbers.specs.Numbers.{HEAD, NUMBERS, RULES_AT, flat, numbers_of};

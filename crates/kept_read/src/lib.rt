@@ -1,5 +1,6 @@
 // The rules and the marks among the numbers of a sheet that a caller keeps, read.
 #![tactic(auto)]
+
 ghost use Rattle.std.specs.Prelude.{◌≡◌, ◌<◌, get_or, length};
 ghost use Rattle.rule.specs.Meaning.{RULES};
 ghost use Rattle.rule.specs.accept.Accept.{no_rule};

@@ -1,5 +1,6 @@
 // A sheet laid out in rows for a call that only looks at it, with the number that comes before the table, and what is in force.
 #![tactic(auto)]
+
 ghost use Rattle.std.specs.Prelude.{◌≡◌, length};
 ghost use Rattle.rule.specs.Meaning.{RULES};
 ghost use Rattle.laid_force.specs.route.Found.{FoundIn};

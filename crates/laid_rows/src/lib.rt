@@ -1,5 +1,6 @@
 // A sheet laid out in rows for a call that only looks at it: the marks are laid out beside them, and left behind.
 #![tactic(auto)]
+
 ghost use Rattle.std.specs.Prelude.{◌≡◌, length};
 ghost use Rattle.rule.specs.Meaning.{RULES};
 ghost use Rattle.laid_rows.specs.route.Laid.{LaidIn};

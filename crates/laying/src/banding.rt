@@ -6,8 +6,8 @@ ghost use Rattle.rule.specs.bits.route.Fixed.{fixed_bits};
 ghost use Rattle.rows.specs.route.Rows.{drawn, rules_in};
 
 use rows::band::Band;
-use rule::bits::Fixed;
 use rule::Rule;
+use rule::bits::Fixed;
 use word::Width;
 
 // Lays the bands of the first n rules.

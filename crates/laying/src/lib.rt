@@ -1,5 +1,6 @@
 // Rules in lent rows, from the first row to the last: laid out from a record, tested, drawn, cleared, and packed again.
 #![tactic(auto)]
+
 mod banding;
 mod packing;
 mod testing;

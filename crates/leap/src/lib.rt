@@ -1,6 +1,7 @@
 // A leap over many runs of words that fail: each band is looked at once, in the order in which the later runs start. The order is sorted and
 // nobody proves that it is one: whatever it is, no word that passes is leapt over.
 #![tactic(auto)]
+
 ghost use Rattle.std.specs.Prelude.{◌≤◌, take};
 ghost use Rattle.word.specs.Word.{IsWidth, top};
 ghost use Rattle.rule.specs.bits.route.Fixed.{Tidy};

@@ -1,5 +1,6 @@
 // A line as people write it, read into a statement, or into its first mistake.
 #![tactic(auto)]
+
 ghost use Rattle.std.specs.Prelude.{◌≡◌};
 ghost use Rattle.word.specs.Word.{IsWidth};
 ghost use Rattle.line.specs.Line.{by_row, finished, nothing_read, other, read, rule_statement};

@@ -1,5 +1,6 @@
 // Where what a line says ends: right after its last letter that is no blank and stands before its comment.
 #![tactic(auto)]
+
 ghost use Rattle.std.specs.Prelude.{◌≡◌};
 ghost use Rattle.line_end.specs.End.{end_of};
 ghost use Rattle.line_end.specs.route.Course.{past};

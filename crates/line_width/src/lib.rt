@@ -1,5 +1,6 @@
 // The width at which a line is read.
 #![tactic(auto)]
+
 ghost use Rattle.std.specs.Prelude.{◌≡◌};
 ghost use Rattle.word.specs.Word.{IsWidth};
 ghost use Rattle.line_width.specs.Width.{reading_at};

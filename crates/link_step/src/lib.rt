@@ -1,5 +1,6 @@
 // One link: where it starts and ends, and why.
 #![tactic(auto)]
+
 ghost use Rattle.std.specs.Prelude.{◌≡◌, ◌≤◌};
 ghost use Rattle.word.specs.Word.{IsWidth, top};
 ghost use Rattle.rule.specs.bits.route.Fixed.{Tidy};
@@ -7,9 +8,9 @@ ghost use Rattle.rows.specs.route.Rows.{bands_in};
 ghost use Rattle.chain.specs.route.OnBands.{gap_on};
 ghost use Rattle.link_step.specs.route.Step.{Reached, link_to};
 
-use rule::bits::Fixed;
 use chain::{Far, Link};
 use rule::Rule;
+use rule::bits::Fixed;
 use word::{Found, Width};
 
 // The link at p by the furthest reach that was found. Where it names a rule it starts where that rule's run of failing words starts.

@@ -1,5 +1,6 @@
 // A link as the desk writes it, in either edition: `c0`, its first and its last word, and the reason, in hexadecimal digits.
 #![tactic(auto)]
+
 ghost use Rattle.std.specs.Prelude.{◌≡◌, ◌≤◌, length};
 ghost use Rattle.fields.specs.Fields.{WORD};
 ghost use Rattle.linked.specs.Linked.{bare_end, end_of, is_link, link_in, link_of};

@@ -1,5 +1,6 @@
 // The links of the chain found on bands in lent rows, and written one after another.
 #![tactic(auto)]
+
 ghost use Rattle.std.specs.Prelude.{◌≡◌, List, ◌++◌, ◌*◌, ◌≤◌, drop, length, take};
 ghost use Rattle.word.specs.Word.{IsWidth, top};
 ghost use Rattle.rule.specs.declared.Rule.{Rule as RuleOf};
@@ -9,11 +10,11 @@ ghost use Rattle.rows.specs.route.Rows.{bands_in};
 ghost use Rattle.verdict.specs.Kept.{kept};
 ghost use Rattle.chain.specs.Links.{chain_room, links, numbers_of};
 
-use rule::bits::Fixed;
 use chain::Link;
 use due::Stage;
 use reach::Way;
 use rule::Rule;
+use rule::bits::Fixed;
 use word::Width;
 
 // A chain of no more links than these is found without sorting the bands.

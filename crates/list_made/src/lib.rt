@@ -1,5 +1,6 @@
 // The sheet that a list of rules in numbers makes.
 #![tactic(auto)]
+
 ghost use Rattle.std.specs.Prelude.{◌≡◌};
 ghost use Rattle.handing.specs.Handed.{opening_of, rules_in};
 ghost use Rattle.making.specs.Made.{given, makes};

@@ -1,5 +1,6 @@
 // The number with which a listing is refused: what comes before the table, and then its start.
 #![tactic(auto)]
+
 ghost use Rattle.std.specs.Prelude.{◌≡◌};
 ghost use Rattle.word.specs.Word.{IsWidth};
 ghost use Rattle.list_refusal.specs.route.Seen.{StartSeen};

@@ -1,5 +1,6 @@
 // The words that fit by the rows that a record was laid out in, written into a lent buffer, and none where the listing is refused.
 #![tactic(auto)]
+
 ghost use Rattle.std.specs.Prelude.{◌≡◌, ◌≤◌, length};
 ghost use Rattle.word.specs.Word.{IsWidth, top};
 ghost use Rattle.rule.specs.bits.route.Fixed.{Tidy};

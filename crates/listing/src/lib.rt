@@ -1,5 +1,6 @@
 // Which words fit a sheet: from a given word upward, as many as a lent buffer holds.
 #![tactic(auto)]
+
 ghost use Rattle.listing.specs.Listed.{Listed};
 
 use list_refusal::refusal_of;

@@ -1,5 +1,6 @@
 // A sheet made of a list of rules that a caller outside hands in: opened, and each rule added, up to the first refusal.
 #![tactic(auto)]
+
 ghost use Rattle.std.specs.Prelude.{◌≡◌};
 ghost use Rattle.handing.specs.Handed.{rules_in};
 ghost use Rattle.making.specs.Made.{given, makes};

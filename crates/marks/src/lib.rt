@@ -1,5 +1,6 @@
 // Marks in a lent array of numbers: for each, how many rules there were when it was set.
 #![tactic(auto)]
+
 ghost use Rattle.std.specs.Prelude.{◌≡◌, ◌++◌, ◌-◌, ◌≤◌, drop, length, replicate, take};
 ghost use Rattle.rule.specs.accept.Accept.{every};
 ghost use Rattle.page.specs.Page.{MARKS};

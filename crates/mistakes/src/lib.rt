@@ -1,5 +1,6 @@
 // Mistakes, on standard error: where, what was expected or why a call was refused, the line, and a mark under the place.
 #![tactic(auto)]
+
 use libc::STDERR_FILENO;
 use line::Statement;
 use printing::Told;

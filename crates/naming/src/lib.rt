@@ -1,5 +1,6 @@
 // The names of rules, kept beside a sheet in a lent array: a row a rule, its name and then zero bytes. An empty row is no name.
 #![tactic(auto)]
+
 ghost use Rattle.std.specs.Prelude.{◌≡◌, length};
 ghost use Rattle.naming.specs.Names.{kept, name_in, new_rules, put, row_of};
 

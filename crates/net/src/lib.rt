@@ -1,6 +1,7 @@
 // A net of words: up to 16 words with intervals and up to 32 joins of them at one width. The intervals are cut by one join after the
 // other, round and round, for as many steps as the caller will pay for.
 #![tactic(auto)]
+
 ghost use Rattle.std.specs.Prelude.{◌≡◌, cond, suc, ◌<◌};
 ghost use Rattle.net.specs.Net.{AllNamed, given};
 ghost use Rattle.net_tests.specs.Fits.{JOINS};

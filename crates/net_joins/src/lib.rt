@@ -1,5 +1,6 @@
 // The joins that rows are, in the places of a net.
 #![tactic(auto)]
+
 ghost use Rattle.std.specs.Prelude.{◌≡◌, [], map, ◌<◌, get_or, length, replicate};
 ghost use Rattle.net_tests.specs.Fits.{JOINS};
 ghost use Rattle.net_words.specs.Laid.{laid_over};

@@ -1,5 +1,6 @@
 // One step of a net: the intervals of the words that a join names, cut by its results.
 #![tactic(auto)]
+
 ghost use Rattle.std.specs.Prelude.{◌≡◌, ◌&&◌, ◌||◌, ◌<◌};
 ghost use Rattle.span.specs.Join.{any_hollow};
 ghost use Rattle.net_step.specs.Named.{Named, WORDS, third};

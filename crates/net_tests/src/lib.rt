@@ -1,5 +1,6 @@
 // The tests over all words and joins of a net, from which it is refused.
 #![tactic(auto)]
+
 ghost use Rattle.std.specs.Prelude.{◌≡◌, not, ◌≤◌};
 ghost use Rattle.interval.specs.Interval.{hollow, within};
 ghost use Rattle.net_step.specs.Named.{WORDS, named, word_at};

@@ -1,5 +1,6 @@
 // The intervals that rows are, in the places of a net, and those that it leaves, written down.
 #![tactic(auto)]
+
 ghost use Rattle.std.specs.Prelude.{◌≡◌, [], map, min, ◌<◌, get_or, length, replicate};
 ghost use Rattle.net_step.specs.Named.{WORDS};
 ghost use Rattle.on_words.specs.Joins.{interval_in};

@@ -1,5 +1,6 @@
 // The next line of a part of the input, and the frame that it is where it ends there.
 #![tactic(auto)]
+
 ghost use Rattle.std.specs.Prelude.{◌≡◌, ◌≤◌, length};
 ghost use Rattle.next_line.specs.route.Next.{next_of};
 

@@ -1,13 +1,14 @@
 // What is noted in the rows, read and written: what is kept of the first rules, so that it need not be found again.
 #![tactic(auto)]
+
 ghost use Rattle.std.specs.Prelude.{◌≡◌, [], ◌≤◌};
 ghost use Rattle.word.specs.Word.{IsWidth};
 ghost use Rattle.rule.specs.Meaning.{RULES};
 ghost use Rattle.noting.specs.route.Note.{fixed_in, fixed_out, note_at, noting};
 
-use rule::bits::Fixed;
 use rows::NUMBERS;
 use rule::Rule;
+use rule::bits::Fixed;
 use verdict::Kept;
 use word::Width;
 

@@ -1,5 +1,6 @@
 // Numbers as people write them, taken letter by letter: in decimal, after `0x` and `0b`, below zero, and with a point.
 #![tactic(auto)]
+
 mod digits;
 
 ghost use Rattle.std.specs.Prelude.{◌≡◌, ◌<◌};

@@ -1,6 +1,7 @@
 // Answers as objects of JSON, one a line, on standard output. Words and counts may be above 2^53, which many readers of JSON round: they are
 // strings of decimal digits. A name has letters, digits, `_`, `.` and `-` alone, and a rule's text no quote, so that none is escaped.
 #![tactic(auto)]
+
 use chain::Link;
 use line::Statement;
 use listing::Listing;

@@ -1,6 +1,7 @@
 // What is asked of a sheet that a caller keeps, and does not change it: the verdict with its chain, how many words fit, and which. Each
 // tests the numbers for 17 as the call beneath does.
 #![tactic(auto)]
+
 ghost use Rattle.on_kept.specs.Told.{Asked, Counted, Listed};
 
 // Says what is kept and, for "none", writes the chain.

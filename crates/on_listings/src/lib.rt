@@ -1,5 +1,6 @@
 // The words that fit a list of rules, listed without a sheet to keep.
 #![tactic(auto)]
+
 ghost use Rattle.std.specs.Prelude.{◌≡◌};
 ghost use Rattle.handing.specs.Handed.{opening_of, rules_in};
 ghost use Rattle.making.specs.Made.{makes};

@@ -1,5 +1,6 @@
 // A chain checked against a list of rules, without a sheet to keep.
 #![tactic(auto)]
+
 ghost use Rattle.std.specs.Prelude.{◌≡◌};
 ghost use Rattle.handing.specs.Handed.{opening_of, rules_in};
 ghost use Rattle.making.specs.Made.{makes};

@@ -1,5 +1,6 @@
 // A net of words, in numbers: lent lists of intervals and of joins, of any length.
 #![tactic(auto)]
+
 ghost use Rattle.std.specs.Prelude.{◌≡◌};
 ghost use Rattle.net.specs.Net.{number};
 ghost use Rattle.on_nets.specs.Nets.{Ran, told};

@@ -1,5 +1,6 @@
 // A word held to a rule, in numbers.
 #![tactic(auto)]
+
 ghost use Rattle.std.specs.Prelude.{◌≡◌};
 ghost use Rattle.handing.specs.Handed.{rule_in, weigh_number, weighed};
 

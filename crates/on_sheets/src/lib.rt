@@ -2,6 +2,7 @@
 // anew, test them for 17 as the call beneath does, and write them down again only where they are accepted: a refused call leaves every
 // number as it was.
 #![tactic(auto)]
+
 ghost use Rattle.page.specs.Calls.{add, set_gate};
 ghost use Rattle.handing.specs.Handed.{edition_of, opening_of, rule_in};
 ghost use Rattle.on_words.specs.Gates.{gate_of};

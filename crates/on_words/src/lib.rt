@@ -1,5 +1,6 @@
 // Gates and joins, in numbers.
 #![tactic(auto)]
+
 mod gates;
 mod joins;
 

@@ -1,5 +1,6 @@
 // One read of standard input, and what it brought.
 #![tactic(auto)]
+
 ghost use Rattle.one_read.specs.Listened.{Listened};
 
 use coming::Hearing;

@@ -1,5 +1,6 @@
 // What is found of a record and of the length of a list, before any of its links is looked at.
 #![tactic(auto)]
+
 ghost use Rattle.std.specs.Prelude.{◌≡◌};
 ghost use Rattle.finding.specs.Clauses.{first_broken};
 ghost use Rattle.outset.specs.route.Outset.{outset_clauses};

@@ -1,5 +1,6 @@
 // The rules in force on a sheet, written on standard output for other tools: as the desk's frames, and in SMT-LIB.
 #![tactic(auto)]
+
 mod formula;
 mod out;
 

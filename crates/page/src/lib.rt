@@ -1,6 +1,7 @@
 // The clerk's page: what stands on it, when each call is refused, and what the clerk then writes. These are definitions and laws,
 // without the record that the desk keeps; the code has of them the limit on marks, and what an opening is given.
 #![tactic(auto)]
+
 use word::Edition;
 
 // The most marks that may be in force.

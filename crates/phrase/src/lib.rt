@@ -1,5 +1,6 @@
 // Texts and numbers, written from a place on, one after the other.
 #![tactic(auto)]
+
 ghost use Rattle.std.specs.Prelude.{◌++◌, ◌+◌, ◌≤◌, length};
 ghost use Rattle.word.specs.Word.{IsWidth};
 ghost use Rattle.phrase.specs.Phrase.{Put, decimal, signedly};

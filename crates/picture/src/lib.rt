@@ -1,5 +1,6 @@
 // A picture of a sheet, the line of words in at most 64 columns: the words of a column, and how words go by one rule alone.
 #![tactic(auto)]
+
 ghost use Rattle.std.specs.Prelude.{◌≡◌, true, ◌≤◌};
 ghost use Rattle.word.specs.Word.{IsWidth, top};
 ghost use Rattle.rule.specs.Meaning.{Lawful, meets};
@@ -7,9 +8,9 @@ ghost use Rattle.shade.specs.Cell.{cell_of};
 ghost use Rattle.picture.specs.route.Shown.{shown};
 
 use rows::band::{Band, Run};
-use rule::bits::Fixed;
 use rows::{InForce, NUMBERS};
 use rule::Rule;
+use rule::bits::Fixed;
 use shade::Cell;
 use word::Width;
 

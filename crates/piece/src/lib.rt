@@ -1,5 +1,6 @@
 // The words of a line, one after another: what stands from a place on, its kind, its number and its letters.
 #![tactic(auto)]
+
 ghost use Rattle.std.specs.Prelude.{◌≡◌};
 ghost use Rattle.piece.specs.Piece.{end_at, ends, fresh, grown, piece_of, word_at};
 

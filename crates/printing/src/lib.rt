@@ -1,5 +1,6 @@
 // What answers in words and as objects share, on standard output: the text and the name of a rule, counts and bits.
 #![tactic(auto)]
+
 ghost use Rattle.std.specs.Prelude.{◌≤◌};
 ghost use Rattle.io.specs.Counts.{IsPrefixLen};
 

@@ -1,13 +1,14 @@
 // The words of a section that have the bits, written into a lent buffer in rising order, from each to the next.
 #![tactic(auto)]
+
 ghost use Rattle.std.specs.Prelude.{◌≡◌, ◌+◌, ◌-◌, ◌≤◌, length, take};
 ghost use Rattle.word.specs.Word.{IsWidth, top};
 ghost use Rattle.rule.specs.bits.route.Fixed.{Tidy};
 ghost use Rattle.putting.specs.route.Put.{is_free, put_at, run_words, section_words};
 
+use rows::InForce;
 use rows::band::Run;
 use rule::bits::Fixed;
-use rows::InForce;
 use section::Section;
 use word::Found;
 

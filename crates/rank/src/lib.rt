@@ -1,5 +1,6 @@
 // How many words have the bits that rules of form 7 fix.
 #![tactic(auto)]
+
 ghost use Rattle.std.specs.Prelude.{◌≡◌};
 ghost use Rattle.word.specs.Search.{count};
 ghost use Rattle.rule.specs.bits.route.Fixed.{has_bits, Tidy};

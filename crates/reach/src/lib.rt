@@ -1,5 +1,6 @@
 // The furthest reach from a word: by the order of the bands where there is one, and else by a search over all of them.
 #![tactic(auto)]
+
 ghost use Rattle.std.specs.Prelude.{◌≡◌, true, ◌≤◌, take};
 ghost use Rattle.word.specs.Word.{IsWidth, top};
 ghost use Rattle.rows.specs.route.Bands.{Lie};

@@ -1,5 +1,6 @@
 // What the reason of a link shows of its words: the first clause on it that does not hold.
 #![tactic(auto)]
+
 ghost use Rattle.std.specs.Prelude.{◌≡◌, suc, ◌-◌, ◌≤◌, take};
 ghost use Rattle.word.specs.Word.{IsWidth, top};
 ghost use Rattle.word.specs.Search.{first};
@@ -10,12 +11,12 @@ ghost use Rattle.rows.specs.route.OfRules.{OfLawful};
 ghost use Rattle.rows.specs.route.Rows.{bands_in, rules_in};
 ghost use Rattle.finding.specs.Clauses.{first_broken, reason_clauses};
 
-use rows::band::Band;
-use rule::bits::Fixed;
 use chain::Link;
 use finding::Finding;
 use rows::InForce;
+use rows::band::Band;
 use rule::Rule;
+use rule::bits::Fixed;
 use word::{Found, Width};
 
 // The smallest word from one to another that a band holds: the first, or the one after the run of failing words around it.

@@ -1,5 +1,6 @@
 // The rules that rows of the grammar are, and the words that signed numbers are.
 #![tactic(auto)]
+
 ghost use Rattle.std.specs.Prelude.{◌≡◌};
 ghost use Rattle.word.specs.Word.{IsWidth};
 ghost use Rattle.row_rules.specs.Rules.{rule_at, rule_of, signed_word};

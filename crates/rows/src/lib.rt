@@ -1,5 +1,6 @@
 // Rows in a lent array, a row a rule: the rule, its band, and a note. Only reading a row's rule or band, and putting a row, know how they lie.
 #![tactic(auto)]
+
 ghost use Rattle.std.specs.Prelude.{◌≡◌, ◌<◌, ◌≤◌, not, slice_index_or, slice_set};
 ghost use Rattle.word.specs.Word.{IsWidth, top};
 ghost use Rattle.rule.specs.Meaning.{RULES};
@@ -11,8 +12,8 @@ ghost use Rattle.rows.specs.route.Rows.{bands_in, onward, row_of, rules_in};
 pub mod band;
 
 use crate::band::Band;
-use rule::bits::Fixed;
 use rule::Rule;
+use rule::bits::Fixed;
 use word::Width;
 
 // The rule's form, sense and two constants; where its band starts, how far up from there it ends, and the side that fails; and a note: whether there is one, the

@@ -1,11 +1,11 @@
 // A rule on one unknown word, and whether a word meets it.
 #![tactic(auto)]
+
 ghost use Rattle.std.specs.Prelude.{◌≡◌, ◌≤◌};
 ghost use Rattle.word.specs.Word.{IsWidth, top};
 ghost use Rattle.rule.specs.Meaning.{meets, settled, written};
 
 pub mod accept;
-
 pub mod bits;
 
 use word::Width;

@@ -1,5 +1,6 @@
 // A picture of a sheet, by one rule in force: how each column goes.
 #![tactic(auto)]
+
 ghost use Rattle.std.specs.Prelude.{◌≡◌};
 ghost use Rattle.picture.specs.Picture.{rule_cell};
 

@@ -1,5 +1,6 @@
 // What a statement does on a sheet: its call is made, and what the statement comes to goes by the number that the call answers.
 #![tactic(auto)]
+
 ghost use Rattle.std.specs.Prelude.{◌≡◌};
 ghost use Rattle.upshot.specs.declared.Response.TheVariants.{Asked, Blamed, Counted, Done, Listed, Mistaken};
 ghost use Rattle.upshot.specs.Upshot.{by_number, stops};

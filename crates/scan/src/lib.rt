@@ -1,6 +1,7 @@
 // What is read of a line so far: how far its kinds follow the grammar, its name, its numbers and its first mistake; what a token adds to it; and what is
 // said to be expected where a token is wrong.
 #![tactic(auto)]
+
 ghost use Rattle.std.specs.Prelude.{◌≡◌};
 ghost use Rattle.scan.specs.Scan.{failed, instead_of, is_number, named, negated, numbered, placed, started, takes_number, with_token};
 

@@ -1,5 +1,6 @@
 // A line read letter by letter, up to its first mistake.
 #![tactic(auto)]
+
 ghost use Rattle.std.specs.Prelude.{◌≡◌};
 ghost use Rattle.scanning.specs.Scanning.{accepted, closed, followed, scanned, step};
 

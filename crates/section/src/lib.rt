@@ -1,5 +1,6 @@
 // Words one after another that one look at the bands tells of: all bands hold each of them, or one band fails each of them.
 #![tactic(auto)]
+
 ghost use Rattle.std.specs.Prelude.{◌≡◌, true, ◌*◌, ◌-◌, ◌≤◌, take};
 ghost use Rattle.rule.specs.Meaning.{RULES};
 ghost use Rattle.word.specs.Search.{climb};

@@ -1,5 +1,6 @@
 // A stretch of words by what is laid in rows: whether every word of it fails, every word passes, or some do. Exact, and never word by word.
 #![tactic(auto)]
+
 ghost use Rattle.std.specs.Prelude.{◌≡◌, ◌≤◌, take};
 ghost use Rattle.word.specs.Word.{IsWidth, top};
 ghost use Rattle.rule.specs.bits.route.Fixed.{Tidy, has_bits};
@@ -8,10 +9,10 @@ ghost use Rattle.rows.specs.route.Rows.{bands_in};
 ghost use Rattle.covering.specs.Check.{every_word};
 ghost use Rattle.shade.specs.Cell.{cell_of};
 
-use rows::band::Run;
-use rule::bits::Fixed;
 use rows::InForce;
+use rows::band::Run;
 use rule::Rule;
+use rule::bits::Fixed;
 use word::Found;
 
 // A cell of a picture. Where there is no sheet, no such rule or no such column, there is none.

@@ -5,12 +5,12 @@ ghost use Rattle.sheet.specs.route.Held.{packed};
 ghost use Rattle.sheet.specs.route.Shape.{is_sheet};
 ghost use Rattle.sheet.specs.Statements.{IsSheet};
 
+pub use crate::slate_ask::ask;
 use crate::{Sheet, calling};
 use rows::NUMBERS;
 use rule::Rule;
 use slate::Head;
 pub use slate::slate_add::add;
-pub use crate::slate_ask::ask;
 pub use slate::slate_calls::{back, forward, mark, open};
 
 impl Sheet {

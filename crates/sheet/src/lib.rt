@@ -1,23 +1,21 @@
 // The sheet and the calls on it. Each call takes any record and any numbers, and refuses what the paper refuses, in its order. The
 // calls work on a slate (`laid`); by value a call lays the record out there, calls, and packs it again.
 #![tactic(auto)]
+
 ghost use Rattle.std.specs.Prelude.{◌≡◌};
 ghost use Rattle.sheet.specs.Record.{blank};
 
-pub mod slate_ask;
-
-pub mod slate_make;
-
-pub mod slate_whole;
-
 mod calling;
 pub mod laid;
+pub mod slate_ask;
+pub mod slate_make;
+pub mod slate_whole;
 
+pub use crate::slate_ask::{Reply, refusal};
+pub use crate::slate_make::Call;
 use chain::Link;
 use rule::Rule;
 pub use slate::{Head, Said};
-pub use crate::slate_ask::{Reply, refusal};
-pub use crate::slate_make::Call;
 use verdict::Kept;
 use word::Edition;
 

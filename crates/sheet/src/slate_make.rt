@@ -5,7 +5,7 @@ ghost use Rattle.sheet.specs.slate_make.route.Makes.{Makes};
 use page::{MARKS, Opening};
 use rows::NUMBERS;
 use rule::Rule;
-use slate::{Head, Said};
+use slate::{Head, Said, slate_add};
 use word::Edition;
 
 // A call that changes a sheet. An opening and an add are frames of an edition.
@@ -30,7 +30,7 @@ pub fn make(
 {
     match call {
         Call::Open(opening) => slate::slate_calls::open(head, &mut *rows, &mut *marks, opening),
-        Call::Add(edition, rule) => slate::slate_add::add(head, &mut *rows, &mut *marks, edition, rule),
+        Call::Add(edition, rule) => slate_add::add(head, &mut *rows, &mut *marks, edition, rule),
         Call::Mark => slate::slate_calls::mark(head, &mut *rows, &mut *marks),
         Call::Back => slate::slate_calls::back(head, &*rows, &*marks),
         Call::Forward => slate::slate_calls::forward(head, &*rows, &*marks),

@@ -1,5 +1,6 @@
 // What stands before a rule, and forms 2 and 3 where nothing is added to x, with a sign for each sense.
 #![tactic(auto)]
+
 ghost use Rattle.std.specs.Prelude.{◌+◌, ◌≤◌, length};
 ghost use Rattle.phrase.specs.Phrase.{Put};
 ghost use Rattle.signs.specs.Signs.{at_least, at_most, before};

@@ -3,8 +3,8 @@ ghost use Rattle.std.specs.Prelude.{◌≡◌};
 ghost use Rattle.slate.specs.route.Held.{found_to, head_of};
 
 use crate::{Counts, Head};
-use rule::bits::Fixed;
 use page::Opening;
+use rule::bits::Fixed;
 use verdict::Kept;
 
 impl Head {

@@ -2,27 +2,23 @@
 // it share. Nothing here knows the record that it stands for.
 #![tactic(auto)]
 
-pub mod slate_add;
-
-pub mod slate_test;
-
-pub mod slate_shape;
-
-pub mod slate_calls;
-
-pub mod stepping;
 mod clearing;
 mod heads;
 mod numbering;
 mod refusing;
+pub mod slate_add;
+pub mod slate_calls;
+pub mod slate_shape;
+pub mod slate_test;
+pub mod stepping;
 
-use rule::bits::Fixed;
 pub use clearing::{clear_all, clear_waiting};
 pub use marks::set_marks;
 pub use noting::{Note, no_rules, note_at, put_note};
 pub use numbering::in_force;
 use page::Opening;
 pub use refusing::{refuses, refuses_rule};
+use rule::bits::Fixed;
 use verdict::Kept;
 
 // How many rules and marks are in force, how many rules were given, in force and waiting, and how many stretches wait.

@@ -4,11 +4,11 @@ ghost use Rattle.slate.specs.slate_calls.route.Done.{Adds};
 
 mod narrowing;
 
-use rows::band::Band;
+use crate::{Counts, Head, Said};
 use page::MARKS;
+use rows::band::Band;
 use rows::{InForce, NUMBERS};
 use rule::Rule;
-use crate::{Counts, Head, Said};
 use word::{Edition, Width};
 
 // Adds a rule, from a frame of an edition: what waited is taken away, the rule goes into the next row with its band and a note, and what is

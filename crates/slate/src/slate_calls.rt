@@ -4,6 +4,6 @@
 mod marking;
 mod opening;
 
+pub use crate::stepping::{back, forward};
 pub use marking::mark;
 pub use opening::open;
-pub use crate::stepping::{back, forward};

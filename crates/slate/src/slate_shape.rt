@@ -5,10 +5,10 @@ ghost use Rattle.rows.specs.route.Rows.{rules_in};
 ghost use Rattle.slate.specs.route.Held.{Room};
 ghost use Rattle.slate.specs.route.Shape.{same_kept, stands_so, well_shaped};
 
+use crate::Head;
 use page::MARKS;
 use rows::NUMBERS;
 use rule::Rule;
-use crate::Head;
 use verdict::Kept;
 use word::{Edition, Width};
 

@@ -3,11 +3,11 @@ ghost use Rattle.std.specs.Prelude.{◌≡◌};
 ghost use Rattle.rows.specs.route.Rows.{rules_in};
 ghost use Rattle.slate.specs.route.Held.{Held, Room, found_to};
 
-use rows::band::Run;
+use crate::Head;
 use page::MARKS;
+use rows::band::Run;
 use rows::{InForce, NUMBERS};
 use rule::Rule;
-use crate::Head;
 use word::Width;
 
 // The head with the test whether the record is a sheet and, where it is and is not blank, the bands of its rules drawn, of those that

@@ -1,4 +1,4 @@
 // Passed on from where it stands now, `slate::slate_shape`.
 #![tactic(auto)]
 
-pub use slate::slate_shape::{blank, shaped, same_kept};
+pub use slate::slate_shape::{blank, same_kept, shaped};

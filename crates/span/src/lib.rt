@@ -1,6 +1,7 @@
 // Joins of words: h is NOT x, or x AND y, OR y, XOR y, at one width, each word with an interval, and what each interval says
 // of the others.
 #![tactic(auto)]
+
 ghost use Rattle.std.specs.Prelude.{◌≡◌};
 ghost use Rattle.word.specs.Word.{IsWidth};
 ghost use Rattle.interval.specs.Interval.{Words};

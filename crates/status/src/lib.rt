@@ -1,5 +1,6 @@
 // What the check of a chain comes to, as a status: yes, no, or a mistake in the chain or a read that failed.
 #![tactic(auto)]
+
 ghost use Rattle.std.specs.Prelude.{◌≡◌};
 ghost use Rattle.status.specs.Status.{status_of};
 

@@ -1,6 +1,7 @@
 // One bit of the way down to the smallest result. At the highest bit an interval lies below the half, above it or across it, and in
 // each combination one choice is forced or the smallest result is at once clear.
 #![tactic(auto)]
+
 ghost use Rattle.std.specs.Int.Bits.{bit_and, bit_or, bit_xor};
 ghost use Rattle.word.specs.Word.{IsWidth};
 ghost use Rattle.interval.specs.Interval.{Words};

@@ -1,5 +1,6 @@
 // Words that pass bands and bits, counted section by section, with quotient and remainder: there may be 2^64.
 #![tactic(auto)]
+
 ghost use Rattle.std.specs.Prelude.{◌≡◌, suc, take};
 ghost use Rattle.word.specs.Word.{IsWidth, top};
 ghost use Rattle.word.specs.Search.{count};
@@ -8,8 +9,8 @@ ghost use Rattle.rows.specs.route.Bands.{Lie, passes};
 ghost use Rattle.rows.specs.route.Rows.{bands_in};
 ghost use Rattle.tally.specs.route.Total.{totals};
 
-use rule::bits::Fixed;
 use rule::Rule;
+use rule::bits::Fixed;
 use word::Width;
 
 mod adding;

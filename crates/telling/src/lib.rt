@@ -1,5 +1,6 @@
 // Answers in words, on standard output. A rule is called by its name, or by its number where it has none.
 #![tactic(auto)]
+
 use chain::Link;
 use counting::Share;
 use libc::STDOUT_FILENO;

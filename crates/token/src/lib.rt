@@ -1,5 +1,6 @@
 // What a line is made of, letter by letter: words, signs and numbers, and the kind that each has in the grammar.
 #![tactic(auto)]
+
 mod class;
 
 ghost use Rattle.std.specs.Prelude.{◌≡◌};

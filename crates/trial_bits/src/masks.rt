@@ -3,8 +3,8 @@ ghost use Rattle.std.specs.Prelude.{◌<◌, ◌≤◌};
 ghost use Rattle.word.specs.Word.{IsWidth};
 
 use crate::called;
-use rule::bits::Fixed;
 use rule::Rule;
+use rule::bits::Fixed;
 use trial_direct::rules::rule;
 use trial_tally::Tally;
 use word::{Found, Width};

@@ -1,5 +1,6 @@
 // What the trials of calls share: sheets to try them on, records that are none, and what is looked at in an answer.
 #![tactic(auto)]
+
 pub mod answers;
 pub mod records;
 pub mod sheets;

@@ -1,5 +1,6 @@
 // One sheet: its chain, the chain changed, or a drawn list where a word fits, each list checked both ways.
 #![tactic(auto)]
+
 ghost use Rattle.std.specs.Prelude.{◌≤◌};
 ghost use Rattle.rule.specs.Meaning.{RULES};
 ghost use Rattle.chain.specs.Links.{most_links};

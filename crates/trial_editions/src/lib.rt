@@ -1,5 +1,6 @@
 // The desk's answers to a sheet, by calls in each edition that has its width, and what is counted of them.
 #![tactic(auto)]
+
 pub mod asked;
 pub mod counts;
 pub mod known;

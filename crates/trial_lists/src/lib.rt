@@ -1,5 +1,6 @@
 // Lists of rules for the programs that try the batch call, and the calls one by one.
 #![tactic(auto)]
+
 use batch::Batch;
 use page::Opening;
 use rule::Rule;

@@ -1,5 +1,6 @@
 // What is to be answered to a sheet: by a walk over all words, or by the paper; and sheets that are drawn.
 #![tactic(auto)]
+
 pub mod drawn;
 pub mod expected;
 pub mod walk;

@@ -1,5 +1,6 @@
 // How many answers were compared, and how many of them differ.
 #![tactic(auto)]
+
 ghost use Rattle.std.specs.Prelude.{◌≡◌, if◌then◌else◌};
 ghost use Rattle.trial_tally.specs.Tally.{none, one, plus, no_kind, one_of, plus_split, joined};
 

@@ -6,6 +6,7 @@
 // places of 5, in 2 editions. lengths: 3 lengths of 5 lists, lent enough and one number less, and on each one rule more than a
 // sheet takes. known: one case in 2 editions, each of its numbers with a wrong expectation.
 #![tactic(auto)]
+
 mod case;
 
 use batch::Batch;

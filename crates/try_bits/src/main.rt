@@ -8,6 +8,7 @@
 // of 16 words as the mask, as the value and as p: 4 * 16^3. known has a wrong word and a wrong "none" for each way, and a word where
 // none is.
 #![tactic(auto)]
+
 mod sheets;
 
 use trial_bits::masks::Way;

@@ -2,8 +2,8 @@
 ghost use Rattle.std.specs.Prelude.{◌≤◌};
 ghost use Rattle.trial_direct.specs.Trial.{Narrow};
 
-use rule::bits::Fixed;
 use rule::Rule;
+use rule::bits::Fixed;
 use trial_bits::masks::{Sought, Way, same};
 use trial_bits::{called, masks};
 use trial_direct::{direct, rules};

@@ -5,6 +5,7 @@
 // has alone; 5 on the blank sheet; and on sheets of each edition 5 rules and 4 of form 7, 5 at the limit of rules, 2 askings, and a mark, a
 // step back and a step forward for each mark that a sheet takes and one more of each. known has wrong expectations, 5.
 #![tactic(auto)]
+
 use page::Opening;
 use rule::Rule;
 use sheet::{Answer, Sheet};

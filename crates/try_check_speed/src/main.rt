@@ -1,6 +1,7 @@
 // Checks a list of 100,000 links on a full sheet of 32 bits ten times, so that the time can be taken: a million links. The list is the
 // sheet's chain again and again, which K3 allows: a link may start anywhere in what is covered.
 #![tactic(auto)]
+
 use rule::Rule;
 use sheet::Sheet;
 use trial_calls::sheets;

@@ -10,6 +10,7 @@
 // answers expected, in each edition: 1 written, 6 each raised, lowered and cut, 2 each left out, doubled and moved, 1 other and 1 on no
 // sheet.
 #![tactic(auto)]
+
 ghost use Rattle.std.specs.Prelude.{◌<◌, ◌≤◌};
 ghost use Rattle.rule.specs.Meaning.{RULES};
 ghost use Rattle.trial_direct.specs.Trial.{Narrow, ROWS};

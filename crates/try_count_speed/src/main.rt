@@ -2,6 +2,7 @@
 // or `bits` 10,000,000 words are listed, of a sheet with no rule, of the full one or of one with 16 fixed bits. With no argument, a
 // little of each. bench/words.rs prints the same lines by a plain loop over the same words.
 #![tactic(auto)]
+
 mod sheets;
 
 use counting::Share;

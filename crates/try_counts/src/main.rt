@@ -8,6 +8,7 @@
 // the rules of 4 and 5 bits it is listed from every word in a piece of 2, too. known: the words of case 2, right once and wrong in five
 // ways, of which a count tells three and a listing four.
 #![tactic(auto)]
+
 ghost use Rattle.std.specs.Prelude.{◌≤◌};
 ghost use Rattle.rule.specs.Meaning.{RULES};
 ghost use Rattle.trial_direct.specs.Trial.{Narrow};

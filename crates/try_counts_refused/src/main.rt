@@ -6,6 +6,7 @@
 // the new edition and the 32 of the old: 12 * 95. no sheet: a count and two starts at each number of a record, of which there are 840, raised
 // by each of 3 amounts, on 7 sheets, and at 5 records with the other edition: 7 * (3 * 840 * 7 + 5). known: 6 wrong expectations.
 #![tactic(auto)]
+
 ghost use Rattle.std.specs.Prelude.{◌≤◌};
 
 use sheet::Sheet;

@@ -4,6 +4,7 @@
 // The counts: drawn has as many sheets as its loop makes, 2000, of up to 200 rules, and ways 8000, of up to six. known has the right
 // answer to a sheet, and seven wrong ones.
 #![tactic(auto)]
+
 use trial_direct::{direct, draw, rules};
 use trial_editions::asked::UNTOUCHED;
 use trial_editions::counts::Both;

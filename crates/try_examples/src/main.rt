@@ -1,5 +1,6 @@
 // The functions that the documents show to whoever writes a crate of his own, run on the paper's numbers.
 #![tactic(auto)]
+
 mod batch_call;
 mod lab;
 mod power;

@@ -3,6 +3,7 @@
 // The counts. exchange: in each edition 9 lines, the 6 numbers of two links, and the numbers after them as one. known has wrong
 // expectations, 1 + 6 + 1.
 #![tactic(auto)]
+
 ghost use Rattle.std.specs.Prelude.{◌≤◌, ◌<◌};
 ghost use Rattle.trial_direct.specs.Trial.{ROWS};
 

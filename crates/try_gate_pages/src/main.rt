@@ -7,6 +7,7 @@
 // and 6; and the others. known: one each against a page that misses a gate, that misses its last rule and that keeps what waits, a wrong
 // number, and the wrong kind of a gate.
 #![tactic(auto)]
+
 mod counts;
 mod draw;
 mod pages;

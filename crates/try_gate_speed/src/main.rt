@@ -1,6 +1,7 @@
 // Sets gates, so that the time can be taken: on each sheet as many as it takes, of the three kinds in turn, each narrower than the one
 // before. With the argument `all` 200 sheets, 10,000 gates; with none two.
 #![tactic(auto)]
+
 use gate::Gate;
 use rule::Rule;
 use sheet::Sheet;

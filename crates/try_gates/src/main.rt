@@ -5,6 +5,7 @@
 // and unfit: of those with numbers, 30 * 30 + 30 + 30 gates on 120 words, the words that meet the gate and those that do not. known has
 // two wrong expectations: that the zeros differ, and that a pattern above an infinity's is at least zero.
 #![tactic(auto)]
+
 mod made;
 
 use gate::{Four, Turned};

@@ -6,6 +6,7 @@
 // itself in each kind and in a span twice, and before 6. room: with 196, 197, 199 and 200 rules in force. waits: an accepted gate
 // empties what waits, refused ones of 14 and of 6 leave it. known has 2 wrong expectations.
 #![tactic(auto)]
+
 mod made;
 
 use gate::Gate;

@@ -5,6 +5,7 @@
 // words fail the rule that wants them odd. longer has the sheets whose chain has more than 12 links: up to there it is found by a search over
 // all bands. known has three wrong expectations of such a chain: of the reason and of the last word of its 13th link, and of the number of links.
 #![tactic(auto)]
+
 mod tiles;
 
 ghost use Rattle.std.specs.Prelude.{◌<◌, ◌≤◌};

@@ -1,6 +1,7 @@
 // Nets of 16 words and 32 joins at 64 bits, run one after the other, so that the time can be taken: 400 runs of 25 steps. A round of 32
 // joins that changes nothing would end a run, so none is longer.
 #![tactic(auto)]
+
 use net::{Ended, Join, Net};
 use span::{Interval, Op};
 use trial_spans::made;

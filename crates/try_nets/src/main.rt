@@ -4,6 +4,7 @@
 // round, with three runs for each and each way to end. There are five ways to be refused with 16, or none, with eight choices of what else is
 // wrong.
 #![tactic(auto)]
+
 mod places;
 mod refused;
 

@@ -4,6 +4,7 @@
 // calls that have room, and before 6 and 7; 11 before 3, 4, 5 by a constant and by a stray bit, and 6, and by itself; and the 3 + 2 + 1
 // pairs of 3 to 6, those of 5 with 4 and with 6 by a stray bit too. known has wrong expectations, 2.
 #![tactic(auto)]
+
 use rule::Rule;
 use sheet::Sheet;
 use trial_calls::answers::{ask_refused, kept, refused, replied, untouched};

@@ -1,6 +1,7 @@
 // Writes sheets for other tools: the eight forms as written and, but for form 7, negated, at each of some widths, as frames and in SMT-LIB.
 // What is written is foretold by tests/models/try_outward.py, from the papers and the standard; tests/smt holds both texts to the desk and Z3.
 #![tactic(auto)]
+
 use page::Opening;
 use rule::Rule;
 use sheet::Sheet;

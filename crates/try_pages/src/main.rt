@@ -4,6 +4,7 @@
 // accepted is up to the draws. known: one each against a page that misses a rule, a pile that misses a stretch, and a page of the other
 // edition.
 #![tactic(auto)]
+
 mod full;
 mod long;
 

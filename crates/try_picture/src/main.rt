@@ -1,6 +1,7 @@
 // Draws sheets: a row for each rule in force, and one for all of them. What it prints is foretold by tests/models/try_picture.py, which looks at every word
 // of each column. The last sheet is the one before it with another rule kept in its first place, which is no sheet, and so nothing is drawn.
 #![tactic(auto)]
+
 use column::COLUMNS;
 use libc::STDOUT_FILENO;
 use page::Opening;

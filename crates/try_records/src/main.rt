@@ -10,6 +10,7 @@
 // 5 records that are no sheet, and 4 at each of 8 that are one. known: a sheet against itself with each number raised, and with the other
 // edition.
 #![tactic(auto)]
+
 use sheet::Sheet;
 use trial_calls::answers::{accepted, ask_refused, refused, same_sheet};
 use trial_calls::records::{NO_SHEETS, NUMBERS, RAISED, no_sheet, raised, stands, turned, waited};

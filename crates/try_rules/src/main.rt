@@ -5,6 +5,7 @@
 // of 16 words, and 5 answers. known has a wrong expectation for each way to compare: one for meets and for holds, two for a
 // run, one for a set of words.
 #![tactic(auto)]
+
 mod paper;
 
 ghost use Rattle.std.specs.Prelude.{◌≤◌};

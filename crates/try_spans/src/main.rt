@@ -3,6 +3,7 @@
 // to 4 have 3, 10, 36 and 136, which is 19,901 pairs, and widths 1 to 3 have 47,683 triples; each is tried for four operations.
 // Seven corners have 28 intervals, which is 784 pairs, at four widths, with three intervals of h and four operations.
 #![tactic(auto)]
+
 use span::{Interval, Op};
 use trial_direct::draw::next;
 use trial_spans::expected::Way;

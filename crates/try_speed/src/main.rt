@@ -2,6 +2,7 @@
 // `batch` it is made and asked by the batch call, again and again, and with `calls` by the calls one by one; with `bits` the next
 // word that has given bits is looked for, at width 64. A second argument `64` has the sheet be one of 64 bits, in the new edition.
 #![tactic(auto)]
+
 mod look;
 
 use batch::Batch;

@@ -4,6 +4,7 @@
 //
 // What it prints is foretold by tests/models/try_vet_lines.py, which reads the same lines by docs/VET.md.
 #![tactic(auto)]
+
 mod tell;
 
 ghost use Rattle.std.specs.Prelude.{◌≤◌, length};

@@ -3,6 +3,7 @@
 // The counts. waiting: in each edition 9 of stretches in turn, 4 that empty them, and 10 + 10 + 3 that leave them. known has wrong
 // expectations, 3.
 #![tactic(auto)]
+
 use page::Opening;
 use sheet::{Answer, Sheet};
 use trial_calls::answers::{accepted, refused, same_sheet};

@@ -5,6 +5,7 @@
 // The counts and sums (tests/models/try_watts.py, by fractions). Each of the first six has 2000 drawn. drawn: digits up to 64 bits with up to
 // ten digits after the point, of which ten are too many. known has two wrong expectations: that a half goes up, and that a sign is dropped.
 #![tactic(auto)]
+
 mod known;
 mod made;
 

@@ -7,6 +7,7 @@
 // 5832. drawn has as many as its loop makes, 4000. Each is asked in every edition that has the width, and in both the two answers are
 // compared with each other too. known has the right answer to a sheet, and seven wrong ones.
 #![tactic(auto)]
+
 mod sheets;
 
 use trial_editions::known;

@@ -5,6 +5,7 @@
 // counted once, and listed from each of six corners in pieces of 0, 1, 2, 3 and 7 words, in each edition that has the width. known: the
 // free sheet of 64 bits, right once and wrong in four counts and three listings.
 #![tactic(auto)]
+
 ghost use Rattle.std.specs.Prelude.{◌≤◌};
 ghost use Rattle.word.specs.Word.{IsWidth};
 ghost use Rattle.rule.specs.Meaning.{RULES};

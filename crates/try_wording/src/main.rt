@@ -4,6 +4,7 @@
 // The counts: at a width with n words there are 2 n n of each of the forms 1, 2, 3 and 8, 2 n of 4, 5 and 6, and of form 7, in one sense, the
 // pairs where c1 has every bit of c2, 3 to the width.
 #![tactic(auto)]
+
 ghost use Rattle.word.specs.Word.{IsWidth};
 ghost use Rattle.trial_direct.specs.Trial.{Narrow};
 

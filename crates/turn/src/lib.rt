@@ -1,5 +1,6 @@
 // A turn of the desk: what a read came to, and what was made of the part that it brought.
 #![tactic(auto)]
+
 ghost use Rattle.std.specs.Prelude.{◌≡◌};
 ghost use Rattle.coming.specs.Calls.{goes_on};
 

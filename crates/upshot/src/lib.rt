@@ -1,5 +1,6 @@
 // What a statement comes to: it goes on with what it is answered, or it stops, at a mistake or at a refusal.
 #![tactic(auto)]
+
 ghost use Rattle.std.specs.Prelude.{◌≡◌};
 ghost use Rattle.upshot.specs.Upshot.{by_number, goes, stops};
 

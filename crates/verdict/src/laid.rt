@@ -8,8 +8,8 @@ ghost use Rattle.verdict.specs.Kept.{keeps};
 ghost use Rattle.verdict.specs.route.OnBands.{Bounds, Ends, kept_by};
 
 use crate::Kept;
-use rows::band::Run;
 use rows::InForce;
+use rows::band::Run;
 use rule::Rule;
 use word::Found;
 

@@ -5,6 +5,7 @@
 // A program has no status of its own: at its end it writes one digit to descriptor 3, where the script `vet` reads it. 0: all was answered; 1: a read or a
 // write failed; 2: a mistake. For a chain 0: yes; 1: no; 2: a mistake, or a read or a write failed.
 #![tactic(auto)]
+
 mod feeding;
 mod manner;
 

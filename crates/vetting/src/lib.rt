@@ -1,5 +1,6 @@
 // Vets a list of rules that a caller outside hands in: the batch call, in numbers.
 #![tactic(auto)]
+
 ghost use Rattle.std.specs.Prelude.{◌≡◌, take};
 ghost use Rattle.rule.specs.accept.Accept.{no_rule};
 ghost use Rattle.page.specs.Page.{padded};

@@ -1,6 +1,7 @@
 // The single-precision number nearest to a decimal fraction, ties to even. Digits are divided by a power of ten as by hand, to 24 binary
 // places from the first that is not 0: no number is above 64 bits, and nothing is lost.
 #![tactic(auto)]
+
 ghost use Rattle.std.specs.Prelude.{◌≡◌, ◌^◌, ◌*◌, ◌≤◌, ◌<◌};
 ghost use Rattle.numeral.specs.Numeral.{PLACES};
 ghost use Rattle.watts.specs.Watts.{limit_of, nearer, pattern, with_sign};

@@ -1,5 +1,6 @@
 // A rule as people write it, so that it reads back as that rule, and a number in decimal and hexadecimal.
 #![tactic(auto)]
+
 ghost use Rattle.std.specs.Prelude.{◌+◌, ◌≤◌, length};
 ghost use Rattle.word.specs.Word.{IsWidth};
 ghost use Rattle.phrase.specs.Phrase.{Put};

@@ -5,9 +5,9 @@ ghost use Rattle.verdict.specs.route.OnBands.{kept_by};
 ghost use Rattle.slate.specs.slate_add.route.Narrows.{Narrows, stays_so};
 
 use rows::band::Band;
-use rule::bits::Fixed;
 use rows::{InForce, NUMBERS};
 use rule::Rule;
+use rule::bits::Fixed;
 use verdict::Kept;
 
 // What is kept of the rules in force and their bits, the last of which has this band: what was kept before where that rule moves nothing,

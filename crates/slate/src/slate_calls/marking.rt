@@ -2,10 +2,10 @@
 ghost use Rattle.slate.specs.route.Held.{Held};
 ghost use Rattle.slate.specs.slate_calls.route.Done.{Marks};
 
+use crate::{Counts, Head, Said};
 use page::MARKS;
 use rows::NUMBERS;
 use rule::Rule;
-use crate::{Counts, Head, Said};
 
 // Sets a mark. What waited is taken away, and what is kept is noted where a step back will look for it.
 pub fn mark(

@@ -2,10 +2,10 @@
 ghost use Rattle.slate.specs.route.Held.{Held};
 ghost use Rattle.slate.specs.slate_calls.route.Done.{Opens};
 
+use crate::{Counts, Head, Said};
 use page::{MARKS, Opening};
 use rows::NUMBERS;
 use rule::Rule;
-use crate::{Counts, Head, Said};
 use word::Width;
 
 // Opens a new sheet. What was there is kept where the width is refused, and is not read.

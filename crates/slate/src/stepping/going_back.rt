@@ -3,10 +3,10 @@ ghost use Rattle.slate.specs.route.Held.{Held};
 ghost use Rattle.slate.specs.stepping.route.Steps.{Backs};
 
 use crate::stepping::seeking;
+use crate::{Counts, Head, Said};
 use page::MARKS;
 use rows::NUMBERS;
 use rule::Rule;
-use crate::{Counts, Head, Said};
 use word::Width;
 
 // Goes back to the newest mark: it and the rules added after it wait from now on, where they are. Only the head changes.

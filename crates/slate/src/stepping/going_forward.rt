@@ -3,10 +3,10 @@ ghost use Rattle.slate.specs.route.Held.{Held};
 ghost use Rattle.slate.specs.stepping.route.Steps.{Forwards};
 
 use crate::stepping::seeking;
+use crate::{Counts, Head, Said};
 use page::MARKS;
 use rows::NUMBERS;
 use rule::Rule;
-use crate::{Counts, Head, Said};
 use word::Width;
 
 // Brings back what was most recently taken back. Only the head changes; rules come back and none goes, so that the old ends bound what is

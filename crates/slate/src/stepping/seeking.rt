@@ -3,9 +3,9 @@ ghost use Rattle.rows.specs.route.Rows.{rules_in};
 ghost use Rattle.slate.specs.route.Notes.{Noted};
 ghost use Rattle.slate.specs.stepping.route.Found.{Sought};
 
+use crate::Note;
 use rows::{InForce, NUMBERS};
 use rule::Rule;
-use crate::Note;
 use verdict::Kept;
 use word::Width;
 
