@@ -56,8 +56,8 @@ build() {
 
 # Builds it where that is needed. What the kit makes in the folders out of the crates is no file of theirs.
 ready() {
-    if [ ! -x "$made" ] || [ ! -e "$built" ] || [ "$here/crates.txt" -nt "$built" ] ||
-        [ -n "$(find "$here"/crates/*/ -mindepth 1 -name out -prune -o -newer "$built" -print | head -n 1)" ]; then
+    if [ ! -x "$made" ] || [ ! -e "$built" ] ||
+        [ -n "$(find "$here/crates.txt" "$here"/crates/*/* -name out -prune -o -newer "$built" -print | head -n 1)" ]; then
         build
     fi
 }
