@@ -31,6 +31,7 @@ pub enum Came {
 
 impl Came {
     // From the call's answer, and from errno as the call left it.
+    #[tactic(auto, using(crate::proofs::Coming::told))]
     pub fn of(got: isize, error: i32) -> Came
         ensures { result ≡ came_to got error }
     {
