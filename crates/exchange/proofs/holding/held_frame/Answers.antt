@@ -1,7 +1,7 @@
 -- `held_frame` meets its contract: more bytes than a frame has are none. Assumes nothing.
-use mathlib.Core.Path.{sym, ◌∙◌}
+use mathlib.Core.Path.{sym}
 use native.Mathlib.Omega.{arith}
-use lib.ListN.{length-map, length-take}
+use lib.ListN.{length-take}
 use lib.Seq.{length-take-le}
 use Rattle.frame.proofs.Rows.{too_long}
 use Rattle.exchange.specs.route.Begun.{begun_line}
@@ -11,7 +11,7 @@ use Rattle.exchange.proofs.holding.held_frame.Goals as goal
 
 -- as many places as are held: an array is as long as its type says
 whole : (s : Start) → Whole s.args.begun
-whole s = sym (length-map s.args.begun.bytes _) ∙ s.well_formed.0.1.1.0.1.0.1
+whole s = s.well_formed.0.1.1.0.1.0.1
 
 pub returns-then-len-gt-LONGEST : goal.returns-then-len-gt-LONGEST
 unfolding begun_line
