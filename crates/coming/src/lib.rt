@@ -4,12 +4,12 @@
 ghost use Rattle.std.specs.Prelude.{◌≡◌};
 ghost use Rattle.coming.specs.Calls.{came_to, goes_on};
 
-mod answer;
+mod answered;
 mod failing;
 mod hearing;
 mod output;
 
-pub use answer::Answer;
+pub use answered::Answer;
 pub use failing::fail;
 pub use hearing::{Hearing, hear};
 pub use output::{Sent, send};
