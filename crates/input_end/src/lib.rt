@@ -16,6 +16,7 @@ use rule::Rule;
 use sheet::Sheet;
 
 // At the end of the input: a line that is begun ends as with a byte 10. Says how many bytes were written.
+#[tactic(auto, using(crate::proofs::Ends::no_answer))]
 pub fn finish(
     state: State,
     rows: &mut [[u64; NUMBERS]; Rule::LIMIT],
