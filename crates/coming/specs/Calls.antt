@@ -1,5 +1,5 @@
 -- What a read or a write came to, and whether another follows. What the system does is not said here: only what the desk makes of its answer.
-use Rattle.std.specs.Prelude.{◌≡◌, Bool, false, true, cond, ◌&&◌, List, ℕ, zero, suc, ◌-◌, ◌≤◌, ◌^◌, eqb, ltb, ℤ, pos, negsuc, length}
+use Rattle.std.specs.Prelude.{◌≡◌, Bool, false, true, cond, ◌&&◌, List, ℕ, zero, suc, ◌-◌, ◌≤◌, ◌^◌, eqb, ltb, ℤ, pos, negsuc, length, Option, Some, None}
 use Rattle.io.specs.Counts.{clamp_len}
 use Rattle.coming.specs.declared.Came.{Came}
 use Rattle.coming.specs.declared.Came.TheVariants.{Bytes, Nothing, Interrupted, Failed}
@@ -31,6 +31,15 @@ follows Failed more = false
 -- and none follows as many calls as no run uses up
 unfoldable pub goes_on : Came → (more : Bool) (calls : ℕ) → Bool
 goes_on came more calls = ltb calls MOST && follows came more
+
+-- the most bytes that an answer tells of
+abbrev pub MOST_BYTES : ℕ
+MOST_BYTES = 2 ^ 63 - 1
+
+-- errno of an error of std's, from its number: 5, an input or output error, where it has none
+abbrev pub number_of : Option ℤ → ℤ
+number_of None = pos 5
+number_of (Some n) = n
 
 -- what is made of a read's answer: what it came to, and how many bytes of the buffer it brought
 pub record Heard (got error : ℤ) (input : List ℕ) (r : Hearing) : Type 0 where

@@ -1,7 +1,7 @@
 // What a read brought.
 ghost use Rattle.coming.specs.Calls.{Heard};
 
-use crate::Came;
+use crate::{Came, fail};
 
 // What a read came to, and how many bytes it brought.
 #[derive(Clone, Copy)]
@@ -15,16 +15,16 @@ pub fn hear(got: isize, error: i32, input: &[u8]) -> Hearing
     ensures { Heard got error input.now result }
 {
     let came = Came::of(got, error);
-    say_unread(came);
+    say_unread(came, error);
     Hearing {
         came,
         count: io::count(got, input),
     }
 }
 
-// Says on standard error that a read failed, while errno is as the read left it.
-fn say_unread(came: Came) {
+// Says on standard error that a read failed.
+fn say_unread(came: Came, error: i32) {
     if let Came::Failed = came {
-        os::fail(b"desk: standard input");
+        fail(b"desk: standard input", error);
     }
 }

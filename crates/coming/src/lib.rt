@@ -4,11 +4,21 @@
 ghost use Rattle.std.specs.Prelude.{◌≡◌};
 ghost use Rattle.coming.specs.Calls.{came_to, goes_on};
 
+mod answer;
+mod failing;
 mod hearing;
 mod output;
 
+pub use answer::Answer;
+pub use failing::fail;
 pub use hearing::{Hearing, hear};
 pub use output::{Sent, send};
+
+// errno where a signal came before a byte was moved.
+pub const EINTR: i32 = 4;
+
+// errno where nobody reads a pipe.
+pub const EPIPE: i32 = 32;
 
 // What a read or a write came to: it moved bytes, or none; a signal came first, so that it is to be tried again; or it failed.
 #[derive(Clone, Copy)]
@@ -30,7 +40,7 @@ impl Came {
         if got == 0 {
             return Came::Nothing;
         }
-        if error == libc::EINTR {
+        if error == EINTR {
             return Came::Interrupted;
         }
         Came::Failed

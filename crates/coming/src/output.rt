@@ -1,8 +1,8 @@
 // Answers written to standard output.
 ghost use Rattle.coming.specs.Calls.{Sends};
 
-use crate::Came;
-use libc::STDOUT_FILENO;
+use crate::{Answer, Came, EPIPE, fail};
+use std::io::Print;
 
 // How many of the bytes were taken, in how many writes, and what the last write came to.
 #[derive(Clone, Copy)]
@@ -13,7 +13,7 @@ pub struct Sent {
 }
 
 // Writes the bytes, each write from where the last one stopped.
-pub fn send(bytes: &[u8]) -> Sent
+pub fn send(rt: &impl Print, bytes: &[u8]) -> Sent
     ensures { Sends bytes.now result }
 {
     let mut count = 0;
@@ -21,11 +21,10 @@ pub fn send(bytes: &[u8]) -> Sent
     let mut came = Came::Bytes;
     while came.goes_on(count < bytes.len(), writes) {
         let rest = &bytes[count..];
-        let got = libc::write(STDOUT_FILENO, rest);
-        let error = os::errno();
-        came = Came::of(got, error);
-        say_untaken(came, error);
-        count += io::count(got, rest);
+        let answer = Answer::of(rt.write_some(rest));
+        came = Came::of(answer.got, answer.error);
+        say_untaken(came, answer.error);
+        count += io::count(answer.got, rest);
         writes += 1;
     }
     Sent {
@@ -35,12 +34,12 @@ pub fn send(bytes: &[u8]) -> Sent
     }
 }
 
-// Says on standard error that a write failed, while errno is as the write left it. A closed pipe is no failure: nobody takes the answers.
+// Says on standard error that a write failed. A closed pipe is no failure: nobody takes the answers.
 fn say_untaken(came: Came, error: i32) {
     if came.goes_on(true, 0) {
         return;
     }
-    if error != libc::EPIPE {
-        os::fail(b"desk: standard output");
+    if error != EPIPE {
+        fail(b"desk: standard output", error);
     }
 }
