@@ -1,6 +1,6 @@
 /* Branchmetal for C: which words meet a list of rules, and why none does.
  *
- * Link target/staticlib/libbranchmetal.a, which `rt staticlib branchmetal` makes, for Linux on x86-64. It needs nothing but memcpy and
+ * Link target/staticlib/libbranchmetal.a, which `./library` makes, for Linux on x86-64. It needs nothing but memcpy and
  * memset, keeps nothing between calls and allocates nothing. In the tree docs/LIBRARY.md has more.
  *
  * Every function takes any numbers, always returns and, but for blanking, answers 0 or the number of a refusal. Each names its refusals in

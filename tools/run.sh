@@ -12,7 +12,7 @@ stand() {
     (: 3>&2) || exec 2>/dev/null
 }
 
-# Programs are compiled for x86-64; for another processor the kit has an emulator.
+# Programs are compiled for x86-64; for another processor a kit may have an emulator.
 program() { # PROGRAM [ARGUMENT..]
     machine=$(uname -m)
     if [ "$machine" = x86_64 ]; then
@@ -23,7 +23,11 @@ program() { # PROGRAM [ARGUMENT..]
         echo "$name: its program is for x86-64, and on $machine the Rattle kit's emulator runs it: rt has to be on the path" >&2
         return 0
     }
-    kit=${guide%/*/*}/on/$machine/toolchain
+    kit=${guide%/*}/on/$machine/toolchain
+    [ -x "$kit/bin/qemu-x86_64" ] || {
+        echo "$name: its program is for x86-64, and this Rattle kit has no emulator for $machine" >&2
+        return 0
+    }
     "$kit/bin/qemu-x86_64" "$kit/lib/ld-linux-x86-64.so.2" --library-path "$kit/lib" "$@"
 }
 

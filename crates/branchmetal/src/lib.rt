@@ -1,8 +1,7 @@
-// The library for C, Rust and Python: the desk's calls on numbers, each exported under its plain name. Every function takes any numbers
-// and answers 0 or the paper's number of a refusal; include/branchmetal.h declares them. A static library has the functions of one crate
-// alone, so that each call is exported here and is made in the crate that it comes from.
+// The library's calls on numbers. Every function takes any numbers and answers 0 or the paper's number of a refusal. The crate
+// branchmetal_c exports each under its plain name, for C, Rust and Python.
 #![tactic(auto)]
 
-mod lists;
-mod sheets;
-mod words;
+pub mod lists;
+pub mod sheets;
+pub mod words;

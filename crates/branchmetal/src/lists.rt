@@ -10,13 +10,7 @@ ghost use Rattle.vetting.specs.Vetted.{Vetted};
 use handing::NUMBERS;
 
 // Whether a word meets a rule.
-#[unsafe(no_mangle)]
-pub extern "C" fn branchmetal_meets(
-    width: u64,
-    rule: &[u64; NUMBERS],
-    word: u64,
-    meets: &mut u64,
-) -> u64
+pub fn branchmetal_meets(width: u64, rule: &[u64; NUMBERS], word: u64, meets: &mut u64) -> u64
     ensures value { result ≡ weigh_number width (rule_in rule.now) word }
     ensures meets_after { meets.new ≡ weighed width (rule_in rule.now) word }
 {
@@ -24,8 +18,7 @@ pub extern "C" fn branchmetal_meets(
 }
 
 // Vets a list: the batch call.
-#[unsafe(no_mangle)]
-pub extern "C" fn branchmetal_vet(
+pub fn branchmetal_vet(
     width: u64,
     edition: u64,
     rules: &[[u64; NUMBERS]],
@@ -38,8 +31,7 @@ pub extern "C" fn branchmetal_vet(
 }
 
 // Checks a chain of any maker against a list.
-#[unsafe(no_mangle)]
-pub extern "C" fn branchmetal_check(
+pub fn branchmetal_check(
     width: u64,
     edition: u64,
     rules: &[[u64; NUMBERS]],
@@ -53,8 +45,7 @@ pub extern "C" fn branchmetal_check(
 }
 
 // Counts the words that fit a list.
-#[unsafe(no_mangle)]
-pub extern "C" fn branchmetal_count(
+pub fn branchmetal_count(
     width: u64,
     edition: u64,
     rules: &[[u64; NUMBERS]],
@@ -67,8 +58,7 @@ pub extern "C" fn branchmetal_count(
 }
 
 // Lists the words that fit a list of rules, from a start on.
-#[unsafe(no_mangle)]
-pub extern "C" fn branchmetal_list(
+pub fn branchmetal_list(
     width: u64,
     edition: u64,
     rules: &[[u64; NUMBERS]],

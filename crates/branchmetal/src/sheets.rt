@@ -11,28 +11,21 @@ ghost use Rattle.on_kept.specs.Told.{Asked, Counted, Listed};
 use handing::NUMBERS;
 
 // The blank sheet.
-#[unsafe(no_mangle)]
-pub extern "C" fn branchmetal_sheet_blank(sheet: &mut [u64; keeping::NUMBERS])
+pub fn branchmetal_sheet_blank(sheet: &mut [u64; keeping::NUMBERS])
     ensures { sheet.new ≡ numbers_of blank }
 {
     on_sheets::blank(sheet)
 }
 
 // Opens a sheet.
-#[unsafe(no_mangle)]
-pub extern "C" fn branchmetal_sheet_open(
-    sheet: &mut [u64; keeping::NUMBERS],
-    width: u64,
-    edition: u64,
-) -> u64
+pub fn branchmetal_sheet_open(sheet: &mut [u64; keeping::NUMBERS], width: u64, edition: u64) -> u64
     ensures { Opened (opening_of width edition) sheet.old sheet.new result }
 {
     on_sheets::open(sheet, width, edition)
 }
 
 // Adds a rule.
-#[unsafe(no_mangle)]
-pub extern "C" fn branchmetal_sheet_add(
+pub fn branchmetal_sheet_add(
     sheet: &mut [u64; keeping::NUMBERS],
     edition: u64,
     rule: &[u64; NUMBERS],
@@ -43,32 +36,28 @@ pub extern "C" fn branchmetal_sheet_add(
 }
 
 // Sets a mark.
-#[unsafe(no_mangle)]
-pub extern "C" fn branchmetal_sheet_mark(sheet: &mut [u64; keeping::NUMBERS]) -> u64
+pub fn branchmetal_sheet_mark(sheet: &mut [u64; keeping::NUMBERS]) -> u64
     ensures { Changed mark sheet.old sheet.new result }
 {
     on_sheets::mark(sheet)
 }
 
 // Goes back to the newest mark.
-#[unsafe(no_mangle)]
-pub extern "C" fn branchmetal_sheet_back(sheet: &mut [u64; keeping::NUMBERS]) -> u64
+pub fn branchmetal_sheet_back(sheet: &mut [u64; keeping::NUMBERS]) -> u64
     ensures { Changed back sheet.old sheet.new result }
 {
     on_sheets::back(sheet)
 }
 
 // Brings back what was most recently taken back.
-#[unsafe(no_mangle)]
-pub extern "C" fn branchmetal_sheet_forward(sheet: &mut [u64; keeping::NUMBERS]) -> u64
+pub fn branchmetal_sheet_forward(sheet: &mut [u64; keeping::NUMBERS]) -> u64
     ensures { Changed forward sheet.old sheet.new result }
 {
     on_sheets::forward(sheet)
 }
 
 // Sets a gate.
-#[unsafe(no_mangle)]
-pub extern "C" fn branchmetal_sheet_gate(
+pub fn branchmetal_sheet_gate(
     sheet: &mut [u64; keeping::NUMBERS],
     kind: u64,
     low: u32,
@@ -80,8 +69,7 @@ pub extern "C" fn branchmetal_sheet_gate(
 }
 
 // Asks.
-#[unsafe(no_mangle)]
-pub extern "C" fn branchmetal_sheet_ask(
+pub fn branchmetal_sheet_ask(
     sheet: &[u64; keeping::NUMBERS],
     links: &mut [u64],
     answer: &mut [u64; 4],
@@ -92,19 +80,14 @@ pub extern "C" fn branchmetal_sheet_ask(
 }
 
 // Counts the words that fit.
-#[unsafe(no_mangle)]
-pub extern "C" fn branchmetal_sheet_count(
-    sheet: &[u64; keeping::NUMBERS],
-    answer: &mut [u64; 2],
-) -> u64
+pub fn branchmetal_sheet_count(sheet: &[u64; keeping::NUMBERS], answer: &mut [u64; 2]) -> u64
     ensures { Counted sheet.now answer.new result }
 {
     on_kept::count(sheet, answer)
 }
 
 // Lists the words that fit, from a start on.
-#[unsafe(no_mangle)]
-pub extern "C" fn branchmetal_sheet_list(
+pub fn branchmetal_sheet_list(
     sheet: &[u64; keeping::NUMBERS],
     start: u64,
     words: &mut [u64],

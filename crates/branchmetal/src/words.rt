@@ -10,8 +10,7 @@ use gate::Gate;
 use handing::NUMBERS;
 
 // Writes the four rules of a gate.
-#[unsafe(no_mangle)]
-pub extern "C" fn branchmetal_gate_rules(
+pub fn branchmetal_gate_rules(
     kind: u64,
     low: u32,
     high: u32,
@@ -24,13 +23,7 @@ pub extern "C" fn branchmetal_gate_rules(
 }
 
 // Cuts the intervals of three words by what each says of the others.
-#[unsafe(no_mangle)]
-pub extern "C" fn branchmetal_join(
-    width: u64,
-    op: u64,
-    words: &mut [[u64; 2]; 3],
-    empty: &mut u64,
-) -> u64
+pub fn branchmetal_join(width: u64, op: u64, words: &mut [[u64; 2]; 3], empty: &mut u64) -> u64
     ensures value { result ≡ (join_in width op words.old).number }
     ensures words_after { words.new ≡ join_rows (join_in width op words.old) }
     ensures empty_after { empty.new ≡ number_of (join_in width op words.old).empty }
@@ -39,8 +32,7 @@ pub extern "C" fn branchmetal_join(
 }
 
 // Cuts the intervals of a net of words by its joins, for as many steps as are paid for.
-#[unsafe(no_mangle)]
-pub extern "C" fn branchmetal_net(
+pub fn branchmetal_net(
     width: u64,
     words: &mut [[u64; 2]],
     joins: &[[u64; 4]],

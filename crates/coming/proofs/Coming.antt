@@ -54,3 +54,6 @@ left false b e = e
 pub bounded : (came : Came) (more : Bool) (calls : ℕ) → goes_on came more calls ≡ true → calls < MOST
 unfolding goes_on
 bounded came more calls e = ltb-true calls MOST (left (ltb calls MOST) (follows came more) e)
+
+-- what tells the four ways apart
+pub ruleset told = (some, no_more, again, fails)

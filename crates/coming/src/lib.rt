@@ -4,12 +4,12 @@
 ghost use Rattle.std.specs.Prelude.{◌≡◌};
 ghost use Rattle.coming.specs.Calls.{came_to, goes_on};
 
-mod answer;
+mod answered;
 mod failing;
 mod hearing;
 mod output;
 
-pub use answer::Answer;
+pub use answered::Answer;
 pub use failing::fail;
 pub use hearing::{Hearing, hear};
 pub use output::{Sent, send};
@@ -31,6 +31,7 @@ pub enum Came {
 
 impl Came {
     // From the call's answer, and from errno as the call left it.
+    #[tactic(auto, using(crate::proofs::Coming::told))]
     pub fn of(got: isize, error: i32) -> Came
         ensures { result ≡ came_to got error }
     {

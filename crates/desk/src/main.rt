@@ -7,18 +7,18 @@ use rule::Rule;
 use sheet::Sheet;
 
 // At the end of the input the last line is answered, which may lack its byte 10. An input that could not be read has no last line.
-fn main() {
+fn main(rt: HostRuntime) {
     let none = [0; NUMBERS];
     let mut rows = [none; Rule::LIMIT];
     let mut marks: [usize; Sheet::MARKS] = [0; Sheet::MARKS];
     let mut chain = [0; Sheet::LENT];
     let mut out = io::large_buffer();
-    let talk = turns::converse(&mut rows, &mut marks, &mut chain, &mut out);
+    let talk = turns::converse(&rt, &mut rows, &mut marks, &mut chain, &mut out);
     let turn = talk.turn;
     let came = turn.came;
     if let Came::Nothing = came {
         let state = turn.state;
         let n = input_end::finish(state, &mut rows, &mut marks, &mut chain, &mut out);
-        coming::send(&out[..n]);
+        coming::send(&rt, &out[..n]);
     }
 }

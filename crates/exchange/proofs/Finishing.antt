@@ -14,7 +14,7 @@ nothing_taken nothing z = refl
 nothing_taken (ends_line ls h s t) z = absurd (omega (arith, ap length z))
 nothing_taken (goes_on n t) z = absurd (omega (arith, ap length z))
 
-nothing_fed : {m n : ℕ} {d e : Desk} {bs o : List ℕ} → Feeds m d bs e n o → bs ≡ [] → o ≡ []
+nothing_fed : {m : ℕ} {d e : Desk} {bs : List ℕ} {n : ℕ} {o : List ℕ} → Feeds m d bs e n o → bs ≡ [] → o ≡ []
 nothing_fed all_used z = refl
 nothing_fed (no_room h) z = refl
 nothing_fed (a_line r h t k) z = absurd (omega (arith, ap length z))
@@ -27,7 +27,7 @@ module _ {d : Desk} (begun : d.begun.len ≡ 0 → ⊥) where
       subst (Ends d) (sym (ap (λ (p : List ℕ). answer_bytes ls ++ p) (nothing_taken t rest) ∙ append-nil (answer_bytes ls))) (last_line ls begun s)
   line_over (goes_on {b} n t) z = let e : b ≡ NEWLINE = cc in absurd (n e)
 
-  byte_fed : {m n : ℕ} {e : Desk} {bs o : List ℕ} → Feeds m d bs e n o → bs ≡ NEWLINE ∷ [] → ROOM ≤ m → Ends d o
+  byte_fed : {m : ℕ} {e : Desk} {bs : List ℕ} {n : ℕ} {o : List ℕ} → Feeds m d bs e n o → bs ≡ NEWLINE ∷ [] → ROOM ≤ m → Ends d o
   unfolding with_end line_of
   byte_fed all_used z r = absurd (omega (arith, ap length z))
   byte_fed (no_room h) z r = absurd (omega arith)

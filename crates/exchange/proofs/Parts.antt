@@ -108,7 +108,7 @@ feeds_fit all_used = omega arith
 feeds_fit (no_room h) = omega arith
 feeds_fit {bs} (a_line r h t k) = omega (arith, feeds_fit k, length-drop (length (with_end bs)) bs, end_fits bs)
 
-pub feeds_some : {m n : ℕ} {d e : Desk} {bs o : List ℕ} → Feeds m d bs e n o → ROOM ≤ m → 0 < length bs → 0 < n
+pub feeds_some : {m : ℕ} {d e : Desk} {bs : List ℕ} {n : ℕ} {o : List ℕ} → Feeds m d bs e n o → ROOM ≤ m → 0 < length bs → 0 < n
 feeds_some all_used r h = omega arith
 feeds_some (no_room s) r h = omega arith
 feeds_some {bs} (a_line s i t k) r h = omega (arith, end_some bs h)

@@ -93,7 +93,7 @@ unfolding lines answers_to after_bytes
 from_here u h nothing k = at_end u h k
 from_here {pg} u {p} h (ends_line {b} {bs} {o = q} ls z s t) k =
     append_assoc (answer_bytes ls) q p
-    ∙ ap₂ ◌++◌ (ap answer_bytes (said_of h s).1) (from_here [] (line_over h s) t k)
+    ∙ ap₂ ◌++◌ (ap answer_bytes (said_of h s).1) (from_here {pg = page_after pg (line_call u)} [] (line_over h s) t k)
     ∙ sym (rw (eq-eqb b NEWLINE z, line_ends u (lines bs)))
 from_here {pg} u h (goes_on {b} {bs} n t) k =
     from_here (u ++ b ∷ []) (holds_more h b) t k ∙ sym (rw (ne_eqb b NEWLINE n, byte_more u b (lines bs)))

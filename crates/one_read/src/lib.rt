@@ -3,13 +3,13 @@
 
 ghost use Rattle.one_read.specs.Listened.{Listened};
 
-use coming::Hearing;
-use libc::STDIN_FILENO;
+use coming::{Answer, Hearing};
+use std::io::Read;
 
 // Reads into the lent buffer. Says what the read came to, and how many bytes it brought.
-pub fn listen(input: &mut [u8]) -> Hearing
+pub fn listen(rt: &HostRuntime, input: &mut [u8]) -> Hearing
     ensures { Listened input.new result }
 {
-    let got = libc::read(STDIN_FILENO, &mut *input);
-    coming::hear(got, os::errno(), &*input)
+    let answer = Answer::of(rt.stdin().read(&mut *input));
+    coming::hear(answer.got, answer.error, &*input)
 }

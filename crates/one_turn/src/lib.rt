@@ -16,6 +16,7 @@ use turn::Turn;
 
 // One read after the last turn, and what is read is answered before the next, so that a conversation can be held.
 pub fn take_turn(
+    rt: &HostRuntime,
     last: Turn,
     rows: &mut [[u64; NUMBERS]; Rule::LIMIT],
     marks: &mut [usize; Sheet::MARKS],
@@ -28,11 +29,12 @@ pub fn take_turn(
     ensures turned { Turned (desk_of last.state rows.old marks.old) input.new result rows.new marks.new }
     ensures held_2 { Held result.state.head rows.new marks.new × (length chain.new ≡ chain_room RULES) }
 {
-    let heard = one_read::listen(&mut *input);
+    let heard = one_read::listen(rt, &mut *input);
     let state = last.state;
     let came = heard.came;
     let n = heard.count;
     let served = serving::serve(
+        rt,
         state,
         &mut *rows,
         &mut *marks,

@@ -116,7 +116,7 @@ after_reached {pg} h c = go (ℕ_discrete (refusal pg c) 0)
 pub clerk_reached : {pg : Page} → Reached pg → (cs : List Call) → Reached (clerk pg cs)
 unfolding clerk
 clerk_reached h [] = h
-clerk_reached h (c ∷ cs) = clerk_reached (after_reached h c) cs
+clerk_reached {pg = pg} h (c ∷ cs) = clerk_reached {pg = after pg c} (after_reached h c) cs
 
 pub lawful_reached : (pg : Page) → LawfulPage pg → Reached pg
 lawful_reached pg l = subst Reached (lawful_replays pg l).comes_to (clerk_reached start (replay pg))

@@ -87,15 +87,15 @@ laid_take t bs n i d h l a = subst (Laid t) (get_or-take n bs i d h) (laid_at t 
 module _ (turned : Bool) (t : ℕ) where
   pub seen_length : (bs : List Band) → length (all_seen turned t bs) ≡ length bs
   unfolding all_seen
-  seen_length bs = elim turned [ true ↦ length-map bs (turned_band t) | false ↦ refl ]
+  seen_length bs = elim turned as (λ k. length (all_seen k t bs) ≡ length bs) [ true ↦ length-map bs (turned_band t) | false ↦ refl ]
 
   pub seen_at : (bs : List Band) (i : ℕ) (d : Band) → i < length bs → get_or (all_seen turned t bs) i d ≡ seen turned t (get_or bs i d)
   unfolding all_seen seen
-  seen_at bs i d h = elim turned [ true ↦ map_at (turned_band t) bs i d d h | false ↦ refl ]
+  seen_at bs i d h = elim turned as (λ k. get_or (all_seen k t bs) i d ≡ seen k t (get_or bs i d)) [ true ↦ map_at (turned_band t) bs i d d h | false ↦ refl ]
 
   pub seen_laid : (b : Band) → Laid t b → Laid t (seen turned t b)
   unfolding seen
-  seen_laid b l = elim turned [ true ↦ turned_laid t b l | false ↦ l ]
+  seen_laid b l = elim turned as (λ k. Laid t (seen k t b)) [ true ↦ turned_laid t b l | false ↦ l ]
 
   -- seen on the wheel turned round, or as it stands
   pub seen_turned : (b : Band) → turned ≡ true → turned_band t b ≡ seen turned t b
@@ -109,8 +109,8 @@ module _ (turned : Bool) (t : ℕ) where
   -- a word is held as it is seen where it is held as it stands
   pub seen-holds : (b : Band) (x : ℕ) → Laid t b → x ≤ t → holds (seen turned t b) x ≡ holds b (faced turned t x)
   unfolding seen faced
-  seen-holds b x l h = elim turned [ true ↦ turned_holds t b x l h | false ↦ refl ]
+  seen-holds b x l h = elim turned as (λ k. holds (seen k t b) x ≡ holds b (faced k t x)) [ true ↦ turned_holds t b x l h | false ↦ refl ]
 
   pub faced_word : (x : ℕ) → x ≤ t → faced turned t x ≤ t
   unfolding faced
-  faced_word x h = elim turned [ true ↦ omega arith | false ↦ h ]
+  faced_word x h = elim turned as (λ k. faced k t x ≤ t) [ true ↦ omega arith | false ↦ h ]

@@ -29,7 +29,7 @@ module _ (w : ℕ) (r : Rule) (x : ℕ) where
   unfolding rows
   no_row none = by_form (λ (n : ℕ). r.form ≡ n → written w r x ≡ true) (row (at_row 0) (other none)) (λ n h e. past_rows (rw e h)) r.form refl
     where
-      other : {a b : ℕ} → Rows (λ (n : ℕ). r.form ≡ n → ⊥) b a → Rows (λ (n : ℕ). r.form ≡ n → written w r x ≡ true) b a
+      other : {b a : ℕ} → Rows (λ (n : ℕ). r.form ≡ n → ⊥) b a → Rows (λ (n : ℕ). r.form ≡ n → written w r x ≡ true) b a
       other end = end
       other (row d rest) = row (λ e. absurd (d e)) (other rest)
 

@@ -13,6 +13,7 @@ use feed::State;
 use rows::NUMBERS;
 use rule::Rule;
 use sheet::Sheet;
+use std::io::Print;
 
 // The state after a part of the input, and whether its answers were taken.
 #[derive(Clone, Copy)]
@@ -23,6 +24,7 @@ pub struct Served {
 
 // Answers a part of the input, with a write each time that the buffer is full and one at the end.
 pub fn serve(
+    rt: &impl Print,
     state: State,
     rows: &mut [[u64; NUMBERS]; Rule::LIMIT],
     marks: &mut [usize; Sheet::MARKS],
@@ -49,7 +51,7 @@ pub fn serve(
         let written = fed.written;
         state = fed.state;
         at = at + fed.used;
-        let sent = coming::send(&out[..written]);
+        let sent = coming::send(rt, &out[..written]);
         if sent.count < written {
             return Served {
                 state,

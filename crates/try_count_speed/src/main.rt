@@ -7,6 +7,7 @@ mod sheets;
 
 use counting::Share;
 use sheet::Sheet;
+use std::env::Env;
 
 const COUNTS: u64 = 10_000;
 
@@ -27,9 +28,9 @@ enum Work {
     Bits,
 }
 
-fn main() {
+fn main(rt: HostRuntime) {
     let mut word = [0u8; 8];
-    os::arg(1, &mut word);
+    let _ = rt.arg(1, &mut word);
     match chosen(word) {
         Work::Little => little(),
         Work::Counts => count(COUNTS),

@@ -5,6 +5,7 @@
 use gate::Gate;
 use rule::Rule;
 use sheet::Sheet;
+use std::env::Env;
 use trial_calls::sheets;
 use trial_gates::made;
 
@@ -29,9 +30,9 @@ struct Sums {
     pub words: u64,
 }
 
-fn main() {
+fn main(rt: HostRuntime) {
     let mut word = [0u8; 8];
-    os::arg(1, &mut word);
+    let _ = rt.arg(1, &mut word);
     let mut times = LITTLE;
     if word[0] == b'a' {
         times = SHEETS;

@@ -9,6 +9,7 @@ use batch::Batch;
 use page::Opening;
 use rule::Rule;
 use sheet::Sheet;
+use std::env::Env;
 use trial_calls::sheets::{added, opened_in};
 use trial_lists::{calls, parts, parts_of};
 use word::Edition;
@@ -25,11 +26,11 @@ enum Way {
     Bits,
 }
 
-fn main() {
+fn main(rt: HostRuntime) {
     let mut word = [0u8; 8];
-    os::arg(1, &mut word);
+    let _ = rt.arg(1, &mut word);
     let mut bits = [0u8; 8];
-    os::arg(2, &mut bits);
+    let _ = rt.arg(2, &mut bits);
     let wide = bits[0] == b'6';
     match chosen(word) {
         Way::Ask => print(answered(Way::Ask, ASKED, opening(wide), rules(wide))),

@@ -26,6 +26,7 @@ pub struct Talk {
 
 // Turn after turn, until the input ends, or a read or a write fails. The first turn comes as after a read that was interrupted.
 pub fn converse(
+    rt: &HostRuntime,
     rows: &mut [[u64; NUMBERS]; Rule::LIMIT],
     marks: &mut [usize; Sheet::MARKS],
     chain: &mut [u64; Sheet::LENT],
@@ -48,6 +49,7 @@ pub fn converse(
     let mut turns = 0;
     while turn.goes_on(turns) {
         turn = take_turn(
+            rt,
             turn,
             &mut *rows,
             &mut *marks,

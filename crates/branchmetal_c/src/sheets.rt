@@ -1,0 +1,116 @@
+// The calls on a sheet that the caller keeps.
+ghost use Rattle.std.specs.Prelude.{◌≡◌};
+ghost use Rattle.page.specs.Calls.{add, back, forward, mark, set_gate};
+ghost use Rattle.sheet.specs.Record.{blank};
+ghost use Rattle.handing.specs.Handed.{edition_of, opening_of, rule_in};
+ghost use Rattle.on_words.specs.Gates.{gate_of};
+ghost use Rattle.kept_numbers.specs.Numbers.{numbers_of};
+ghost use Rattle.kept_changes.specs.Changed.{Changed, Opened};
+ghost use Rattle.on_kept.specs.Told.{Asked, Counted, Listed};
+
+use handing::NUMBERS;
+
+// The blank sheet.
+#[unsafe(no_mangle)]
+pub extern "C" fn branchmetal_sheet_blank(sheet: &mut [u64; keeping::NUMBERS])
+    ensures { sheet.new ≡ numbers_of blank }
+{
+    branchmetal::sheets::branchmetal_sheet_blank(sheet)
+}
+
+// Opens a sheet.
+#[unsafe(no_mangle)]
+pub extern "C" fn branchmetal_sheet_open(
+    sheet: &mut [u64; keeping::NUMBERS],
+    width: u64,
+    edition: u64,
+) -> u64
+    ensures { Opened (opening_of width edition) sheet.old sheet.new result }
+{
+    branchmetal::sheets::branchmetal_sheet_open(sheet, width, edition)
+}
+
+// Adds a rule.
+#[unsafe(no_mangle)]
+pub extern "C" fn branchmetal_sheet_add(
+    sheet: &mut [u64; keeping::NUMBERS],
+    edition: u64,
+    rule: &[u64; NUMBERS],
+) -> u64
+    ensures { Changed (add (edition_of edition) (rule_in rule.now)) sheet.old sheet.new result }
+{
+    branchmetal::sheets::branchmetal_sheet_add(sheet, edition, rule)
+}
+
+// Sets a mark.
+#[unsafe(no_mangle)]
+pub extern "C" fn branchmetal_sheet_mark(sheet: &mut [u64; keeping::NUMBERS]) -> u64
+    ensures { Changed mark sheet.old sheet.new result }
+{
+    branchmetal::sheets::branchmetal_sheet_mark(sheet)
+}
+
+// Goes back to the newest mark.
+#[unsafe(no_mangle)]
+pub extern "C" fn branchmetal_sheet_back(sheet: &mut [u64; keeping::NUMBERS]) -> u64
+    ensures { Changed back sheet.old sheet.new result }
+{
+    branchmetal::sheets::branchmetal_sheet_back(sheet)
+}
+
+// Brings back what was most recently taken back.
+#[unsafe(no_mangle)]
+pub extern "C" fn branchmetal_sheet_forward(sheet: &mut [u64; keeping::NUMBERS]) -> u64
+    ensures { Changed forward sheet.old sheet.new result }
+{
+    branchmetal::sheets::branchmetal_sheet_forward(sheet)
+}
+
+// Sets a gate.
+#[unsafe(no_mangle)]
+pub extern "C" fn branchmetal_sheet_gate(
+    sheet: &mut [u64; keeping::NUMBERS],
+    kind: u64,
+    low: u32,
+    high: u32,
+) -> u64
+    ensures { Changed (set_gate (gate_of kind low high)) sheet.old sheet.new result }
+{
+    branchmetal::sheets::branchmetal_sheet_gate(sheet, kind, low, high)
+}
+
+// Asks.
+#[unsafe(no_mangle)]
+pub extern "C" fn branchmetal_sheet_ask(
+    sheet: &[u64; keeping::NUMBERS],
+    links: &mut [u64],
+    answer: &mut [u64; 4],
+) -> u64
+    ensures { Asked sheet.now links.old links.new answer.new result }
+{
+    branchmetal::sheets::branchmetal_sheet_ask(sheet, links, answer)
+}
+
+// Counts the words that fit.
+#[unsafe(no_mangle)]
+pub extern "C" fn branchmetal_sheet_count(
+    sheet: &[u64; keeping::NUMBERS],
+    answer: &mut [u64; 2],
+) -> u64
+    ensures { Counted sheet.now answer.new result }
+{
+    branchmetal::sheets::branchmetal_sheet_count(sheet, answer)
+}
+
+// Lists the words that fit, from a start on.
+#[unsafe(no_mangle)]
+pub extern "C" fn branchmetal_sheet_list(
+    sheet: &[u64; keeping::NUMBERS],
+    start: u64,
+    words: &mut [u64],
+    written: &mut u64,
+) -> u64
+    ensures { Listed sheet.now start words.old words.new written.new result }
+{
+    branchmetal::sheets::branchmetal_sheet_list(sheet, start, words, written)
+}

@@ -1,0 +1,75 @@
+-- `walk` meets its contract. The loop's invariant: what is left of the run comes to what the whole run comes to. The measure is the
+-- steps that may still be paid for. Assumes nothing.
+use mathlib.Core.Path.{◌≡◌, sym, ap, ◌∙◌}
+use Prim.Native.Nat.{ℕ, ◌-◌, ◌%◌, ◌≤◌, ◌<◌}
+use native.Mathlib.Nat.{mod-lt}
+use native.Mathlib.Omega.{arith}
+use Rattle.net_tests.specs.Fits.{JOINS}
+use Rattle.net.specs.Net.{turn}
+use Rattle.net.specs.route.Run.{shown, walked}
+use Rattle.net.proofs.Going.{walk_empty, walk_on, walk_spent, walk_start, walk_steady}
+use Rattle.net.proofs.Net.walk.Goals.{Else-spent, Else-steady}
+use Rattle.net.proofs.Net.walk.Goals as goal
+
+-- the join whose turn it is has a place
+turn_below : (steps joined : ℕ) → 0 < joined → joined ≤ JOINS → steps % joined < 32
+turn_below steps joined h l = omega (arith, mod-lt steps h)
+
+-- where the run goes on, not every join was quiet, and a step is left to pay for
+unsteady : (n : Else-steady) → n.loop-empty.quiet < n.args.self.joined
+unsteady n = n.if-steady.false
+
+unspent : (n : Else-spent) → n.loop-empty.steps ≡ n.args.pay → ⊥
+unspent n = n.if-spent.false
+
+pub loop-empty-init : goal.loop-empty-init
+loop-empty-init c = walk_start _ _ _ _ _
+
+pub returns-then-empty : goal.returns-then-empty
+unfolding walked shown
+returns-then-empty c =
+    c.given.ensures ∙ sym (ap shown (walk_empty _ _ _ c.loop-empty.invariant c.if-empty.true))
+
+pub returns-then-steady : goal.returns-then-steady
+unfolding walked shown
+returns-then-steady c =
+    c.given-then-steady.ensures ∙ sym (ap shown (walk_steady _ _ _ c.loop-empty.invariant c.if-empty.false (c.if-steady.true)))
+
+pub returns-then-spent : goal.returns-then-spent
+unfolding walked shown
+returns-then-spent c =
+    c.given-then-spent.ensures
+    ∙ sym (ap shown (walk_spent _ _ _ c.loop-empty.invariant c.if-empty.false (unsteady (goal.at.returns-then-spent c).Else-steady) (c.if-spent.true)))
+
+pub nonzero_rem-turn : goal.nonzero_rem-turn
+nonzero_rem-turn c = omega (arith, unsteady (goal.at.nonzero_rem-turn c).Else-steady)
+
+pub offset_bounds-joins-turn : goal.offset_bounds-joins-turn
+offset_bounds-joins-turn c =
+    omega (arith, turn_below c.loop-empty.steps c.args.self.joined (omega (arith, unsteady (goal.at.offset_bounds-joins-turn c).Else-steady)) c.requires.joins)
+
+pub bounds-joins-turn : goal.bounds-joins-turn
+bounds-joins-turn c =
+    turn_below c.loop-empty.steps c.args.self.joined (omega (arith, unsteady (goal.at.bounds-joins-turn c).Else-steady)) c.requires.joins
+
+pub step-next-requires : goal.step-next-requires
+step-next-requires c =
+    c.requires.names (c.loop-empty.steps % c.args.self.joined) (mod-lt c.loop-empty.steps (omega (arith, unsteady (goal.at.step-next-requires c).Else-steady)))
+
+pub overflow_add-steps : goal.overflow_add-steps
+overflow_add-steps c =
+    omega (arith, unspent (goal.at.overflow_add-steps c).Else-spent, c.loop-empty.invariant.paid, c.ranges.pay)
+
+pub in_a_row-quiet-requires : goal.in_a_row-quiet-requires
+in_a_row-quiet-requires c =
+    omega (arith, unsteady (goal.at.in_a_row-quiet-requires c).Else-steady, c.requires.joins)
+
+pub loop-empty-smaller : goal.loop-empty-smaller
+loop-empty-smaller c =
+    omega (arith, c.loop-empty.invariant.paid, unspent (goal.at.loop-empty-smaller c).Else-spent)
+
+pub loop-empty-preserved : goal.loop-empty-preserved
+unfolding turn
+loop-empty-preserved c =
+    walk_on _ _ _ c.loop-empty.invariant c.if-empty.false (unsteady (goal.at.loop-empty-preserved c).Else-steady) (omega (arith, c.loop-empty.invariant.paid, unspent (goal.at.loop-empty-preserved c).Else-spent))
+    c.step-next.ensures c.in_a_row-quiet.ensures

@@ -1,0 +1,9 @@
+-- `within` meets its contract: how far up from the arc's start a word is tells whether the arc has it. Assumes nothing.
+use Rattle.std.proofs.Common.{arith}
+use Rattle.rows.proofs.band.Arcs.{by_differences}
+use Rattle.rows.proofs.band.within.Goals as goal
+
+pub returns : goal.returns
+returns c =
+    by_differences c.args.from c.args.to c.args.x _ _ (omega arith) (omega arith) (omega arith) (omega arith) (omega arith) c.wrapping_sub_u64.ensures.value
+    c.wrapping_sub_u64-far.ensures.value

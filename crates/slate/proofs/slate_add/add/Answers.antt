@@ -1,0 +1,57 @@
+-- `add` meets its contract: what waited is taken away, the rule goes into the next row with its band and a note, and what is kept is as it
+-- was or found from the old ends. Assumes nothing.
+use mathlib.Core.Path.{◌≡◌, sym, ◌∙◌, subst}
+use Prim.Native.Nat.{◌<◌}
+use native.Mathlib.Omega.{arith}
+use borrow.Author.Rules.{rules}
+use Rattle.rule.specs.Meaning.{RULES}
+use Rattle.slate.specs.declared.Head.{Head}
+use Rattle.slate.specs.route.Numbers.{before, rule_number}
+use Rattle.slate.proofs.Holding.{waits_so, width_so}
+use Rattle.slate.specs.slate_calls.route.Done.{Adds}
+use Rattle.slate.specs.slate_calls.route.Done.Adds.{added, refused}
+use Rattle.slate.proofs.slate_add.Added.{beside_added, kept_added, narrows, next_free, none_before, rules_added}
+use Rattle.slate.proofs.slate_add.add.Goals.{Else-number-ne0}
+use Rattle.slate.proofs.slate_add.add.Goals as goal
+
+accepted : (a : Else-number-ne0) → rule_number a.args.head a.args.edition a.args.rule ≡ 0
+accepted a = sym a.refuses_rule-number.ensures ∙ a.if-number-ne0.false
+
+none : (a : Else-number-ne0) → before a.args.head.stands a.args.head.opening.width ≡ 0
+none a = none_before a.requires _ _ (accepted a)
+
+free : (a : Else-number-ne0) → a.args.head.counts.count < RULES
+free a = next_free a.requires _ _ (accepted a)
+
+pub refuses_rule-number-requires : goal.refuses_rule-number-requires
+refuses_rule-number-requires c = width_so c.requires
+
+pub returns-then-number-ne0 : goal.returns-then-number-ne0
+returns-then-number-ne0 c = refused c.refuses_rule-number.ensures c.if-number-ne0.true
+
+pub overflow_add-next : goal.overflow_add-next
+overflow_add-next c = omega (arith, free (goal.at.overflow_add-next c).Else-number-ne0)
+
+pub clear_waiting-requires : goal.clear_waiting-requires
+clear_waiting-requires c = waits_so c.requires (none (goal.at.clear_waiting-requires c).Else-number-ne0)
+
+pub of-band-requires : goal.of-band-requires
+of-band-requires c = width_so c.requires (none (goal.at.of-band-requires c).Else-number-ne0)
+
+pub put-requires : goal.put-requires
+put-requires c = free (goal.at.put-requires c).Else-number-ne0
+
+pub narrowed-kept-requires : goal.narrowed-kept-requires
+narrowed-kept-requires c =
+    narrows c.requires _ _ (accepted (goal.at.narrowed-kept-requires c).Else-number-ne0) _ _ _ _ c.clear_waiting.ensures.rows_after c.of-band.ensures c.put.ensures c.with-fixed.ensures
+
+pub put_note-requires : goal.put_note-requires
+put_note-requires c = omega (arith, free (goal.at.put_note-requires c).Else-number-ne0)
+
+pub returns : goal.returns
+returns c =
+    let rules = rules_added c.requires _ _ (accepted (goal.at.returns c).Else-number-ne0) _ _ _ _ c.clear_waiting.ensures.rows_after c.of-band.ensures c.put.ensures c.with-fixed.ensures _ c.narrowed-kept.ensures c.put_note.new.rows c.put_note.ensures in
+    let beside = beside_added c.requires _ _ (accepted (goal.at.returns c).Else-number-ne0) _ _ _ _ c.clear_waiting.ensures.rows_after c.of-band.ensures c.put.ensures c.with-fixed.ensures _ c.narrowed-kept.ensures c.put_note.new.rows c.put_note.ensures in
+    let found = kept_added c.requires _ _ (accepted (goal.at.returns c).Else-number-ne0) _ _ _ _ c.clear_waiting.ensures.rows_after c.of-band.ensures c.put.ensures c.with-fixed.ensures _ c.narrowed-kept.ensures c.put_note.new.rows c.put_note.ensures in
+    subst (λ (k : Head). Adds c.args.head c.args.rows.now c.args.marks.now c.args.edition c.args.rule 0 k c.put_note.new.rows c.clear_waiting.new.marks) (sym c.of-head.ensures)
+    (added _ _ (accepted (goal.at.returns c).Else-number-ne0) rules c.clear_waiting.ensures.marks_after beside found)

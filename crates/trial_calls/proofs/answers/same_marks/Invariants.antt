@@ -1,0 +1,10 @@
+-- `same_marks` is safe and ends: the measure is the marks left. Assumes nothing.
+use Rattle.std.proofs.Common.{◌-◌}
+use Rattle.page.specs.Page.{MARKS}
+use Rattle.trial_calls.proofs.answers.same_marks.Given as goal
+
+abbrev pub invariant-loop-i : goal.invariant-loop-i
+invariant-loop-i l = Unit
+
+abbrev pub decreases-loop-i : goal.decreases-loop-i
+decreases-loop-i l = MARKS - l.i

@@ -1,0 +1,13 @@
+-- `narrowed` meets its contract: where nothing passed before nothing does now, and else the old ends are ends. Assumes nothing.
+use mathlib.Core.Path.{◌∙◌}
+use Rattle.verdict.proofs.Solved.{none_kept}
+use Rattle.verdict.proofs.laid.narrowed.Goals as goal
+
+pub returns-then-before-eq0 : goal.returns-then-before-eq0
+returns-then-before-eq0 c = c.none.ensures ∙ none_kept _ _ _ (c.requires.bounds.none c.if-before-eq0.true)
+
+pub solve-requires : goal.solve-requires
+solve-requires c = record { width = c.requires.width; lie = c.requires.lie; tidy = c.requires.tidy; ends = c.requires.bounds.ends c.if-before-eq0.false }
+
+pub returns : goal.returns
+returns c = c.solve.ensures
