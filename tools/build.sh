@@ -21,7 +21,7 @@ crates() {
         END { reach(name); print count + 0 }' "$here/crates.txt"
 }
 
-# Says each crate that is proved, of how many, and keeps the whole account; fails where the account does not come to the program's run.
+# Says each crate that is proved, of how many at most, and keeps the whole account; fails where the account does not come to the program's run.
 progress() { # CRATES
     done=0 crate=$name well=false
     while IFS= read -r line; do
@@ -31,7 +31,7 @@ progress() { # CRATES
         'crate '*': modules loaded='*) crate=${line#crate } crate=${crate%%:*} ;;
         'logic=proved '*)
             done=$((done + 1))
-            echo "$name: proved $crate, $done of $1" >&2
+            echo "$name: proved $crate, $done of at most $1" >&2
             ;;
         "rt: running out/$name;"*) well=true ;;
         esac

@@ -1,0 +1,10 @@
+-- `pieces::alike` is safe and ends: the measure is what is left. Assumes nothing.
+use Rattle.std.proofs.Common.{◌-◌}
+use Rattle.trial_counts.proofs.Counts.{ROOM}
+use Rattle.trial_counts.proofs.pieces.alike.Given as goal
+
+abbrev pub invariant-loop : goal.invariant-loop
+invariant-loop l = Unit
+
+abbrev pub decreases-loop : goal.decreases-loop
+decreases-loop l = ROOM - l.counter

@@ -1,0 +1,10 @@
+-- `runs::total` is safe and ends: the measure is what is left. Assumes nothing.
+use Rattle.std.proofs.Common.{◌-◌}
+use Rattle.trial_wide.proofs.Counts.{STRETCHES}
+use Rattle.trial_counts.proofs.runs.total.Given as goal
+
+abbrev pub invariant-loop : goal.invariant-loop
+invariant-loop l = Unit
+
+abbrev pub decreases-loop : goal.decreases-loop
+decreases-loop l = STRETCHES - l.counter
