@@ -5,21 +5,25 @@
 mod settling;
 mod words;
 
+ghost use Rattle.std.specs.Prelude.{◌≡◌};
 ghost use Rattle.checking.specs.Checked.{Checked};
 
+use coming::Answer;
 use gathering::{LENT, Reading};
 use naming::MOST;
 use rule::Rule;
 use sheet::Sheet;
 use status::MISTAKE;
+use std::io::Error;
+use std::rt::Files;
 use word::Found;
 
 // Checks the chain against a sheet, whose rules have names, and gives the status.
-pub fn check(sheet: Sheet, names: &[[u8; MOST]; Rule::LIMIT]) -> u8
+pub fn check(rt: &(impl Files + Print), sheet: Sheet, names: &[[u8; MOST]; Rule::LIMIT]) -> u8
     ensures { Checked sheet result }
 {
     let mut links = [0; LENT];
-    let read = gathering::read_all(Reading::start(sheet.count), names, &mut links);
+    let read = gathering::read_all(rt, Reading::start(sheet.count), names, &mut links);
     if read.wrong {
         return MISTAKE;
     }
@@ -27,9 +31,20 @@ pub fn check(sheet: Sheet, names: &[[u8; MOST]; Rule::LIMIT]) -> u8
     for turn in 0..u64::MAX {
         let found = settling::found_of(sheet, links, read.links);
         let Found::At(link) = settling::unshown(found, &links) else {
-            return words::tell(found, names, &links);
+            return match words::tell(rt, found, names, &links) {
+                Ok(status) => status,
+                Err(error) => unsaid(error),
+            };
         };
         settling::move_on(sheet.count, names, &mut links, link);
     }
+    MISTAKE
+}
+
+// What is found could not be written, which is neither yes nor no.
+fn unsaid(error: Error) -> u8
+    ensures { result ≡ 2 }
+{
+    coming::fail(b"vet: standard output", Answer::of(Err(error)).error);
     MISTAKE
 }

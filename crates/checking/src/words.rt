@@ -1,110 +1,131 @@
 // What is found of a chain, in one line on standard output.
-ghost use Rattle.std.specs.Prelude.{◌≡◌};
+ghost use Rattle.std.specs.Prelude.{◌≡◌, IfOk};
 ghost use Rattle.status.specs.Status.{status_of};
 
 use chain::Link;
 use clause::Finding;
 use gathering::{LENT, LINKS, ROOM};
-use libc::STDOUT_FILENO;
 use naming::MOST;
+use printing::{put, put_number};
 use rule::Rule;
+use std::io::Result;
 
 // Tells it, and gives the status.
-pub fn tell(found: Finding, names: &[[u8; MOST]; Rule::LIMIT], links: &[u64; LENT]) -> u8
-    ensures { result ≡ status_of found }
+pub fn tell(
+    rt: &impl Print,
+    found: Finding,
+    names: &[[u8; MOST]; Rule::LIMIT],
+    links: &[u64; LENT],
+) -> Result<u8>
+    ensures { IfOk result (λ k. k ≡ status_of found) }
 {
     if found.is_yes() {
-        put(b"yes: no word fits\n");
-        return status::of(found);
+        put(rt, b"yes: no word fits\n")?;
+        return Ok(status::of(found));
     }
-    put(b"no: ");
-    put_found(found, names, links);
-    put(b"\n");
-    status::of(found)
+    put(rt, b"no: ")?;
+    put_found(rt, found, names, links)?;
+    put(rt, b"\n")?;
+    Ok(status::of(found))
 }
 
 // The clause of the paper that does not hold, with the line of its link, where it is one of a link.
-fn put_found(found: Finding, names: &[[u8; MOST]; Rule::LIMIT], links: &[u64; LENT]) {
+fn put_found(
+    rt: &impl Print,
+    found: Finding,
+    names: &[[u8; MOST]; Rule::LIMIT],
+    links: &[u64; LENT],
+) -> Result<()> {
     match found {
-        Finding::Yes => {}
-        Finding::NoSheet => put(b"no sheet is open"),
-        Finding::Empty => put(b"the chain is empty"),
-        Finding::Ragged => put(b"the numbers of the chain are no multiple of three"),
-        Finding::Short => put(b"the largest end is not the top word"),
-        Finding::Backward { link } => put_at(links, link, b"the link starts above its end"),
-        Finding::AboveTop { link } => put_at(links, link, b"the link ends above the top word"),
-        Finding::NotFromZero { link } => put_at(links, link, b"the first link does not start at 0"),
+        Finding::Yes => Ok(()),
+        Finding::NoSheet => put(rt, b"no sheet is open"),
+        Finding::Empty => put(rt, b"the chain is empty"),
+        Finding::Ragged => put(rt, b"the numbers of the chain are no multiple of three"),
+        Finding::Short => put(rt, b"the largest end is not the top word"),
+        Finding::Backward { link } => put_at(rt, links, link, b"the link starts above its end"),
+        Finding::AboveTop { link } => put_at(rt, links, link, b"the link ends above the top word"),
+        Finding::NotFromZero { link } => put_at(
+            rt,
+            links,
+            link,
+            b"the first link does not start at 0",
+        ),
         Finding::Gap { link } => put_at(
+            rt,
             links,
             link,
             b"the link starts more than one past the largest end so far",
         ),
-        _ => put_reason(found, names, links),
+        _ => put_reason(rt, found, names, links),
     }
 }
 
 // The clauses on the reason of a link.
-fn put_reason(found: Finding, names: &[[u8; MOST]; Rule::LIMIT], links: &[u64; LENT]) {
+fn put_reason(
+    rt: &impl Print,
+    found: Finding,
+    names: &[[u8; MOST]; Rule::LIMIT],
+    links: &[u64; LENT],
+) -> Result<()> {
     match found {
         Finding::NoRule { link } => {
-            put_at(links, link, b"there is no rule ");
-            put_number(reason_of(links, link));
+            put_at(rt, links, link, b"there is no rule ")?;
+            put_number(rt, reason_of(links, link))
         }
         Finding::BitRule { link } => {
-            put_at(links, link, b"");
-            put_rule(names, reason_of(links, link));
-            put(b" is one on bits, which a link shows as bits");
+            put_at(rt, links, link, b"")?;
+            put_rule(rt, names, reason_of(links, link))?;
+            put(rt, b" is one on bits, which a link shows as bits")
         }
         Finding::MeetsRule { link, word } => {
-            put_at(links, link, b"word ");
-            put_number(word);
-            put(b" meets ");
-            put_rule(names, reason_of(links, link));
+            put_at(rt, links, link, b"word ")?;
+            put_number(rt, word)?;
+            put(rt, b" meets ")?;
+            put_rule(rt, names, reason_of(links, link))
         }
         Finding::MeetsBits { link, word } => {
-            put_at(links, link, b"word ");
-            put_number(word);
-            put(b" has the fixed bits");
+            put_at(rt, links, link, b"word ")?;
+            put_number(rt, word)?;
+            put(rt, b" has the fixed bits")
         }
-        _ => {}
+        _ => Ok(()),
     }
 }
 
 // `line 7: `, and a text.
-fn put_at(links: &[u64; LENT], link: usize, text: &[u8]) {
-    put(b"line ");
+fn put_at(rt: &impl Print, links: &[u64; LENT], link: usize, text: &[u8]) -> Result<()> {
+    put(rt, b"line ")?;
     if link < LINKS {
-        put_number(links[ROOM + link] / 2);
+        put_number(rt, links[ROOM + link] / 2)?;
     }
-    put(b": ");
-    put(text);
+    put(rt, b": ")?;
+    put(rt, text)
 }
 
 // `rule late`, or `rule 3` where it has no name.
-fn put_rule(names: &[[u8; MOST]; Rule::LIMIT], number: u64) {
+fn put_rule(rt: &impl Print, names: &[[u8; MOST]; Rule::LIMIT], number: u64) -> Result<()> {
     let place = number as usize;
-    put(b"rule ");
+    put(rt, b"rule ")?;
     if Rule::LIMIT <= place {
-        put_number(number);
-        return;
+        return put_number(rt, number);
     }
     let row = names[place];
     let n = naming::length(&row);
     if n == 0 {
-        put_number(number);
-        return;
+        return put_number(rt, number);
     }
-    put_letters(row, n);
+    put_letters(rt, row, n)
 }
 
 // So many letters of a row.
-fn put_letters(row: [u8; MOST], n: usize) {
+fn put_letters(rt: &impl Print, row: [u8; MOST], n: usize) -> Result<()> {
     for i in 0..MOST {
         if i < n {
             let letter = [row[i]];
-            put(&letter);
+            put(rt, &letter)?;
         }
     }
+    Ok(())
 }
 
 fn reason_of(links: &[u64; LENT], link: usize) -> u64 {
@@ -112,12 +133,4 @@ fn reason_of(links: &[u64; LENT], link: usize) -> u64 {
         return 0;
     }
     links[Link::NUMBERS * link + 2]
-}
-
-fn put_number(n: u64) {
-    io::print_decimal(STDOUT_FILENO, n);
-}
-
-fn put(text: &[u8]) {
-    io::write_all(STDOUT_FILENO, text);
 }

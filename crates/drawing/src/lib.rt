@@ -2,58 +2,56 @@
 #![tactic(auto)]
 
 use column::COLUMNS;
-use libc::STDOUT_FILENO;
+use printing::{put, put_number};
 use rule::Rule;
 use shade::Cell;
 use sheet::Sheet;
+use std::io::Result;
 
 // Draws nothing where no sheet is open.
-pub fn draw(sheet: Sheet) {
+pub fn draw(rt: &impl Print, sheet: Sheet) -> Result<()> {
     if sheet.width == 0 {
-        return;
+        return Ok(());
     }
-    rule_rows(sheet);
-    all_row(sheet);
+    rule_rows(rt, sheet)?;
+    all_row(rt, sheet)
 }
 
-fn rule_rows(sheet: Sheet) {
+fn rule_rows(rt: &impl Print, sheet: Sheet) -> Result<()> {
     for number in 0..Rule::LIMIT {
         if number < sheet.count {
-            rule_row(sheet, number);
+            rule_row(rt, sheet, number)?;
         }
     }
+    Ok(())
 }
 
 // `# |###########....#| rule 0`.
-fn rule_row(sheet: Sheet, number: usize) {
-    put(b"# |");
+fn rule_row(rt: &impl Print, sheet: Sheet, number: usize) -> Result<()> {
+    put(rt, b"# |")?;
     for column in 0..COLUMNS {
-        put_cell(rule_cells::rule_at(sheet, number, column));
+        put_cell(rt, rule_cells::rule_at(sheet, number, column))?;
     }
-    put(b"| rule ");
-    io::print_decimal(STDOUT_FILENO, number as u64);
-    put(b"\n");
+    put(rt, b"| rule ")?;
+    put_number(rt, number as u64)?;
+    put(rt, b"\n")
 }
 
 // `# |###########....#| all`.
-fn all_row(sheet: Sheet) {
-    put(b"# |");
+fn all_row(rt: &impl Print, sheet: Sheet) -> Result<()> {
+    put(rt, b"# |")?;
     for column in 0..COLUMNS {
-        put_cell(all_cells::all_at(sheet, column));
+        put_cell(rt, all_cells::all_at(sheet, column))?;
     }
-    put(b"| all\n");
+    put(rt, b"| all\n")
 }
 
 // Nothing past the last column.
-fn put_cell(cell: Cell) {
+fn put_cell(rt: &impl Print, cell: Cell) -> Result<()> {
     match cell {
-        Cell::Fails => put(b"#"),
-        Cell::Meets => put(b"."),
-        Cell::Partly => put(b"+"),
-        Cell::Nowhere => (),
+        Cell::Fails => put(rt, b"#"),
+        Cell::Meets => put(rt, b"."),
+        Cell::Partly => put(rt, b"+"),
+        Cell::Nowhere => Ok(()),
     }
-}
-
-fn put(text: &[u8]) {
-    io::write_all(STDOUT_FILENO, text);
 }

@@ -1,7 +1,9 @@
 // Mistakes in a chain, on standard error: where, what was expected, the line, and a mark under the place. `+` stands for the name of the chain.
 use grammar::kind;
-use libc::STDERR_FILENO;
 use scan::Mistake;
+
+// Where mistakes are said.
+const STDERR: i32 = 2;
 
 // What is expected where a name is none of a rule: a kind past those of the grammar.
 pub const RULE_NAME: u8 = 42;
@@ -10,7 +12,7 @@ pub const RULE_NAME: u8 = 42;
 pub fn say(line: u64, text: &[u8], mistake: Mistake) {
     let at = mistake.at as u64;
     say_line(line);
-    io::print_decimal(STDERR_FILENO, std::num::wrapping_add_u64(at, 1));
+    io::print_decimal(STDERR, std::num::wrapping_add_u64(at, 1));
     put(b": error: expected ");
     say_expected(mistake.expected);
     put(b"\n");
@@ -37,7 +39,7 @@ pub fn say_too_many(line: u64) {
 
 fn say_line(line: u64) {
     put(b"+:");
-    io::print_decimal(STDERR_FILENO, line);
+    io::print_decimal(STDERR, line);
     put(b":");
 }
 
@@ -52,5 +54,5 @@ fn say_expected(expected: u8) {
 }
 
 fn put(text: &[u8]) {
-    io::write_all(STDERR_FILENO, text);
+    io::write_all(STDERR, text);
 }

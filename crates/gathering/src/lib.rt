@@ -5,11 +5,15 @@ mod errors;
 
 use chain::Link;
 use citing::Citation;
+use coming::{Answer, EINTR};
 use errors::RULE_NAME;
 use naming::MOST;
 use printing::{up_to, within};
 use rule::Rule;
 use scan::{Mistake, Name};
+use std::fs;
+use std::io::Read;
+use std::rt::Files;
 use word::Found;
 
 // The most links of a chain, the numbers that they take, and those with the line of each after them.
@@ -19,8 +23,8 @@ pub const ROOM: usize = Link::NUMBERS * LINKS;
 
 pub const LENT: usize = ROOM + LINKS;
 
-// Where the chain is read from.
-const CHAIN: i32 = 7;
+// Where the chain is read from: descriptor 7, which is opened anew, so that a file is read from its start.
+const CHAIN: &str = "/dev/fd/7";
 
 // What is held of a line: one byte more than a line may have, so that memory does not grow with a line.
 const HELD: usize = line::LIMIT + 1;
@@ -62,36 +66,51 @@ impl Reading {
     }
 }
 
-// All of the chain, in as many reads as it takes: no run uses up the turns, since a loop has to end.
+// All of the chain, in as many reads as it takes.
 pub fn read_all(
+    rt: &impl Files,
     start: Reading,
     names: &[[u8; MOST]; Rule::LIMIT],
     links: &mut [u64; LENT],
 ) -> Reading {
+    match fs::open(rt, CHAIN) {
+        Ok(file) => read_file(file, start, names, &mut *links),
+        Err(error) => failed(start, Answer::of(Err(error)).error),
+    }
+}
+
+// No run uses up the turns, since a loop has to end.
+fn read_file<R: Read + Drop>(
+    file: R,
+    start: Reading,
+    names: &[[u8; MOST]; Rule::LIMIT],
+    links: &mut [u64; LENT],
+) -> Reading {
+    let mut file = file;
     let mut reading = start;
     let mut held = [0; HELD];
     for turn in 0..u64::MAX {
         if !reading.more {
             return reading;
         }
-        reading = read_part(reading, names, &mut *links, &mut held);
+        reading = read_part(&mut file, reading, names, &mut *links, &mut held);
     }
     reading
 }
 
 // One read, and the lines that it completes. The last line may lack its byte 10.
 fn read_part(
+    file: &mut impl Read,
     reading: Reading,
     names: &[[u8; MOST]; Rule::LIMIT],
     links: &mut [u64; LENT],
     held: &mut [u8; HELD],
 ) -> Reading {
     let mut input = io::large_buffer();
-    let got = libc::read(CHAIN, &mut input);
-    let error = os::errno();
-    let n = io::count(got, &input);
-    if got < 0 {
-        return unread(reading, error);
+    let read = Answer::of(file.read(&mut input));
+    let n = io::count(read.got, &input);
+    if read.got < 0 {
+        return unread(reading, read.error);
     }
     if n == 0 {
         return last_line(reading, names, &mut *links, &mut *held);
@@ -116,10 +135,14 @@ fn over_part(
 
 // A read was interrupted, and is tried again, or failed.
 fn unread(reading: Reading, error: i32) -> Reading {
-    if error == libc::EINTR {
+    if error == EINTR {
         return reading;
     }
-    os::fail(b"vet: the chain");
+    failed(reading, error)
+}
+
+fn failed(reading: Reading, error: i32) -> Reading {
+    coming::fail(b"vet: the chain", error);
     reading.stopped()
 }
 

@@ -1,11 +1,13 @@
 // Mistakes, on standard error: where, what was expected or why a call was refused, the line, and a mark under the place.
 #![tactic(auto)]
 
-use libc::STDERR_FILENO;
 use line::Statement;
 use printing::Told;
 use scan::{Mistake, Name};
 use upshot::Response;
+
+// Where mistakes are said.
+const STDERR: i32 = 2;
 
 // Says a mistake or a refusal, and whether there was one.
 pub fn say(told: Told, text: &[u8]) -> bool {
@@ -43,7 +45,7 @@ fn say_refusal(line: u64, text: &[u8], number: u64, row: u64, width: u64) {
     put_place(line, at);
     put_reason(row, width);
     put(b" (");
-    io::print_decimal(STDERR_FILENO, number);
+    io::print_decimal(STDERR, number);
     put(b")\n");
     show(text, at);
 }
@@ -51,9 +53,9 @@ fn say_refusal(line: u64, text: &[u8], number: u64, row: u64, width: u64) {
 // `-:3:12: error: `: a column counts from 1.
 fn put_place(line: u64, at: usize) {
     put(b"-:");
-    io::print_decimal(STDERR_FILENO, line);
+    io::print_decimal(STDERR, line);
     put(b":");
-    io::print_decimal(STDERR_FILENO, std::num::wrapping_add_u64(at as u64, 1));
+    io::print_decimal(STDERR, std::num::wrapping_add_u64(at as u64, 1));
     put(b": error: ");
 }
 
@@ -114,7 +116,7 @@ fn put_reason(row: u64, width: u64) {
 }
 
 fn put_width(width: u64) {
-    io::print_decimal(STDERR_FILENO, width);
+    io::print_decimal(STDERR, width);
     put(b" bits");
 }
 
@@ -213,5 +215,5 @@ fn wide(kind: u8) -> u64 {
 }
 
 fn put(text: &[u8]) {
-    io::write_all(STDERR_FILENO, text);
+    io::write_all(STDERR, text);
 }

@@ -9,236 +9,256 @@ use naming::MOST;
 use printing::{Told, WORDS, put, put_number, put_text};
 use rule::Rule;
 use sheet::{Reply, Sheet};
+use std::io::Result;
 use upshot::Response;
 
 // Tells what a statement is answered, where it is answered anything.
 pub fn tell(
+    rt: &impl Print,
     told: Told,
     names: &[[u8; MOST]; Rule::LIMIT],
     numbers: &[u64; Sheet::LENT],
     words: &[u64; WORDS],
-) {
+) -> Result<()> {
     let line = told.line;
     let sheet = told.sheet;
     let statement = told.statement;
     let response = told.response;
     match response {
         Response::Asked(reply) => {
-            begin(line);
-            tell_asked(sheet, reply, names, numbers);
+            begin(rt, line)?;
+            tell_asked(rt, sheet, reply, names, numbers)
         }
         Response::Counted(share) => {
-            begin(line);
-            put_member(b"count");
-            printing::put_count(share);
-            put_total(sheet.width);
+            begin(rt, line)?;
+            put_member(rt, b"count")?;
+            printing::put_count(rt, share)?;
+            put_total(rt, sheet.width)
         }
         Response::Listed(listing) => {
-            begin(line);
-            tell_words(listing.written, words);
-            tell_next(sheet.width, statement, listing, words);
+            begin(rt, line)?;
+            tell_words(rt, listing.written, words)?;
+            tell_next(rt, sheet.width, statement, listing, words)
         }
         Response::Blamed(listing) => {
-            begin(line);
-            put_member(b"why");
-            put_number(printing::word_of(statement));
-            tell_failed(sheet, listing.written, names, numbers);
+            begin(rt, line)?;
+            put_member(rt, b"why")?;
+            put_number(rt, printing::word_of(statement))?;
+            tell_failed(rt, sheet, listing.written, names, numbers)
         }
         Response::Shown => {
-            begin(line);
-            tell_sheet(sheet, names);
+            begin(rt, line)?;
+            tell_sheet(rt, sheet, names)
         }
-        _ => {}
+        _ => Ok(()),
     }
 }
 
 // `{"line":5`.
-fn begin(line: u64) {
-    put(b"{\"line\":");
-    put_number(line);
+fn begin(rt: &impl Print, line: u64) -> Result<()> {
+    put(rt, b"{\"line\":")?;
+    put_number(rt, line)
 }
 
 // `,"count":"`.
-fn put_member(name: &[u8]) {
-    put(b",\"");
-    put(name);
-    put(b"\":\"");
+fn put_member(rt: &impl Print, name: &[u8]) -> Result<()> {
+    put(rt, b",\"")?;
+    put(rt, name)?;
+    put(rt, b"\":\"")
 }
 
 // `","of":"16"}`, to the end of the line.
-fn put_total(width: u64) {
-    put(b"\"");
-    put_member(b"of");
-    printing::put_words(width);
-    put(b"\"}\n");
+fn put_total(rt: &impl Print, width: u64) -> Result<()> {
+    put(rt, b"\"")?;
+    put_member(rt, b"of")?;
+    printing::put_words(rt, width)?;
+    put(rt, b"\"}\n")
 }
 
 fn tell_asked(
+    rt: &impl Print,
     sheet: Sheet,
     reply: Reply,
     names: &[[u8; MOST]; Rule::LIMIT],
     numbers: &[u64; Sheet::LENT],
-) {
+) -> Result<()> {
     let kept = reply.kept;
     if kept.verdict == 0 {
-        tell_chain(sheet, reply.links, names, numbers);
-        return;
+        return tell_chain(rt, sheet, reply.links, names, numbers);
     }
     if kept.verdict == 1 {
-        tell_one(kept.smallest, sheet.width);
-        return;
+        return tell_one(rt, kept.smallest, sheet.width);
     }
-    tell_many(sheet, reply);
+    tell_many(rt, sheet, reply)
 }
 
 // `,"ask":"many","count":"4","of":"16","smallest":"11","largest":"14"}`.
-fn tell_many(sheet: Sheet, reply: Reply) {
+fn tell_many(rt: &impl Print, sheet: Sheet, reply: Reply) -> Result<()> {
     let kept = reply.kept;
     let share = counting::count(sheet);
-    put(b",\"ask\":\"many\"");
-    put_member(b"count");
-    printing::put_count(share);
-    put(b"\"");
-    put_member(b"of");
-    printing::put_words(sheet.width);
-    put(b"\"");
-    put_member(b"smallest");
-    put_number(kept.smallest);
-    put(b"\"");
-    put_member(b"largest");
-    put_number(kept.largest);
-    put(b"\"}\n");
+    put(rt, b",\"ask\":\"many\"")?;
+    put_member(rt, b"count")?;
+    printing::put_count(rt, share)?;
+    put(rt, b"\"")?;
+    put_member(rt, b"of")?;
+    printing::put_words(rt, sheet.width)?;
+    put(rt, b"\"")?;
+    put_member(rt, b"smallest")?;
+    put_number(rt, kept.smallest)?;
+    put(rt, b"\"")?;
+    put_member(rt, b"largest")?;
+    put_number(rt, kept.largest)?;
+    put(rt, b"\"}\n")
 }
 
 // `,"ask":"one","word":"11","bits":"1011"}`.
-fn tell_one(x: u64, width: u64) {
-    put(b",\"ask\":\"one\"");
-    put_member(b"word");
-    put_number(x);
-    put(b"\"");
-    put_member(b"bits");
-    printing::put_bits(x, width);
-    put(b"\"}\n");
+fn tell_one(rt: &impl Print, x: u64, width: u64) -> Result<()> {
+    put(rt, b",\"ask\":\"one\"")?;
+    put_member(rt, b"word")?;
+    put_number(rt, x)?;
+    put(rt, b"\"")?;
+    put_member(rt, b"bits")?;
+    printing::put_bits(rt, x, width)?;
+    put(rt, b"\"}\n")
 }
 
 // `,"ask":"none","chain":[{"from":"0","to":"10","rule":0,"name":"late","text":"x + 5 <= 3"}]}`.
 fn tell_chain(
+    rt: &impl Print,
     sheet: Sheet,
     links: usize,
     names: &[[u8; MOST]; Rule::LIMIT],
     numbers: &[u64; Sheet::LENT],
-) {
-    put(b",\"ask\":\"none\",\"chain\":[");
+) -> Result<()> {
+    put(rt, b",\"ask\":\"none\",\"chain\":[")?;
     for i in 0..Link::MOST {
         if i < links {
-            put_comma(i);
-            put(b"{\"from\":\"");
-            put_number(numbers[Link::NUMBERS * i]);
-            put(b"\",\"to\":\"");
-            put_number(numbers[Link::NUMBERS * i + 1]);
-            put(b"\",");
-            put_reason(sheet, numbers[Link::NUMBERS * i + 2], names);
+            put_comma(rt, i)?;
+            put(rt, b"{\"from\":\"")?;
+            put_number(rt, numbers[Link::NUMBERS * i])?;
+            put(rt, b"\",\"to\":\"")?;
+            put_number(rt, numbers[Link::NUMBERS * i + 1])?;
+            put(rt, b"\",")?;
+            put_reason(rt, sheet, numbers[Link::NUMBERS * i + 2], names)?;
         }
     }
-    put(b"]}\n");
+    put(rt, b"]}\n")
 }
 
-fn put_reason(sheet: Sheet, reason: u64, names: &[[u8; MOST]; Rule::LIMIT]) {
+fn put_reason(
+    rt: &impl Print,
+    sheet: Sheet,
+    reason: u64,
+    names: &[[u8; MOST]; Rule::LIMIT],
+) -> Result<()> {
     if reason == Link::BITS {
-        put(b"\"rule\":\"bits\"}");
-        return;
+        return put(rt, b"\"rule\":\"bits\"}");
     }
-    put_rule(sheet, reason as usize, names);
+    put_rule(rt, sheet, reason as usize, names)
 }
 
 // `"rule":0,"name":"late","text":"x + 5 <= 3"}`.
-fn put_rule(sheet: Sheet, number: usize, names: &[[u8; MOST]; Rule::LIMIT]) {
-    put(b"\"rule\":");
-    put_number(number as u64);
+fn put_rule(
+    rt: &impl Print,
+    sheet: Sheet,
+    number: usize,
+    names: &[[u8; MOST]; Rule::LIMIT],
+) -> Result<()> {
+    put(rt, b"\"rule\":")?;
+    put_number(rt, number as u64)?;
     if printing::is_named(names, number) {
-        put_member(b"name");
-        printing::put_name(names, number);
-        put(b"\"");
+        put_member(rt, b"name")?;
+        printing::put_name(rt, names, number)?;
+        put(rt, b"\"")?;
     }
-    put_member(b"text");
-    put_text(sheet, number);
-    put(b"\"}");
+    put_member(rt, b"text")?;
+    put_text(rt, sheet, number)?;
+    put(rt, b"\"}")
 }
 
 // `,"list":["11","12"]`.
-fn tell_words(written: usize, words: &[u64; WORDS]) {
-    put(b",\"list\":[");
+fn tell_words(rt: &impl Print, written: usize, words: &[u64; WORDS]) -> Result<()> {
+    put(rt, b",\"list\":[")?;
     for i in 0..WORDS {
         if i < written {
-            put_comma(i);
-            put(b"\"");
-            put_number(words[i]);
-            put(b"\"");
+            put_comma(rt, i)?;
+            put(rt, b"\"")?;
+            put_number(rt, words[i])?;
+            put(rt, b"\"")?;
         }
     }
-    put(b"]");
+    put(rt, b"]")
 }
 
 // `,"next":"13"}` where the listing goes on there.
-fn tell_next(width: u64, statement: Statement, listing: Listing, words: &[u64; WORDS]) {
+fn tell_next(
+    rt: &impl Print,
+    width: u64,
+    statement: Statement,
+    listing: Listing,
+    words: &[u64; WORDS],
+) -> Result<()> {
     let last = words[WORDS - 1];
     if 0 < printing::left_out(width, statement, listing.written, last) {
-        put_member(b"next");
-        put_number(std::num::wrapping_add_u64(last, 1));
-        put(b"\"");
+        put_member(rt, b"next")?;
+        put_number(rt, std::num::wrapping_add_u64(last, 1))?;
+        put(rt, b"\"")?;
     }
-    put(b"}\n");
+    put(rt, b"}\n")
 }
 
 // `","fails":[{"rule":0,"name":"late","text":"x + 5 <= 3"}]}`.
 fn tell_failed(
+    rt: &impl Print,
     sheet: Sheet,
     failed: usize,
     names: &[[u8; MOST]; Rule::LIMIT],
     numbers: &[u64; Sheet::LENT],
-) {
-    put(b"\",\"fails\":[");
+) -> Result<()> {
+    put(rt, b"\",\"fails\":[")?;
     for i in 0..Rule::LIMIT {
         if i < failed {
-            put_comma(i);
-            put(b"{");
-            put_rule(sheet, numbers[i] as usize, names);
+            put_comma(rt, i)?;
+            put(rt, b"{")?;
+            put_rule(rt, sheet, numbers[i] as usize, names)?;
         }
     }
-    put(b"]}\n");
+    put(rt, b"]}\n")
 }
 
 // `,"show":{"width":16,"rules":[{"rule":0,"name":"late","text":"x + 5 <= 3"}],"marks":[1]}}`.
-fn tell_sheet(sheet: Sheet, names: &[[u8; MOST]; Rule::LIMIT]) {
-    put(b",\"show\":{\"width\":");
-    put_number(sheet.width);
-    put(b",\"rules\":[");
+fn tell_sheet(rt: &impl Print, sheet: Sheet, names: &[[u8; MOST]; Rule::LIMIT]) -> Result<()> {
+    put(rt, b",\"show\":{\"width\":")?;
+    put_number(rt, sheet.width)?;
+    put(rt, b",\"rules\":[")?;
     for i in 0..Rule::LIMIT {
         if i < sheet.count {
-            put_comma(i);
-            put(b"{");
-            put_rule(sheet, i, names);
+            put_comma(rt, i)?;
+            put(rt, b"{")?;
+            put_rule(rt, sheet, i, names)?;
         }
     }
-    put(b"],\"marks\":[");
-    put_marks(sheet);
-    put(b"]}}\n");
+    put(rt, b"],\"marks\":[")?;
+    put_marks(rt, sheet)?;
+    put(rt, b"]}}\n")
 }
 
 // For each mark, how many rules there were when it was set.
-fn put_marks(sheet: Sheet) {
+fn put_marks(rt: &impl Print, sheet: Sheet) -> Result<()> {
     let marks = sheet.marks;
     for i in 0..Sheet::MARKS {
         if i < sheet.marked {
-            put_comma(i);
-            put_number(marks[i] as u64);
+            put_comma(rt, i)?;
+            put_number(rt, marks[i] as u64)?;
         }
     }
+    Ok(())
 }
 
 // Between what is listed.
-fn put_comma(i: usize) {
+fn put_comma(rt: &impl Print, i: usize) -> Result<()> {
     if 0 < i {
-        put(b",");
+        put(rt, b",")?;
     }
+    Ok(())
 }

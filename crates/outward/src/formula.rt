@@ -5,128 +5,126 @@ ghost use Rattle.word.specs.Word.{IsWidth};
 use crate::out::{number, text};
 use rule::Rule;
 use sheet::Sheet;
+use std::io::Result;
 use word::Width;
 
 // Writes nothing for a width that no sheet has.
-pub fn smt(sheet: Sheet) {
+pub fn smt(rt: &impl Print, sheet: Sheet) -> Result<()> {
     let bits = sheet.width;
     if bits < 1 {
-        return;
+        return Ok(());
     }
     if Width::LIMIT < bits {
-        return;
+        return Ok(());
     }
-    text(b"(set-logic QF_BV)\n(declare-const x (_ BitVec ");
-    number(bits);
-    text(b"))\n");
+    text(rt, b"(set-logic QF_BV)\n(declare-const x (_ BitVec ")?;
+    number(rt, bits)?;
+    text(rt, b"))\n")?;
     let rules = sheet.rules;
     let count = sheet.count;
     for i in 0..Rule::LIMIT {
         if i < count {
-            assertion(rules[i], Width { bits });
+            assertion(rt, rules[i], Width { bits })?;
         }
     }
-    text(b"(check-sat)\n");
+    text(rt, b"(check-sat)\n")
 }
 
 // A rule as written, or negated.
-fn assertion(rule: Rule, width: Width)
+fn assertion(rt: &impl Print, rule: Rule, width: Width) -> Result<()>
     requires { IsWidth width.bits }
 {
     if rule.sense == 0 {
-        text(b"(assert ");
-        written(rule, width);
-        text(b")\n");
-        return;
+        text(rt, b"(assert ")?;
+        written(rt, rule, width)?;
+        return text(rt, b")\n");
     }
-    text(b"(assert (not ");
-    written(rule, width);
-    text(b"))\n");
+    text(rt, b"(assert (not ")?;
+    written(rt, rule, width)?;
+    text(rt, b"))\n")
 }
 
 // The paper's table of forms, a row each. A number that is no form forbids nothing.
-fn written(rule: Rule, width: Width)
+fn written(rt: &impl Print, rule: Rule, width: Width) -> Result<()>
     requires { IsWidth width.bits }
 {
     let form = rule.form;
     let bits = width.bits;
     match form {
-        1..=3 => ordered(rule, bits),
+        1..=3 => ordered(rt, rule, bits)?,
         4 => {
-            text(b"(bvsle x");
-            constant(rule.c1, bits);
+            text(rt, b"(bvsle x")?;
+            constant(rt, rule.c1, bits)?;
         }
         5 => {
-            text(b"(bvsle");
-            constant(rule.c1, bits);
-            text(b" x");
+            text(rt, b"(bvsle")?;
+            constant(rt, rule.c1, bits)?;
+            text(rt, b" x")?;
         }
         6 => {
-            text(b"(= x");
-            constant(rule.c1, bits);
+            text(rt, b"(= x")?;
+            constant(rt, rule.c1, bits)?;
         }
         7 => {
-            text(b"(= (bvand x");
-            constant(rule.c1, bits);
-            text(b")");
-            constant(rule.c2, bits);
+            text(rt, b"(= (bvand x")?;
+            constant(rt, rule.c1, bits)?;
+            text(rt, b")")?;
+            constant(rt, rule.c2, bits)?;
         }
-        8 => settled(rule, width),
-        _ => {
-            text(b"(= x x");
-        }
+        8 => settled(rt, rule, width)?,
+        _ => text(rt, b"(= x x")?,
     }
-    text(b")");
+    text(rt, b")")
 }
 
 // The rows of the plain order, forms 1, 2 and 3: both sides are sums, the second, or the first.
-fn ordered(rule: Rule, bits: u64) {
-    text(b"(bvule");
+fn ordered(rt: &impl Print, rule: Rule, bits: u64) -> Result<()> {
+    text(rt, b"(bvule")?;
     if rule.form == 2 {
-        constant(rule.c1, bits);
+        constant(rt, rule.c1, bits)?;
     } else {
-        sum(rule.c1, bits);
+        sum(rt, rule.c1, bits)?;
     }
     if rule.form == 3 {
-        constant(rule.c2, bits);
+        constant(rt, rule.c2, bits)
     } else {
-        sum(rule.c2, bits);
+        sum(rt, rule.c2, bits)
     }
 }
 
 // c2 <= x - c1 and x - c1 < half.
-fn settled(rule: Rule, width: Width)
+fn settled(rt: &impl Print, rule: Rule, width: Width) -> Result<()>
     requires { IsWidth width.bits }
 {
     let bits = width.bits;
-    text(b"(and (bvule");
-    constant(rule.c2, bits);
-    since(rule.c1, bits);
-    text(b") (bvult");
-    since(rule.c1, bits);
-    constant(width.half(), bits);
-    text(b")");
+    text(rt, b"(and (bvule")?;
+    constant(rt, rule.c2, bits)?;
+    since(rt, rule.c1, bits)?;
+    text(rt, b") (bvult")?;
+    since(rt, rule.c1, bits)?;
+    constant(rt, width.half(), bits)?;
+    text(rt, b")")
 }
 
 // x and a constant.
-fn sum(c: u64, bits: u64) {
-    text(b" (bvadd");
-    constant(c, bits);
-    text(b" x)");
+fn sum(rt: &impl Print, c: u64, bits: u64) -> Result<()> {
+    text(rt, b" (bvadd")?;
+    constant(rt, c, bits)?;
+    text(rt, b" x)")
 }
 
 // x less a constant.
-fn since(c: u64, bits: u64) {
-    text(b" (bvsub x");
-    constant(c, bits);
-    text(b")");
+fn since(rt: &impl Print, c: u64, bits: u64) -> Result<()> {
+    text(rt, b" (bvsub x")?;
+    constant(rt, c, bits)?;
+    text(rt, b")")
 }
 
 // A constant after a blank.
-fn constant(c: u64, bits: u64) {
-    text(b" (_ bv");
-    number(c);
-    text(b" ");
-    number(bits);
-    text(b")");
+fn constant(rt: &impl Print, c: u64, bits: u64) -> Result<()> {
+    text(rt, b" (_ bv")?;
+    number(rt, c)?;
+    text(rt, b" ")?;
+    number(rt, bits)?;
+    text(rt, b")")
 }

@@ -1,16 +1,20 @@
 // Text and numbers on standard output.
-use libc::STDOUT_FILENO;
+use std::io::Result;
 
-pub fn text(bytes: &[u8]) {
-    io::write_all(STDOUT_FILENO, bytes);
+pub fn text(rt: &impl Print, bytes: &[u8]) -> Result<()> {
+    rt.write_all(bytes)
 }
 
 // A number in decimal.
-pub fn number(n: u64) {
-    io::print_decimal(STDOUT_FILENO, n);
+pub fn number(rt: &impl Print, n: u64) -> Result<()> {
+    let mut written = [0; 20];
+    let end = io::decimal(n, &mut written);
+    text(rt, &written[..end])
 }
 
 // A number in hexadecimal, in so many digits.
-pub fn digits(n: u64, places: usize) {
-    io::print_hex(STDOUT_FILENO, n, places);
+pub fn digits(rt: &impl Print, n: u64, places: usize) -> Result<()> {
+    let mut written = [0; 16];
+    let end = io::hex(n, places, &mut written);
+    text(rt, &written[..end])
 }

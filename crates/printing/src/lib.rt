@@ -5,11 +5,11 @@ ghost use Rattle.std.specs.Prelude.{◌≤◌};
 ghost use Rattle.io.specs.Counts.{IsPrefixLen};
 
 use counting::Share;
-use libc::STDOUT_FILENO;
 use line::Statement;
 use naming::MOST;
 use rule::Rule;
 use sheet::Sheet;
+use std::io::Result;
 use upshot::Response;
 use word::Width;
 
@@ -69,83 +69,94 @@ pub fn is_named(names: &[[u8; MOST]; Rule::LIMIT], number: usize) -> bool {
 }
 
 // The name of a rule.
-pub fn put_name(names: &[[u8; MOST]; Rule::LIMIT], number: usize) {
+pub fn put_name(rt: &impl Print, names: &[[u8; MOST]; Rule::LIMIT], number: usize) -> Result<()> {
     if Rule::LIMIT <= number {
-        return;
+        return Ok(());
     }
     let row = names[number];
-    put_row(row);
+    put_row(rt, row)
 }
 
-fn put_row(row: [u8; MOST]) {
+fn put_row(rt: &impl Print, row: [u8; MOST]) -> Result<()> {
     let length = naming::length(&row);
     let n = within(length, &row);
-    put(&row[..n]);
+    put(rt, &row[..n])
 }
 
 // The text of a rule.
-pub fn put_text(sheet: Sheet, number: usize) {
+pub fn put_text(rt: &impl Print, sheet: Sheet, number: usize) -> Result<()> {
     let rules = sheet.rules;
     if Rule::LIMIT <= number {
-        return;
+        return Ok(());
     }
     if sheet.width < 1 {
-        return;
+        return Ok(());
     }
     if 64 < sheet.width {
-        return;
+        return Ok(());
     }
     let mut text = io::buffer();
     let end = wording::put_rule(&mut text, 0, rules[number], Width { bits: sheet.width });
     let n = within(end, &text);
-    put(&text[..n]);
+    put(rt, &text[..n])
 }
 
 // The bits of a word, the highest first.
-pub fn put_bits(x: u64, width: u64) {
+pub fn put_bits(rt: &impl Print, x: u64, width: u64) -> Result<()> {
     let mut left = width;
     while 0 < left {
         left -= 1;
-        put_bit(x, left);
+        put_bit(rt, x, left)?;
     }
+    Ok(())
 }
 
-fn put_bit(x: u64, place: u64) {
+fn put_bit(rt: &impl Print, x: u64, place: u64) -> Result<()> {
     if 63 < place {
-        return;
+        return Ok(());
     }
     if (x >> place) & 1 == 0 {
-        put(b"0");
-        return;
+        return put(rt, b"0");
     }
-    put(b"1");
+    put(rt, b"1")
 }
 
 // How many words fit: 2^64 is no number of 64 bits.
-pub fn put_count(share: Share) {
+pub fn put_count(rt: &impl Print, share: Share) -> Result<()> {
     if 0x1_0000_0000 <= share.quotient {
-        put(b"18446744073709551616");
-        return;
+        return put(rt, b"18446744073709551616");
     }
-    put_number(std::num::wrapping_add_u64(share.quotient * 0x1_0000_0000, share.remainder));
+    put_number(
+        rt,
+        std::num::wrapping_add_u64(share.quotient * 0x1_0000_0000, share.remainder),
+    )
 }
 
 // How many words there are.
-pub fn put_words(width: u64) {
+pub fn put_words(rt: &impl Print, width: u64) -> Result<()> {
     if 63 < width {
-        put(b"18446744073709551616");
-        return;
+        return put(rt, b"18446744073709551616");
     }
-    put_number(1 << width);
+    put_number(rt, 1 << width)
 }
 
 // A number in decimal.
-pub fn put_number(n: u64) {
-    io::print_decimal(STDOUT_FILENO, n);
+pub fn put_number(rt: &impl Print, n: u64) -> Result<()> {
+    let mut digits = [0; 20];
+    let end = io::decimal(n, &mut digits);
+    put(rt, &digits[..end])
 }
 
-pub fn put(text: &[u8]) {
-    io::write_all(STDOUT_FILENO, text);
+// A number in hexadecimal, with no zeros before it.
+pub fn put_hexadecimal(rt: &impl Print, n: u64) -> Result<()> {
+    let mut digits = [0; 16];
+    let end = io::hex(n, 1, &mut digits);
+    put(rt, &digits[..end])
+}
+
+// A text as it is. An error is that of a write.
+pub fn put(rt: &impl Print, text: &[u8]) -> Result<()> {
+    rt.write_all(text)
 }
 
 // So many bytes of a buffer, or none where it has fewer.

@@ -5,20 +5,21 @@
 use page::Opening;
 use rule::Rule;
 use sheet::Sheet;
+use std::io::Result;
 use word::Edition;
 
-fn main() {
-    tell(forms(4, 5, 3));
-    tell(forms(1, 1, 0));
-    tell(forms(64, 0xfedcba9876543210, 0x10));
-    tell(forms(33, 0x100000000, 0xffff));
-    outward::frames(Sheet::blank());
-    outward::smt(Sheet::blank());
+fn main(rt: HostRuntime) -> Result<()> {
+    tell(&rt, forms(4, 5, 3))?;
+    tell(&rt, forms(1, 1, 0))?;
+    tell(&rt, forms(64, 0xfedcba9876543210, 0x10))?;
+    tell(&rt, forms(33, 0x100000000, 0xffff))?;
+    outward::frames(&rt, Sheet::blank())?;
+    outward::smt(&rt, Sheet::blank())
 }
 
-fn tell(sheet: Sheet) {
-    outward::frames(sheet);
-    outward::smt(sheet);
+fn tell(rt: &impl Print, sheet: Sheet) -> Result<()> {
+    outward::frames(rt, sheet)?;
+    outward::smt(rt, sheet)
 }
 
 // A sheet of each form with these constants, as written and then negated. What is refused is left out.

@@ -3,12 +3,13 @@
 #![tactic(auto)]
 
 use column::COLUMNS;
-use libc::STDOUT_FILENO;
 use page::Opening;
 use rule::Rule;
 use shade::Cell;
 use sheet::Sheet;
 use word::Edition;
+
+const STDOUT: i32 = 1;
 
 // One column more than a picture has.
 const PAST: u64 = COLUMNS + 1;
@@ -34,7 +35,7 @@ fn main() {
 fn draw(sheet: Sheet) {
     rule_rows(sheet);
     all_row(sheet);
-    io::write_all(STDOUT_FILENO, b"-\n");
+    io::write_all(STDOUT, b"-\n");
 }
 
 fn rule_rows(sheet: Sheet) {
@@ -49,14 +50,14 @@ fn rule_row(sheet: Sheet, number: usize) {
     for column in 0..PAST {
         tell(rule_cells::rule_at(sheet, number, column));
     }
-    io::write_all(STDOUT_FILENO, b"\n");
+    io::write_all(STDOUT, b"\n");
 }
 
 fn all_row(sheet: Sheet) {
     for column in 0..PAST {
         tell(all_cells::all_at(sheet, column));
     }
-    io::write_all(STDOUT_FILENO, b"\n");
+    io::write_all(STDOUT, b"\n");
 }
 
 // Nothing past the last column.
@@ -71,7 +72,7 @@ fn tell(cell: Cell) {
 
 fn said(letter: u8) {
     let letters = [letter];
-    io::write_all(STDOUT_FILENO, &letters);
+    io::write_all(STDOUT, &letters);
 }
 
 fn opened(width: u64) -> Sheet {

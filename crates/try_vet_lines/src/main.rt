@@ -9,13 +9,14 @@ mod tell;
 
 ghost use Rattle.std.specs.Prelude.{◌≤◌, length};
 
-use libc::STDIN_FILENO;
 use tell::tell;
 use word::Width;
 
+const STDIN: i32 = 0;
+
 fn main() {
     let mut input = io::large_buffer();
-    let n = io::read_full(STDIN_FILENO, &mut input);
+    let n = io::read_full(STDIN, &mut input);
     over_lines(&input[..n]);
 }
 

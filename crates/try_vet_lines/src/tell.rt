@@ -1,9 +1,10 @@
 // What a statement is, in numbers.
 ghost use Rattle.word.specs.Word.{IsWidth};
 
-use libc::STDOUT_FILENO;
 use line::{Line, Statement};
 use scan::Amount;
+
+const STDOUT: i32 = 1;
 
 // Prints the statement and where its name stands, and gives the width after it.
 pub fn tell(read: Line, width: u64) -> u64
@@ -16,7 +17,7 @@ pub fn tell(read: Line, width: u64) -> u64
     print(statement);
     number(name.from as u64);
     number(name.to as u64);
-    io::write_all(STDOUT_FILENO, b"\n");
+    io::write_all(STDOUT, b"\n");
     after
 }
 
@@ -100,6 +101,6 @@ fn amount(a: Amount) {
 }
 
 fn number(n: u64) {
-    io::print_decimal(STDOUT_FILENO, n);
-    io::write_all(STDOUT_FILENO, b" ");
+    io::print_decimal(STDOUT, n);
+    io::write_all(STDOUT, b" ");
 }

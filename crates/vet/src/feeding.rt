@@ -3,12 +3,14 @@ ghost use Rattle.std.specs.Prelude.{◌<◌, ◌≤◌, length};
 
 use crate::manner;
 use crate::manner::Manner;
+use coming::{Answer, EINTR, EPIPE};
 use dialogue::Dialogue;
-use libc::STDIN_FILENO;
 use naming::MOST;
 use printing::{Told, WORDS, up_to, within};
 use rule::Rule;
 use sheet::Sheet;
+use std::io::{Read, Result};
+use std::rt::Files;
 
 // What is written; the dialogue; what is held of a line, one byte more than a line may have, so that memory does not grow with a line; the number of lines; the status
 // so far; and whether more is read.
@@ -68,84 +70,75 @@ pub fn left(turns: u64, more: bool) -> u64
 }
 
 // One read, and the lines that it completes. At the end of the input the last line may lack its byte 10.
-pub fn turn(run: Run, names: &mut [[u8; MOST]; Rule::LIMIT]) -> Run {
+pub fn turn(rt: &HostRuntime, run: Run, names: &mut [[u8; MOST]; Rule::LIMIT]) -> Run {
     let mut input = io::large_buffer();
-    let got = libc::read(STDIN_FILENO, &mut input);
-    let error = os::errno();
-    let n = io::count(got, &input);
-    if got < 0 {
-        return unread(run, error);
+    let read = Answer::of(rt.stdin().read(&mut input));
+    let n = io::count(read.got, &input);
+    if read.got < 0 {
+        return unread(run, read.error);
     }
     if n == 0 {
-        return last_line(run, &mut *names);
+        return last_line(rt, run, &mut *names);
     }
-    over_part(run, &mut *names, &input[..n])
+    over_part(rt, run, &mut *names, &input[..n])
 }
 
 // A read was interrupted, and is tried again, or failed.
 fn unread(run: Run, error: i32) -> Run {
     let mut run = run;
-    if error == libc::EINTR {
+    if error == EINTR {
         return run;
     }
-    os::fail(b"vet: standard input");
+    coming::fail(b"vet: standard input", error);
     run.status = Run::FAILED;
     run.more = false;
     run
 }
 
 // At the end of the input a chain is checked, or the rules in force are written, where they are wanted and no mistake came.
-pub fn finish(run: Run, names: &[[u8; MOST]; Rule::LIMIT]) -> Run {
+pub fn finish(rt: &(impl Files + Print), run: Run, names: &[[u8; MOST]; Rule::LIMIT]) -> Run {
     let manner = run.manner;
     let dialogue = run.dialogue;
     if let Manner::Check = manner {
-        return check(run, names);
+        return check(rt, run, names);
     }
     if run.status != 0 {
         return run;
     }
-    manner::write_out(manner, dialogue.sheet);
-    written(run, os::errno())
+    written(run, manner::write_out(rt, manner, dialogue.sheet))
 }
 
 // What is found of a chain is the status. What failed is neither yes nor no.
-fn check(run: Run, names: &[[u8; MOST]; Rule::LIMIT]) -> Run {
+fn check(rt: &(impl Files + Print), run: Run, names: &[[u8; MOST]; Rule::LIMIT]) -> Run {
     let mut run = run;
     let dialogue = run.dialogue;
     if run.status != 0 {
         run.status = Run::MISTAKE;
         return run;
     }
-    run.status = checking::check(dialogue.sheet, names);
-    if run.status == Run::MISTAKE {
-        return run;
-    }
-    if failed_write(os::errno()) {
-        os::fail(b"vet: standard output");
-        run.status = Run::MISTAKE;
-    }
+    run.status = checking::check(rt, dialogue.sheet, names);
     run
 }
 
 // The last line, where one was begun.
-fn last_line(run: Run, names: &mut [[u8; MOST]; Rule::LIMIT]) -> Run {
+fn last_line(rt: &impl Print, run: Run, names: &mut [[u8; MOST]; Rule::LIMIT]) -> Run {
     let mut after = run;
     if 0 < run.len {
-        after = end_line(run, &mut *names);
+        after = end_line(rt, run, &mut *names);
     }
     after.more = false;
     after
 }
 
 // The lines of a part.
-fn over_part(run: Run, names: &mut [[u8; MOST]; Rule::LIMIT], part: &[u8]) -> Run {
+fn over_part(rt: &impl Print, run: Run, names: &mut [[u8; MOST]; Rule::LIMIT], part: &[u8]) -> Run {
     let mut run = run;
     let mut from: usize = 0;
     while from < part.len() {
         let to = line_end(part, from);
         run = hold(run, &part[from..to]);
         if to < part.len() {
-            run = end_line(run, &mut *names);
+            run = end_line(rt, run, &mut *names);
         }
         from = to + 1;
     }
@@ -186,7 +179,7 @@ fn hold(run: Run, part: &[u8]) -> Run {
 }
 
 // The line that is held is whole. After a mistake none is taken.
-fn end_line(run: Run, names: &mut [[u8; MOST]; Rule::LIMIT]) -> Run {
+fn end_line(rt: &impl Print, run: Run, names: &mut [[u8; MOST]; Rule::LIMIT]) -> Run {
     let mut run = run;
     let bytes = run.bytes;
     let len = run.len;
@@ -196,44 +189,29 @@ fn end_line(run: Run, names: &mut [[u8; MOST]; Rule::LIMIT]) -> Run {
         return run;
     }
     let n = within(len, &bytes);
-    let after = take_line(run, &mut *names, &bytes[..n]);
-    written(after, os::errno())
+    take_line(rt, run, &mut *names, &bytes[..n])
 }
 
-// Ends the run where an answer could not be written: what errno then has stays, since calls that succeed leave it. Nobody taking the answers any
-// more is no failure.
-fn written(run: Run, error: i32) -> Run {
-    let mut run = run;
-    if !failed_write(error) {
+// Ends the run where an answer could not be written. Nobody taking the answers any more is no failure.
+fn written(run: Run, answered: Result<()>) -> Run {
+    let Err(failure) = answered else {
         return run;
-    }
+    };
+    let mut run = run;
+    let error = Answer::of(Err(failure)).error;
     run.more = false;
-    if error == libc::EPIPE {
+    if error == EPIPE {
         return run;
     }
     if run.status == 0 {
-        os::fail(b"vet: standard output");
+        coming::fail(b"vet: standard output", error);
         run.status = Run::FAILED;
     }
     run
 }
 
-// Whether a write failed: beside writes, only a missing or a long argument and an interrupted read leave a number.
-fn failed_write(error: i32) -> bool {
-    if error == 0 {
-        return false;
-    }
-    if error == libc::EINVAL {
-        return false;
-    }
-    if error == libc::ENAMETOOLONG {
-        return false;
-    }
-    error != libc::EINTR
-}
-
 // Takes a line, without its byte 10, and answers it. The name of an accepted rule is kept at the number that the rule gets.
-fn take_line(run: Run, names: &mut [[u8; MOST]; Rule::LIMIT], text: &[u8]) -> Run {
+fn take_line(rt: &impl Print, run: Run, names: &mut [[u8; MOST]; Rule::LIMIT], text: &[u8]) -> Run {
     let mut run = run;
     let manner = run.manner;
     let dialogue = run.dialogue;
@@ -260,10 +238,10 @@ fn take_line(run: Run, names: &mut [[u8; MOST]; Rule::LIMIT], text: &[u8]) -> Ru
         response,
         sheet,
     };
-    manner::answer(manner, told, &*names, &numbers, &words);
+    let answered = manner::answer(rt, manner, told, &*names, &numbers, &words);
     if mistakes::say(told, text) {
         run.status = Run::MISTAKE;
         run.more = false;
     }
-    run
+    written(run, answered)
 }

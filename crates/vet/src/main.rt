@@ -16,15 +16,15 @@ use rule::Rule;
 // Where the status goes.
 const STATUS: i32 = 3;
 
-fn main() {
-    let mut run = Run::start(manner::wanted());
+fn main(rt: HostRuntime) {
+    let mut run = Run::start(manner::wanted(&rt));
     let mut names = [[0; MOST]; Rule::LIMIT];
     let mut turns: u64 = u64::MAX;
     while 0 < turns {
-        run = feeding::turn(run, &mut names);
+        run = feeding::turn(&rt, run, &mut names);
         turns = feeding::left(turns, run.more);
     }
-    let last = feeding::finish(run, &names);
+    let last = feeding::finish(&rt, run, &names);
     let status = [feeding::digit(last.status)];
     io::write_all(STATUS, &status);
 }

@@ -4,6 +4,8 @@ use naming::MOST;
 use printing::{Told, WORDS};
 use rule::Rule;
 use sheet::Sheet;
+use std::io::Result;
+use std::rt::Env;
 
 #[derive(Clone, Copy)]
 pub enum Manner {
@@ -17,9 +19,11 @@ pub enum Manner {
 // As many letters as the longest argument has: a longer one is none of them.
 const LETTERS: usize = 6;
 
-pub fn wanted() -> Manner {
+pub fn wanted(rt: &impl Env) -> Manner {
     let mut text = [0u8; LETTERS];
-    let n = os::arg(1, &mut text);
+    let Ok(n) = rt.arg(1, &mut text) else {
+        return Manner::Words;
+    };
     if same(&text[..n], b"json") {
         return Manner::Objects;
     }
@@ -52,27 +56,28 @@ fn same(text: &[u8], name: &[u8]) -> bool {
 
 // Answers a line, where lines are answered.
 pub fn answer(
+    rt: &impl Print,
     manner: Manner,
     told: Told,
     names: &[[u8; MOST]; Rule::LIMIT],
     numbers: &[u64; Sheet::LENT],
     words: &[u64; WORDS],
-) {
+) -> Result<()> {
     match manner {
-        Manner::Words => telling::tell(told, names, numbers, words),
-        Manner::Objects => objects::tell(told, names, numbers, words),
-        _ => {}
+        Manner::Words => telling::tell(rt, told, names, numbers, words),
+        Manner::Objects => objects::tell(rt, told, names, numbers, words),
+        _ => Ok(()),
     }
 }
 
 // Writes the rules in force, where they are wanted and a sheet is open.
-pub fn write_out(manner: Manner, sheet: Sheet) {
+pub fn write_out(rt: &impl Print, manner: Manner, sheet: Sheet) -> Result<()> {
     if sheet.width == 0 {
-        return;
+        return Ok(());
     }
     match manner {
-        Manner::Smt => outward::smt(sheet),
-        Manner::Frames => outward::frames(sheet),
-        _ => {}
+        Manner::Smt => outward::smt(rt, sheet),
+        Manner::Frames => outward::frames(rt, sheet),
+        _ => Ok(()),
     }
 }

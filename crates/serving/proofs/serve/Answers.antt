@@ -45,14 +45,13 @@ loop-at-smaller g c =
     omega (arith, c.loop-at-test.true, fits g (goal.at.loop-at-smaller g c).After-feed-fed, feeds_some c.feed-fed.ensures.fed_on.so.feeds (omega (arith, c.loop-at.invariant.1, c.requires.chain_len.1)) (omega (arith, c.loop-at-test.true, rest)))
 
 pub loop-at-preserved : goal.loop-at-preserved
-loop-at-preserved g c =
-    (
-      fits g (goal.at.loop-at-preserved g c).After-feed-fed,
-      c.feed-fed.auto.out ∙ c.loop-at.invariant.1,
-      c.feed-fed.ensures.chain_len_2,
-      c.feed-fed.ensures.fed_on.held,
-      passed_on c.args.part.now c.loop-at.at c.loop-at.invariant.4 c.feed-fed.ensures.fed_on.so.feeds,
-    )
+loop-at-preserved g c = (
+  fits g (goal.at.loop-at-preserved g c).After-feed-fed,
+  c.feed-fed.auto.out ∙ c.loop-at.invariant.1,
+  c.feed-fed.ensures.chain_len_2,
+  c.feed-fed.ensures.fed_on.held,
+  passed_on c.args.part.now c.loop-at.at c.loop-at.invariant.4 c.feed-fed.ensures.fed_on.so.feeds,
+)
 
 pub shape_of-out : goal.shape_of-out
 shape_of-out g c = c.loop-at.invariant.1

@@ -1,0 +1,10 @@
+-- `editions` is safe and ends: the measure is the widths left. Assumes nothing.
+use Prim.Native.Nat.{◌-◌}
+use Rattle.line_width.specs.Width.{WIDEST}
+use Rattle.try_batch.proofs.editions.Given as goal
+
+abbrev pub invariant-loop-below : goal.invariant-loop-below
+invariant-loop-below l = Unit
+
+abbrev pub decreases-loop-below : goal.decreases-loop-below
+decreases-loop-below l = WIDEST - l.below

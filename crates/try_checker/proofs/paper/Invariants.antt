@@ -1,0 +1,10 @@
+-- `paper` is safe and ends: the measure is the rows left. Assumes nothing.
+use Rattle.std.proofs.Common.{◌-◌}
+use Rattle.trial_direct.specs.Trial.{ROWS}
+use Rattle.try_checker.proofs.paper.Given as goal
+
+abbrev pub invariant-loop-i : goal.invariant-loop-i
+invariant-loop-i l = Unit
+
+abbrev pub decreases-loop-i : goal.decreases-loop-i
+decreases-loop-i l = ROWS - l.i

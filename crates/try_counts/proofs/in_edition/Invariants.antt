@@ -1,0 +1,10 @@
+-- `in_edition` is safe and ends: the measure is what is left. Assumes nothing.
+use Rattle.std.proofs.Common.{◌+◌, ◌-◌}
+use Rattle.trial_counts.proofs.Counts.{SIZES}
+use Rattle.try_counts.proofs.in_edition.Given as goal
+
+abbrev pub invariant-loop-i : goal.invariant-loop-i
+invariant-loop-i l = Unit
+
+abbrev pub decreases-loop-i : goal.decreases-loop-i
+decreases-loop-i l = SIZES + 1 - l.i

@@ -1,0 +1,10 @@
+-- `walked` is safe and ends: the measure is what is left. Assumes nothing.
+use Rattle.std.proofs.Common.{◌-◌}
+use Rattle.trial_counts.proofs.Counts.{WORDS}
+use Rattle.try_counts.proofs.walked.Given as goal
+
+abbrev pub invariant-loop-i : goal.invariant-loop-i
+invariant-loop-i l = Unit
+
+abbrev pub decreases-loop-i : goal.decreases-loop-i
+decreases-loop-i l = WORDS - l.i

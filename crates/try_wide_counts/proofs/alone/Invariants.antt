@@ -1,0 +1,10 @@
+-- `alone` is safe and ends: the measure is what is left. Assumes nothing.
+use Rattle.std.proofs.Common.{◌-◌}
+use Rattle.trial_wide.proofs.Counts.{CORNERS}
+use Rattle.try_wide_counts.proofs.alone.Given as goal
+
+abbrev pub invariant-loop-i : goal.invariant-loop-i
+invariant-loop-i l = Unit
+
+abbrev pub decreases-loop-i : goal.decreases-loop-i
+decreases-loop-i l = CORNERS - l.i
