@@ -25,6 +25,7 @@ fn has_name(row: &[u8; MOST], name: &[u8]) -> bool
 }
 
 // The number of the first rule in force that has a name.
+#[tactic(auto, using(crate::proofs::SearchNumberOf::wanted), unfolding(crate::specs::Which::number_of))]
 pub fn number_of(names: &[[u8; MOST]; Rule::LIMIT], count: usize, name: &[u8]) -> Found
     ensures { result ≡ number_of names.now count name.now }
 {

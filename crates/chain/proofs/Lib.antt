@@ -1,3 +1,4 @@
+pub mod SearchFarFurther
 pub mod Alike
 pub mod Apart
 pub mod Bound

@@ -16,6 +16,7 @@ pub enum Far {
 
 impl Far {
     // This, or a rule that reaches further.
+    #[tactic(auto, using(crate::proofs::SearchFarFurther::wanted), unfolding(crate::specs::Links::further))]
     pub fn further(self, reach: u64, rule: u64) -> Far
         ensures { result ≡ further self reach rule }
     {

@@ -1,2 +1,4 @@
+pub mod SearchCameGoesOn
+pub mod SearchOutputSend
 pub mod Coming
 pub mod Rest

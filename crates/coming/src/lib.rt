@@ -48,6 +48,7 @@ impl Came {
     }
 
     // Whether another call follows, after so many. It stops at a number that no run uses up, since a loop has to end.
+    #[tactic(auto, using(crate::proofs::SearchCameGoesOn::wanted))]
     pub fn goes_on(self, more: bool, calls: u64) -> bool
         ensures { result ≡ goes_on self more calls }
     {

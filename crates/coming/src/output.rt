@@ -13,6 +13,7 @@ pub struct Sent {
 }
 
 // Writes the bytes, each write from where the last one stopped.
+#[tactic(auto, using(crate::proofs::SearchOutputSend::wanted))]
 pub fn send(rt: &impl Print, bytes: &[u8]) -> Sent
     ensures { Sends bytes.now result }
 {

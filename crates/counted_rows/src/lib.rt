@@ -14,6 +14,7 @@ use rule::Rule;
 use tally::Total;
 
 // The words that pass what is in force; `number` is that of a refusal, or 0.
+#[tactic(auto)]
 pub fn total(number: u64, rows: &[[u64; rows::NUMBERS]; Rule::LIMIT], force: InForce) -> Total
     requires width { number ≡ 0 → IsWidth force.width.bits }
     requires lie { number ≡ 0 → Lie (top force.width.bits) force.count (bands_in rows.now) }

@@ -1,3 +1,4 @@
+pub mod SearchBetter
 pub mod Best
 pub mod Starts
 pub mod Walk

@@ -59,6 +59,7 @@ pub fn furthest(
 }
 
 // The further of two reaches, the one with the lower number on a tie: by the order numbers do not rise.
+#[tactic(auto, using(crate::proofs::SearchBetter::wanted), unfolding(crate::specs::route::Due::better))]
 fn better(far: Far, reach: u64, rule: u64) -> Far
     ensures { result ≡ better far reach rule }
 {

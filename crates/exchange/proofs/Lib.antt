@@ -1,3 +1,5 @@
+pub mod SearchBegunFrame
+pub mod SearchBegunWith
 pub mod Before
 pub mod Cut
 pub mod Finishing

@@ -18,6 +18,7 @@ impl Begun {
     }
 
     // With more of the line. Bytes past those that are held change nothing.
+    #[tactic(auto, using(crate::proofs::SearchBegunWith::wanted), unfolding(crate::specs::route::Begun::joined))]
     pub fn with(self, more: &[u8]) -> Begun
         ensures { result ≡ joined self more.now }
     {
@@ -34,6 +35,7 @@ impl Begun {
     }
 
     // The frame that the line is, where it ends with these bytes. A line that lies whole in them is read there.
+    #[tactic(auto, using(crate::proofs::SearchBegunFrame::wanted))]
     pub fn frame(self, more: &[u8]) -> Frame
         ensures { result ≡ frame_of (begun_line (joined self more.now)) }
     {

@@ -1,3 +1,5 @@
+pub mod SearchReadingCodeAlone
+pub mod SearchReadingBare
 mod Alone
 pub mod Editions
 pub mod Fit

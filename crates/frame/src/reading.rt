@@ -27,6 +27,7 @@ pub fn decode(line: &[u8]) -> Frame
 }
 
 // The frame of a line that has room for a code alone: most lines, so these are told by their two bytes, without reading a number.
+#[tactic(auto, using(crate::proofs::SearchReadingCodeAlone::wanted))]
 fn code_alone(line: &[u8]) -> Frame
     requires { length line.now ≡ BYTE }
     ensures { result ≡ frame_of line.now }
@@ -46,6 +47,7 @@ fn code_alone(line: &[u8]) -> Frame
 }
 
 // The frames that are a code and nothing more.
+#[tactic(auto, using(crate::proofs::SearchReadingBare::wanted), unfolding(crate::specs::route::Reading::bare))]
 fn bare(code: u64) -> Frame
     ensures { result ≡ bare code }
 {

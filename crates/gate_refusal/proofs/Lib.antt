@@ -1,1 +1,2 @@
+pub mod SearchRefusalOf
 pub mod Seen

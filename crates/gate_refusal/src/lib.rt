@@ -11,6 +11,7 @@ use sheet::Sheet;
 const ROOM: usize = Rule::LIMIT - Gate::RULES;
 
 // The number, or 0; `none` says that a limit is not a number.
+#[tactic(auto, using(crate::proofs::SearchRefusalOf::wanted), unfolding(crate::specs::route::Seen::SeenFor))]
 pub fn refusal_of(sheet: Sheet, none: bool) -> u64
     ensures { SeenFor sheet none result }
 {

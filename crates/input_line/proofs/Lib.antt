@@ -1,2 +1,3 @@
+pub mod SearchEndNear
 mod Eight
 pub mod Lines

@@ -1,1 +1,2 @@
+pub mod SearchIntervalWithin
 pub mod Intervals

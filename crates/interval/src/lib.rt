@@ -23,6 +23,7 @@ pub struct Interval {
 
 impl Op {
     // The second argument: a NOT has none, and one word stands in its place.
+    #[tactic(auto, unfolding(crate::specs::Op::second))]
     pub fn second(self, y: Interval) -> Interval
         ensures { result ≡ second self y }
     {
@@ -35,6 +36,7 @@ impl Op {
     }
 
     // How many arguments the inverse operation cuts, x first.
+    #[tactic(auto, unfolding(crate::specs::Op::inverted))]
     pub fn inverted(self) -> u64
         ensures { result ≡ inverted self }
     {
@@ -66,6 +68,7 @@ impl Interval {
     }
 
     // Whether neither end is above the top word.
+    #[tactic(auto, using(crate::proofs::SearchIntervalWithin::wanted), unfolding(crate::specs::Interval::within))]
     pub fn within(self, top: u64) -> bool
         ensures { result ≡ within top self }
     {

@@ -39,6 +39,7 @@ pub fn read(numbers: [u64; NUMBERS]) -> Sheet
 }
 
 // Writes the sheet of an answer down where the call was accepted, and answers its number.
+#[tactic(auto, using(crate::proofs::SearchKeep::wanted))]
 pub fn keep(numbers: &mut [u64; NUMBERS], answer: Answer) -> u64
     ensures value { result ≡ answer.number }
     ensures numbers_after { numbers.new ≡ cond (eqb answer.number 0) (numbers_of answer.sheet) numbers.old }

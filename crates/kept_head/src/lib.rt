@@ -11,6 +11,7 @@ use sheet::Sheet;
 use word::Edition;
 
 // The width and the edition. Where the edition's number is none, the width is 0: a record of the new edition without a width is no sheet.
+#[tactic(auto, using(crate::proofs::SearchOpeningIn::wanted))]
 pub fn opening_in(width: u64, edition: u64) -> Opening
     ensures { result ≡ opening_in width edition }
 {

@@ -9,6 +9,7 @@ use rule::Rule;
 use word::Width;
 
 // Whether none of the first n rules would be refused.
+#[tactic(auto, using(crate::proofs::SearchTestingAllAcceptable::wanted), unfolding(rule::specs::accept::Accept::acceptable, rule::specs::accept::Accept::every))]
 pub fn all_acceptable(rows: &[[u64; rows::NUMBERS]; Rule::LIMIT], n: usize, width: Width) -> bool
     requires width { IsWidth width.bits }
     requires n_bound { (n ≤ RULES) × (length rows.now ≡ RULES) }
@@ -23,6 +24,7 @@ pub fn all_acceptable(rows: &[[u64; rows::NUMBERS]; Rule::LIMIT], n: usize, widt
 }
 
 // Whether there is no rule from place n on.
+#[tactic(auto, using(crate::proofs::SearchTestingNoneFrom::wanted), unfolding(rule::specs::accept::Accept::every))]
 pub fn none_from(rows: &[[u64; rows::NUMBERS]; Rule::LIMIT], n: usize) -> bool
     requires { (n ≤ RULES) × (length rows.now ≡ RULES) }
     ensures { result ≡ every is_no_rule (drop n (rules_in rows.now)) }

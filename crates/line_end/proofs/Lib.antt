@@ -1,1 +1,3 @@
+pub mod SearchPast
+pub mod SearchEndOf
 pub mod Ends

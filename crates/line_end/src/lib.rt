@@ -7,6 +7,7 @@ ghost use Rattle.line_end.specs.route.Course.{past};
 
 use token::Token;
 
+#[tactic(auto, using(crate::proofs::SearchEndOf::wanted), unfolding(crate::specs::route::Course::end_from))]
 pub fn end_of(line: &[u8]) -> usize
     ensures { result ≡ end_of line.now }
 {
@@ -24,6 +25,7 @@ pub fn end_of(line: &[u8]) -> usize
 }
 
 // The end after a letter of a class that ends before a place: blanks leave it as it is.
+#[tactic(auto, using(crate::proofs::SearchPast::wanted), unfolding(crate::specs::route::Course::past))]
 fn past(class: u64, to: usize, end: usize) -> usize
     ensures { result ≡ past class to end }
 {

@@ -8,6 +8,7 @@ ghost use Rattle.line_width.specs.Width.{reading_at};
 use word::Width;
 
 // That of the open sheet; the widest where none is open.
+#[tactic(auto, using(crate::proofs::SearchWidthOf::wanted), unfolding(crate::specs::Width::reading_at))]
 pub fn width_of(width: u64) -> Width
     ensures { (result.bits ≡ reading_at width) × IsWidth result.bits }
 {

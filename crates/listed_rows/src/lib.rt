@@ -12,6 +12,7 @@ use rows::InForce;
 use rule::Rule;
 
 // The words from a start on, as many as the buffer holds, and how many; `number` is that of a refusal, or 0.
+#[tactic(auto)]
 pub fn fill(
     number: u64,
     rows: &[[u64; rows::NUMBERS]; Rule::LIMIT],

@@ -21,6 +21,7 @@ pub fn keep(names: &mut [[u8; MOST]; Rule::LIMIT], statement: Statement, count: 
 }
 
 // How many rules an accepted statement adds.
+#[tactic(auto, using(crate::proofs::SearchNewRules::wanted), unfolding(crate::specs::Names::new_rules))]
 fn new_rules(statement: Statement) -> usize
     ensures { result ≡ new_rules statement }
 {

@@ -1,3 +1,5 @@
+pub mod SearchInARow
+pub mod SearchNetRefusal
 pub mod Accepted
 pub mod Alike
 pub mod Cuts

@@ -105,6 +105,7 @@ fn given(ended: Ended, steps: u64, words: [Interval; Net::WORDS]) -> Answer
 }
 
 // How many steps in a row changed nothing, after one more.
+#[tactic(auto, using(crate::proofs::SearchInARow::wanted))]
 fn in_a_row(before: usize, quiet: bool) -> usize
     requires { before < JOINS }
     ensures { result ≡ cond quiet (suc before) 0 }

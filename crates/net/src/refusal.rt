@@ -9,6 +9,7 @@ use word::Width;
 
 impl Net {
     // The number of the refusal, or 0.
+    #[tactic(auto, using(crate::proofs::SearchNetRefusal::wanted), unfolding(crate::specs::Net::refusal))]
     pub fn refusal(self) -> u64
         ensures { result ≡ refusal self }
     {

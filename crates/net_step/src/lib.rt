@@ -108,6 +108,7 @@ fn unmoved(h: bool, x: bool, y: bool) -> bool
 
 impl Join {
     // The place of y. A NOT has none, and its x stands there.
+    #[tactic(auto, unfolding(crate::specs::Named::place_of, crate::specs::Named::third))]
     pub fn third(self) -> usize
         ensures { result ≡ third self }
     {

@@ -1,1 +1,2 @@
+pub mod SearchFits
 pub mod Every

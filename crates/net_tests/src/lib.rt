@@ -13,6 +13,7 @@ use span::Interval;
 pub const JOINS: usize = 32;
 
 // Whether there are places for all words and joins, and words for all joins.
+#[tactic(auto, using(crate::proofs::SearchFits::wanted), unfolding(crate::specs::Fits::fits))]
 pub fn fits(count: usize, joins: [Join; JOINS], joined: usize) -> bool
     ensures { result ≡ fits count joins joined }
 {

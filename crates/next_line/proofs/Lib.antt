@@ -1,1 +1,2 @@
+pub mod SearchTake
 pub mod Told

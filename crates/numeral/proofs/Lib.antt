@@ -1,2 +1,3 @@
+pub mod SearchNumeralDigit
 pub mod Fit
 pub mod Quotients

@@ -139,6 +139,7 @@ impl Numeral {
     }
 
     // A digit more, where the base has it and the number stays within 64 bits.
+    #[tactic(auto, using(crate::proofs::SearchNumeralDigit::wanted), unfolding(crate::specs::Numeral::digit))]
     fn digit(self, d: u64) -> Numeral
         ensures { result ≡ digit self d }
     {

@@ -56,6 +56,7 @@ fn refusal_of(ended: Ended) -> u64
     }
 }
 
+#[tactic(auto, unfolding(crate::specs::Nets::told))]
 fn told(ended: Ended) -> u64
     ensures { result ≡ told ended }
 {

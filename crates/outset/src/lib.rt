@@ -9,6 +9,7 @@ use chain::Link;
 use finding::Finding;
 
 // Whether the record is a sheet, whether it is blank, and how many numbers the list has: yes where links are to be looked at.
+#[tactic(auto, using(crate::proofs::SearchFound::wanted), unfolding(finding::specs::Clauses::first_broken, crate::specs::route::Outset::outset_clauses))]
 pub fn found(stands: bool, blank: bool, numbers: usize) -> Finding
     ensures { result ≡ first_broken (outset_clauses stands blank numbers) }
 {

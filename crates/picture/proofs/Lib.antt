@@ -1,1 +1,2 @@
+pub mod SearchWordsOf
 pub mod Drawn

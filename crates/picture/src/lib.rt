@@ -22,6 +22,7 @@ pub enum Shown {
 }
 
 // A column's words, where there is a sheet that is not blank and such a column.
+#[tactic(auto, using(crate::proofs::SearchWordsOf::wanted), unfolding(crate::specs::route::Shown::shown))]
 pub fn words_of(stands: bool, bits: u64, column: u64) -> Shown
     requires { stands ≡ true → (bits ≡ 0 → ⊥) → IsWidth bits }
     ensures { result ≡ shown stands bits column }

@@ -1,1 +1,3 @@
+pub mod SearchSignedWord
+pub mod SearchRuleAt
 pub mod Meaning

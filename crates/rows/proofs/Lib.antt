@@ -1,3 +1,8 @@
+pub mod SearchBandBandWritten
+pub mod SearchBandBandHolds
+pub mod SearchFailsAt
+pub mod SearchBandAt
+pub mod SearchBandBandSeamless
 pub mod Copies
 pub mod Drawn
 pub mod Failing

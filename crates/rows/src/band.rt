@@ -36,6 +36,7 @@ impl Band {
     }
 
     // Whether the word x is on the side that does not fail.
+    #[tactic(auto, using(crate::proofs::SearchBandBandHolds::wanted))]
     pub fn holds(self, x: u64) -> bool
         ensures { result ≡ holds self x }
     {
@@ -67,6 +68,7 @@ impl Band {
     }
 
     // The band of the rule as written.
+    #[tactic(auto, using(crate::proofs::SearchBandBandWritten::wanted), unfolding(crate::specs::band::route::Band::written_bands))]
     fn written(rule: Rule, width: Width) -> Band
         requires { IsWidth width.bits }
         ensures { result ≡ written_band width.bits rule }
@@ -120,6 +122,7 @@ impl Band {
     }
 
     // A whole wheel is written from 0 to the top word, so that a run never stops at a seam.
+    #[tactic(auto, using(crate::proofs::SearchBandBandSeamless::wanted))]
     fn seamless(self, width: Width) -> Band
         requires { IsWidth width.bits }
         ensures { result ≡ seamless width.bits self }

@@ -7,6 +7,7 @@ use crate::Rule;
 use word::Width;
 
 // The number with which a rule is refused at a width, or 0: 3 before 4, and 4 before 5.
+#[tactic(auto, unfolding(crate::specs::accept::Grounds::first_that_applies, crate::specs::accept::Accept::refusal_of, crate::specs::accept::Accept::rule_grounds))]
 pub fn refusal_of(rule: Rule, width: Width) -> u64
     requires { IsWidth width.bits }
     ensures { result ≡ refusal_of width.bits rule }
@@ -80,6 +81,7 @@ fn bad_constant(rule: Rule, width: Width) -> bool
 }
 
 // A bit in c2 that c1 lacks, in form 7.
+#[tactic(auto, using(crate::proofs::SearchAcceptStrayBit::wanted), unfolding(crate::specs::accept::Accept::stray_bit))]
 fn stray_bit(rule: Rule) -> bool
     ensures { result ≡ stray_bit rule }
 {
@@ -93,6 +95,7 @@ fn stray_bit(rule: Rule) -> bool
 }
 
 // Whether a place has no rule: zeros.
+#[tactic(auto, using(crate::proofs::SearchAcceptIsNoRule::wanted), unfolding(crate::specs::accept::Accept::is_no_rule))]
 pub fn is_no_rule(rule: Rule) -> bool
     ensures { result ≡ is_no_rule rule }
 {

@@ -16,6 +16,7 @@ pub enum Fixed {
 
 impl Fixed {
     // Whether the word x has the bits.
+    #[tactic(auto, unfolding(crate::specs::bits::route::Fixed::has_bits))]
     pub fn has(self, x: u64) -> bool
         ensures { result ≡ has_bits self x }
     {

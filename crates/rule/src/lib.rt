@@ -35,6 +35,7 @@ impl Rule {
     };
 
     // Whether the word x meets the rule.
+    #[tactic(auto, using(crate::proofs::SearchRuleMeets::wanted))]
     pub fn meets(self, width: Width, x: u64) -> bool
         requires width { IsWidth width.bits }
         requires x_bound { (x ≤ top width.bits) × (self.c1 ≤ top width.bits) }
@@ -45,6 +46,7 @@ impl Rule {
     }
 
     // Whether x meets the rule as written.
+    #[tactic(auto, using(crate::proofs::SearchRuleWritten::wanted), unfolding(crate::specs::Meaning::rows))]
     fn written(self, width: Width, x: u64) -> bool
         requires width { IsWidth width.bits }
         requires x_bound { (x ≤ top width.bits) × (self.c1 ≤ top width.bits) }

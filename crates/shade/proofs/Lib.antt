@@ -1,2 +1,3 @@
+pub mod SearchAllPass
 pub mod Counted
 pub mod Words

@@ -1,3 +1,8 @@
+pub mod SearchRefusingRefusesRule
+pub mod SearchSlateShapeShaped
+pub mod SearchSlateShapeBlank
+pub mod SearchSlateShapeSameKept
+pub mod SearchRefusingRefuses
 pub mod Cleared
 pub mod Holding
 pub mod Noted

@@ -8,6 +8,7 @@ use rule::Rule;
 use word::{Edition, Width};
 
 // What every call but an opening looks at first: 17 where the record is no sheet, 1 on the blank sheet.
+#[tactic(auto, using(crate::proofs::SearchRefusingRefuses::wanted), unfolding(crate::specs::route::Numbers::before))]
 pub fn refuses(head: Head) -> u64
     ensures { result ≡ before head.stands head.opening.width }
 {
@@ -23,6 +24,7 @@ pub fn refuses(head: Head) -> u64
 }
 
 // The number with which a rule is refused, or 0. Another edition's frame is refused whatever its rule.
+#[tactic(auto, using(crate::proofs::SearchRefusingRefusesRule::wanted))]
 pub fn refuses_rule(head: Head, edition: Edition, rule: Rule) -> u64
     requires { before head.stands head.opening.width ≡ 0 → IsWidth head.opening.width }
     ensures { result ≡ rule_number head edition rule }

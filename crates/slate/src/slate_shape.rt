@@ -13,6 +13,7 @@ use verdict::Kept;
 use word::{Edition, Width};
 
 // Whether the record is blank, its width being 0.
+#[tactic(auto, using(crate::proofs::SearchSlateShapeBlank::wanted), unfolding(crate::specs::route::Shape::stands_so))]
 pub fn blank(head: Head, rows: &[[u64; NUMBERS]; Rule::LIMIT], marks: &[usize; MARKS]) -> bool
     requires width_value { head.opening.width ≡ 0 }
     requires room { Room rows.now marks.now }
@@ -54,6 +55,7 @@ pub fn blank(head: Head, rows: &[[u64; NUMBERS]; Rule::LIMIT], marks: &[usize; M
 }
 
 // Whether a record whose width is not 0 has a width of its edition, rules and marks as a sheet may have them.
+#[tactic(auto, using(crate::proofs::SearchSlateShapeShaped::wanted), unfolding(page::specs::route::Shape::rules_shaped, crate::specs::route::Shape::well_shaped))]
 pub fn shaped(head: Head, rows: &[[u64; NUMBERS]; Rule::LIMIT], marks: &[usize; MARKS]) -> bool
     requires fact { head.opening.width ≡ 0 → ⊥ }
     requires room { Room rows.now marks.now }
@@ -92,6 +94,7 @@ pub fn shaped(head: Head, rows: &[[u64; NUMBERS]; Rule::LIMIT], marks: &[usize; 
 }
 
 // Whether the two agree in all three numbers.
+#[tactic(auto, using(crate::proofs::SearchSlateShapeSameKept::wanted), unfolding(crate::specs::route::Shape::same_kept))]
 pub fn same_kept(a: Kept, b: Kept) -> bool
     ensures { result ≡ same_kept a b }
 {

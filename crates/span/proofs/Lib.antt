@@ -1,3 +1,5 @@
+pub mod SearchRefused
+pub mod SearchIsWidth
 pub mod Exact
 pub mod Joining
 pub mod Outcome

@@ -59,6 +59,7 @@ fn as_given(number: u64, empty: bool, h: Interval, x: Interval, y: Interval) -> 
 }
 
 // The number of the refusal, or 0.
+#[tactic(auto, using(crate::proofs::SearchRefused::wanted), unfolding(crate::specs::Join::refused))]
 fn refused(width: u64, h: Interval, x: Interval, y: Interval) -> u64
     ensures { result ≡ refused width h x y }
 {
@@ -78,6 +79,7 @@ fn refused(width: u64, h: Interval, x: Interval, y: Interval) -> u64
 }
 
 // Whether it is a width from 1 to 64.
+#[tactic(auto, using(crate::proofs::SearchIsWidth::wanted), unfolding(crate::specs::Join::is_width))]
 pub fn is_width(width: u64) -> bool
     ensures { result ≡ is_width width }
 {

@@ -57,6 +57,7 @@ fn is_word(b: u8) -> bool
 }
 
 // `&`, `+`, `:`, `<`, `=` or `>`.
+#[tactic(auto, using(crate::proofs::SearchClassIsSign::wanted), unfolding(crate::specs::Token::is_sign))]
 fn is_sign(b: u8) -> bool
     ensures { result ≡ is_sign b }
 {
@@ -76,6 +77,7 @@ fn is_sign(b: u8) -> bool
 }
 
 // A space, a tab, or the byte 13 that ends a line before its byte 10.
+#[tactic(auto, using(crate::proofs::SearchClassIsBlank::wanted), unfolding(crate::specs::Token::is_blank))]
 fn is_blank(b: u8) -> bool
     ensures { result ≡ is_blank b }
 {

@@ -33,6 +33,7 @@ pub struct Upshot {
 }
 
 // It goes on where nothing is refused, and stops at a refusal.
+#[tactic(auto, using(crate::proofs::SearchByNumber::wanted), unfolding(crate::specs::Upshot::by_number))]
 pub fn by_number(number: u64, sheet: Sheet, response: Response) -> Upshot
     ensures { result ≡ by_number number sheet response }
 {

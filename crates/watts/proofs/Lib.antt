@@ -1,3 +1,5 @@
+pub mod SearchNearest
+pub mod SearchNearer
 pub mod About
 pub mod Divided
 pub mod Examples

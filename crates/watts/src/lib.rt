@@ -43,6 +43,7 @@ const POINT: u64 = 149;
 const SIGN: u64 = 0x8000_0000;
 
 // The number nearest to digits / 10^places; of two as near the one whose last bit is 0.
+#[tactic(auto, using(crate::proofs::SearchNearest::wanted), unfolding(crate::specs::Watts::limit_of))]
 pub fn nearest(minus: bool, digits: u64, places: u64) -> Limit
     ensures { result ≡ limit_of minus digits places }
 {
@@ -128,6 +129,7 @@ fn parts_of(digits: u64, size: u64) -> Parts
 }
 
 // Of a pattern and the next the nearer, where one is so far under and the other so far over; of two as near the even one.
+#[tactic(auto, using(crate::proofs::SearchNearer::wanted), unfolding(crate::specs::Watts::nearer))]
 fn nearer(under: u64, over: u64, p: u64) -> u64
     requires { p < 2 ^ 31 }
     ensures { result ≡ nearer under over p }

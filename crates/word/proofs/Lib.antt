@@ -1,3 +1,4 @@
+pub mod SearchWidthSigned
 pub mod Climb
 pub mod Count
 pub mod Cut

@@ -72,6 +72,7 @@ impl Width {
     }
 
     // The word a read as a signed number.
+    #[tactic(auto, using(crate::proofs::SearchWidthSigned::wanted))]
     pub fn signed(self, a: u64) -> i64
         requires width { IsWidth self.bits }
         requires a_bound { a ≤ top self.bits }
@@ -110,6 +111,7 @@ impl Edition {
     }
 
     // Whether the two are one edition.
+    #[tactic(auto, unfolding(crate::specs::Edition::same))]
     pub fn same(self, other: Edition) -> bool
         ensures { result ≡ same self other }
     {

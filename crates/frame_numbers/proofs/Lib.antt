@@ -1,0 +1,2 @@
+pub mod SearchEditionOf
+pub mod SearchOpens

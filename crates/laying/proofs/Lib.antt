@@ -1,0 +1,2 @@
+pub mod SearchTestingAllAcceptable
+pub mod SearchTestingNoneFrom

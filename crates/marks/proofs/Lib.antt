@@ -1,0 +1,2 @@
+pub mod SearchAllZero
+pub mod SearchRising

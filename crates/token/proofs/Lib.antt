@@ -1,0 +1,2 @@
+pub mod SearchClassIsSign
+pub mod SearchClassIsBlank
