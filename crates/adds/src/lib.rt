@@ -59,7 +59,8 @@ pub fn add_all(
         head = said.head;
         let number = said.number;
         let next = place + 1;
-        if number != 0 {
+        let is_refused = number != 0;
+        if is_refused {
             return Course {
                 number,
                 head,

@@ -31,7 +31,8 @@ pub fn begin(
     let said = laid::open(head, &mut *rows, &mut *marks, opening);
     let number = said.number;
     let head = said.head;
-    if number != 0 {
+    let is_refused = number != 0;
+    if is_refused {
         return Course {
             number,
             head,

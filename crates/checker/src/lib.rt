@@ -24,8 +24,10 @@ pub fn accepts(sheet: Sheet, links: &[u64]) -> bool
     let width = head.opening.width;
     let count = head.counts.count;
     let fixed = head.fixed;
-    if head.stands {
-        if width != 0 {
+    let stands = head.stands;
+    if stands {
+        let is_open = width != 0;
+        if is_open {
             let force = InForce {
                 count,
                 fixed,

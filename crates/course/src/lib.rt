@@ -40,7 +40,8 @@ pub fn beginning(
     let stopped = course.number;
     let head = course.head;
     let place = course.place;
-    if stopped != 0 {
+    let is_refused = stopped != 0;
+    if is_refused {
         return placed(sheet::refusal(stopped), place);
     }
     let reply = laid::ask(head, &rows, &mut *out);

@@ -35,22 +35,26 @@ pub fn covers(links: &[u64], rows: &[[u64; rows::NUMBERS]; Rule::LIMIT], force: 
         if !link::follows(i, end, first) {
             return false;
         }
-        if last < first {
+        let is_backward = last < first;
+        if is_backward {
             return false;
         }
-        if top < last {
+        let is_above = top < last;
+        if is_above {
             return false;
         }
         if !link::shows(rows, force, read) {
             return false;
         }
-        if end < last {
+        let is_further = end < last;
+        if is_further {
             end = last;
         }
         i += Link::NUMBERS;
     }
     // one number or two are no link
-    if i < links.len() {
+    let has_tail = i < links.len();
+    if has_tail {
         return false;
     }
     end == top

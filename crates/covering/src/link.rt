@@ -71,7 +71,8 @@ pub fn shows(rows: &[[u64; rows::NUMBERS]; Rule::LIMIT], force: InForce, link: L
         let band = rows::band_at(rows, reason as usize, false, top);
         return fails(band, top, link.from, link.to);
     }
-    if reason == Link::BITS {
+    let is_bits = reason == Link::BITS;
+    if is_bits {
         return lacks(fixed, width, link.from, link.to);
     }
     false

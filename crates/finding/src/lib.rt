@@ -54,7 +54,8 @@ pub fn lies(link: Link, number: usize, end: u64, top: u64) -> Finding
         return Finding::Yes;
     }
     if end < link.from {
-        if link.from - end != 1 {
+        let is_gap = link.from - end != 1;
+        if is_gap {
             return Finding::Gap { link: number };
         }
     }

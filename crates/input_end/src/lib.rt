@@ -29,7 +29,8 @@ pub fn finish(
     ensures { Finished (desk_of state rows.old marks.old) out.old out.new result }
 {
     let begun = state.begun;
-    if begun.len == 0 {
+    let is_empty = begun.len == 0;
+    if is_empty {
         return 0;
     }
     let last = [Frame::NEWLINE; 1];

@@ -12,7 +12,8 @@ pub fn refusal_of(number: u64, width: Width, start: u64) -> u64
     requires { number ≡ 0 → IsWidth width.bits }
     ensures { StartSeen number width.bits start result }
 {
-    if 0 < number {
+    let is_refused = 0 < number;
+    if is_refused {
         return number;
     }
     if width.top() < start {

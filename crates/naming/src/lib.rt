@@ -65,7 +65,8 @@ pub fn length(row: &[u8; MOST]) -> usize
     ensures { result ≡ length (name_in row.now) }
 {
     for i in 0..MOST {
-        if row[i] == 0 {
+        let is_end = row[i] == 0;
+        if is_end {
             return i;
         }
     }

@@ -8,11 +8,12 @@ use native.Mathlib.Numerals.{add-one}
 use native.Mathlib.Omega.{arith}
 use borrow.Author.Tests.{le-leb, lt-leb}
 use Rattle.interval.specs.declared.Interval.{Interval}
+use Rattle.net.specs.declared.Answer.{Answer}
 use Rattle.net.specs.declared.Ended.TheVariants.{Empty, Spent, Steady}
 use Rattle.net_step.specs.declared.Join.{Join}
 use Rattle.net_step.specs.declared.Stepped.{Stepped}
-use Rattle.net.specs.Net.{turn}
-use Rattle.net.specs.route.Run.{Stand, Stop, goes, next, stand, start, steady, stop}
+use Rattle.net.specs.Net.{given, turn}
+use Rattle.net.specs.route.Run.{Stand, Stop, goes, next, shown, stand, start, steady, stop}
 use Rattle.net_step.specs.Step.{stepped}
 
 met : (b : Bool) (x y : Stop) → b ≡ true → cond b x y ≡ x
@@ -90,3 +91,17 @@ module _ (w : ℕ) (js : List Join) (m : ℕ) where
               paid = omega arith;
               whole = first ∙ sym (goes-next s e h left) ∙ sym (ap (λ (n : ℕ). goes w js m n s) more) ∙ i.whole;
             }
+
+-- what is answered where a run stops is what the whole run is answered, whichever test found it
+module _ (w : ℕ) (js : List Join) (m : ℕ) {ws₀ : List Interval} {pay : ℕ} {s : Stand} (i : Walk w js m ws₀ pay s) where
+  pub given_empty : {r : Answer} → r ≡ given Empty s.steps s.words → s.empty ≡ true → r ≡ shown (goes w js m pay (start ws₀))
+  unfolding shown
+  given_empty g e = g ∙ sym (ap shown (walk_empty w js m i e))
+
+  pub given_steady : s.empty ≡ false → m ≤ s.quiet → {r : Answer} → r ≡ given Steady s.steps s.words → r ≡ shown (goes w js m pay (start ws₀))
+  unfolding shown
+  given_steady e h g = g ∙ sym (ap shown (walk_steady w js m i e h))
+
+  pub given_spent : s.empty ≡ false → s.quiet < m → s.steps ≡ pay → {r : Answer} → r ≡ given Spent s.steps s.words → r ≡ shown (goes w js m pay (start ws₀))
+  unfolding shown
+  given_spent e h d g = g ∙ sym (ap shown (walk_spent w js m i e h d))

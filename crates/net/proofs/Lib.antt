@@ -1,3 +1,4 @@
+pub mod SearchNetWalk
 pub mod SearchInARow
 pub mod SearchNetRefusal
 pub mod Accepted

@@ -60,6 +60,7 @@ impl Net {
 
     // The steps of a net that is not refused: it stops at the first of an empty cut, as many steps in a row as there are joins that
     // changed nothing, and the steps spent.
+    #[tactic(auto, using(crate::proofs::SearchNetWalk::wanted), unfolding(crate::specs::route::Run::walked))]
     fn walk(self, pay: u64) -> Answer
         requires { AllNamed self }
         ensures { result ≡ walked self pay }

@@ -73,7 +73,8 @@ fn placed(order: &[usize; Rule::LIMIT], n: usize, place: &[usize; Rule::LIMIT]) 
         if n <= k {
             return false;
         }
-        if order[k] != i {
+        let is_elsewhere = order[k] != i;
+        if is_elsewhere {
             return false;
         }
     }

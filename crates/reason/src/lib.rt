@@ -78,7 +78,8 @@ pub fn shows(
         };
         return Finding::MeetsRule { link: number, word };
     }
-    if reason != Link::BITS {
+    let is_no_rule = reason != Link::BITS;
+    if is_no_rule {
         return Finding::NoRule { link: number };
     }
     let Found::At(word) = having(fixed, width, link.from, link.to) else {

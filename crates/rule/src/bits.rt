@@ -39,11 +39,13 @@ impl Fixed {
         let c1 = rule.c1;
         let c2 = rule.c2;
         // a bit of the value that its own mask leaves out
-        if c2 & c1 != c2 {
+        let is_stray = c2 & c1 != c2;
+        if is_stray {
             return Fixed::Clash;
         }
         // a bit that is set in one value and clear in the other
-        if value & c1 != c2 & mask {
+        let differs = value & c1 != c2 & mask;
+        if differs {
             return Fixed::Clash;
         }
         Fixed::Bits {

@@ -37,7 +37,8 @@ pub fn at(rows: &[[u64; rows::NUMBERS]; Rule::LIMIT], n: usize, top: u64, p: u64
             };
         }
         let last = last_held(band, top, p);
-        if last < end {
+        let is_nearer = last < end;
+        if is_nearer {
             end = last;
         }
     }

@@ -21,7 +21,8 @@ impl Sheet {
         let none = Sheet::blank();
         let answer = called(none, Call::Open(opening));
         let number = answer.number;
-        if number != 0 {
+        let is_refused = number != 0;
+        if is_refused {
             return Answer {
                 number,
                 sheet: self,

@@ -32,7 +32,8 @@ pub fn ask(head: Head, rows: &[[u64; NUMBERS]; Rule::LIMIT], out: &mut [u64]) ->
     if out.len() < chain::room(count) {
         return refusal(9);
     }
-    if kept.verdict != 0 {
+    let fits = kept.verdict != 0;
+    if fits {
         return Reply {
             number: 0,
             kept,

@@ -1,3 +1,4 @@
+pub mod SearchGround
 pub mod SearchRefusingRefusesRule
 pub mod SearchSlateShapeShaped
 pub mod SearchSlateShapeBlank

@@ -30,7 +30,8 @@ pub fn add(
     let count = counts.count;
     let marked = counts.marked;
     let number = crate::refuses_rule(head, edition, rule);
-    if number != 0 {
+    let is_refused = number != 0;
+    if is_refused {
         return Said { number, head };
     }
     let next = count + 1;

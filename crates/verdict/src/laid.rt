@@ -64,7 +64,8 @@ pub fn narrowed(rows: &[[u64; rows::NUMBERS]; Rule::LIMIT], force: InForce, befo
     requires bounds { Bounds force.width.bits (take force.count (bands_in rows.now)) force.fixed before }
     ensures { result ≡ kept_by force.width.bits (take force.count (bands_in rows.now)) force.fixed }
 {
-    if before.verdict == 0 {
+    let is_none = before.verdict == 0;
+    if is_none {
         return none();
     }
     let ends = Run {

@@ -35,13 +35,13 @@ add-said-requires c = c.loop-place.invariant.1
 pub overflow_add-next : goal.overflow_add-next
 overflow_add-next c = omega arith
 
-pub returns-then-number-ne0 : goal.returns-then-number-ne0
-returns-then-number-ne0 c =
-    let here = inside (goal.at.returns-then-number-ne0 c).After-add-said in
+pub returns-then-is_refused : goal.returns-then-is_refused
+returns-then-is_refused c =
+    let here = inside (goal.at.returns-then-is_refused c).After-add-said in
     let done = add_after c.loop-place.invariant.1 c.add-said.ensures in record {
       came = record {
-        refused = λ z pg r q. stop_way c.args.head.opening.edition _ c.loop-place.place (first_inside c.args.rules c.args.count _ here (long (goal.at.returns-then-number-ne0 c).Start)) (c.loop-place.invariant.2 pg r q) (first_at c.args.rules c.args.count _ here) done;
-        went = λ e. absurd (c.if-number-ne0.true e);
+        refused = λ z pg r q. stop_way c.args.head.opening.edition _ c.loop-place.place (first_inside c.args.rules c.args.count _ here (long (goal.at.returns-then-is_refused c).Start)) (c.loop-place.invariant.2 pg r q) (first_at c.args.rules c.args.count _ here) done;
+        went = λ e. absurd (c.if-is_refused.true e);
       };
       held_2 = done.held;
     }
@@ -55,7 +55,7 @@ loop-place-preserved c =
     let done = add_after c.loop-place.invariant.1 c.add-said.ensures in (
       omega arith,
       done.held,
-      λ pg r q. step_way c.args.head.opening.edition _ c.loop-place.place (first_inside c.args.rules c.args.count _ here (long (goal.at.loop-place-preserved c).Start)) (c.loop-place.invariant.2 pg r q) (first_at c.args.rules c.args.count _ here) done c.if-number-ne0.false,
+      λ pg r q. step_way c.args.head.opening.edition _ c.loop-place.place (first_inside c.args.rules c.args.count _ here (long (goal.at.loop-place-preserved c).Start)) (c.loop-place.invariant.2 pg r q) (first_at c.args.rules c.args.count _ here) done c.if-is_refused.false,
     )
 
 pub returns : goal.returns

@@ -13,9 +13,9 @@ use Rattle.begun.proofs.begin.Goals as goal
 blank-is : (o : After-open-said) → packed o.lay_out-head.result o.lay_out-head.new.rows o.lay_out-head.new.marks ≡ blank
 blank-is o = o.lay_out-head.ensures.marks_after ∙ o.blank.ensures
 
-pub returns-then-number-ne0 : goal.returns-then-number-ne0
-returns-then-number-ne0 c =
-    let done = open_after c.lay_out-head.ensures.held _ c.open-said.ensures in record { begun = refused_opening _ (blank-is (goal.at.returns-then-number-ne0 c).After-open-said) done _ _ c.if-number-ne0.true; held = done.held }
+pub returns-then-is_refused : goal.returns-then-is_refused
+returns-then-is_refused c =
+    let done = open_after c.lay_out-head.ensures.held _ c.open-said.ensures in record { begun = refused_opening _ (blank-is (goal.at.returns-then-is_refused c).After-open-said) done _ _ c.if-is_refused.true; held = done.held }
 
 pub add_all-requires : goal.add_all-requires
 add_all-requires c =
@@ -23,4 +23,4 @@ add_all-requires c =
 
 pub returns : goal.returns
 returns c =
-    let done = open_after c.lay_out-head.ensures.held _ c.open-said.ensures in record { begun = rw (← c.few-count.ensures) (opened_so _ (blank-is (goal.at.returns c).After-open-said) done _ _ c.if-number-ne0.false c.add_all.ensures.came); held = c.add_all.ensures.held_2 }
+    let done = open_after c.lay_out-head.ensures.held _ c.open-said.ensures in record { begun = rw (← c.few-count.ensures) (opened_so _ (blank-is (goal.at.returns c).After-open-said) done _ _ c.if-is_refused.false c.add_all.ensures.came); held = c.add_all.ensures.held_2 }

@@ -21,13 +21,13 @@ pub lay_out-head-requires : goal.lay_out-head-requires
 lay_out-head-requires c = refl
 
 pub covers-requires : goal.covers-requires
-covers-requires c = record { width = width_so c.lay_out-head.ensures.held c.if-head.true c.if-width-ne0.true; lie = lie_so c.lay_out-head.ensures.held c.if-head.true c.if-width-ne0.true; tidy = tidy_so c.lay_out-head.ensures.held c.if-head.true c.if-width-ne0.true }
+covers-requires c = record { width = width_so c.lay_out-head.ensures.held c.if-stands.true c.if-is_open.true; lie = lie_so c.lay_out-head.ensures.held c.if-stands.true c.if-is_open.true; tidy = tidy_so c.lay_out-head.ensures.held c.if-stands.true c.if-is_open.true }
 
-pub returns-then-width-ne0 : goal.returns-then-width-ne0
-returns-then-width-ne0 c = let whole = right (goal.at.returns-then-width-ne0 c).After-lay_out-head c.covers.result (c.covers.ensures _ (own_rules c.lay_out-head.ensures.held c.if-head.true c.if-width-ne0.true) ∙ shown_so c.lay_out-head.ensures.held c.if-head.true c.if-width-ne0.true _) in record { value = whole.0; variant = whole.1 }
+pub returns-then-is_open : goal.returns-then-is_open
+returns-then-is_open c = let whole = right (goal.at.returns-then-is_open c).After-lay_out-head c.covers.result (c.covers.ensures _ (own_rules c.lay_out-head.ensures.held c.if-stands.true c.if-is_open.true) ∙ shown_so c.lay_out-head.ensures.held c.if-stands.true c.if-is_open.true _) in record { value = whole.0; variant = whole.1 }
 
-pub returns-else-width-ne0 : goal.returns-else-width-ne0
-returns-else-width-ne0 c = let whole = right (goal.at.returns-else-width-ne0 c).After-lay_out-head _ (blank_no c.lay_out-head.ensures.held c.if-width-ne0.false _) in record { value = whole.0; variant = whole.1 }
+pub returns-else-is_open : goal.returns-else-is_open
+returns-else-is_open c = let whole = right (goal.at.returns-else-is_open c).After-lay_out-head _ (blank_no c.lay_out-head.ensures.held c.if-is_open.false _) in record { value = whole.0; variant = whole.1 }
 
-pub returns-else-head : goal.returns-else-head
-returns-else-head c = let whole = right (goal.at.returns-else-head c).After-lay_out-head _ (no_sheet_no c.lay_out-head.ensures.held c.if-head.false _) in record { value = whole.0; variant = whole.1 }
+pub returns-else-stands : goal.returns-else-stands
+returns-else-stands c = let whole = right (goal.at.returns-else-stands c).After-lay_out-head _ (no_sheet_no c.lay_out-head.ensures.held c.if-stands.false _) in record { value = whole.0; variant = whole.1 }

@@ -7,13 +7,13 @@ use Rattle.course.proofs.beginning.Goals as goal
 pub begin-course-requires : goal.begin-course-requires
 begin-course-requires c = empty_room
 
-pub returns-then-stopped-ne0 : goal.returns-then-stopped-ne0
-returns-then-stopped-ne0 c =
-    refused_batch _ _ _ c.begin-course.ensures.begun c.if-stopped-ne0.true _ c.placed.ensures c.refusal.ensures
+pub returns-then-is_refused : goal.returns-then-is_refused
+returns-then-is_refused c =
+    refused_batch _ _ _ c.begin-course.ensures.begun c.if-is_refused.true _ c.placed.ensures c.refusal.ensures
 
 pub ask-reply-requires : goal.ask-reply-requires
 ask-reply-requires c = (_, c.begin-course.ensures.held)
 
 pub returns : goal.returns
 returns c =
-    asked_batch _ _ _ c.begin-course.ensures.begun c.if-stopped-ne0.false (ask_after c.begin-course.ensures.held c.ask-reply.ensures) c.placed-2.ensures
+    asked_batch _ _ _ c.begin-course.ensures.begun c.if-is_refused.false (ask_after c.begin-course.ensures.held c.ask-reply.ensures) c.placed-2.ensures

@@ -21,7 +21,7 @@ use Rattle.covering.specs.Check.{right_reason}
 use Rattle.covering.specs.route.Route.{covered}
 use Rattle.covering.proofs.Midway.{Midway, at_first, at_gap, at_last, at_next, no_threes, out_of_order, wrong_reason}
 use Rattle.std.proofs.lemmas.Bool.{not_from_false, not_from_true}
-use Rattle.covering.proofs.covers.Goals.{After-follows, After-shows, At-loop-i, Else-top-last, In-loop-i, Joined-end-last, else-end-last, then-end-last}
+use Rattle.covering.proofs.covers.Goals.{After-follows, After-shows, At-loop-i, Else-is_above, In-loop-i, Joined-is_further, else-is_further, then-is_further}
 use Rattle.covering.proofs.covers.Goals as goal
 
 -- there is a whole link at this place
@@ -46,19 +46,19 @@ last : (f : After-follows) → f.link_from-read.result.to ≡ (link_from f.args.
 last f = ap (λ (l : Link). l.to) (read f)
 
 -- its ends are in order
-order : (e : Else-top-last) → (e.link_from-read.result.from ≤ e.link_from-read.result.to) × (e.link_from-read.result.to ≤ top e.args.force.width.bits)
+order : (e : Else-is_above) → (e.link_from-read.result.from ≤ e.link_from-read.result.to) × (e.link_from-read.result.to ≤ top e.args.force.width.bits)
 order e =
-    (e.if-last-first.false, omega (arith, e.if-top-last.false, e.top-top.ensures))
+    (e.if-is_backward.false, omega (arith, e.if-is_above.false, e.top-top.ensures))
 
 -- what is said of the link's reason
 reason : (a : After-shows) → (rs : List Rule) → (OfLawful a.args.force.width.bits (take a.args.force.count (bands_in a.args.rows.now)) a.args.force.fixed rs)
     → a.shows.result ≡ right_reason a.args.force.width.bits rs (link_from a.args.links.now a.loop-i.i)
 reason a rs h = a.shows.ensures rs h ∙ ap (right_reason _ rs) (a.link_from-read.ensures)
 
-largest : (c : Joined-end-last) → max c.loop-i.end (link_from c.args.links.now c.loop-i.i).to ≡ c.if-end-last.end
+largest : (c : Joined-is_further) → max c.loop-i.end (link_from c.args.links.now c.loop-i.i).to ≡ c.if-is_further.end
 largest c =
     let e = (let last-1 : c.link_from-read.result.to ≡ (link_from c.args.links.now c.loop-i.i).to = ap (λ (l : Link). l.to) (c.link_from-read.ensures) in last-1) in
-    elim c.if-end-last.branch [ then-end-last a ↦ omega (arith, a.if-end-last.true, a.end-is, e) | else-end-last a ↦ omega (arith, a.if-end-last.false, a.end-is, e) ]
+    elim c.if-is_further.branch [ then-is_further a ↦ omega (arith, a.if-is_further.true, a.end-is, e) | else-is_further a ↦ omega (arith, a.if-is_further.false, a.end-is, e) ]
 
 pub loop-i-init : goal.loop-i-init
 loop-i-init c = (omega arith, refl, λ z. refl, λ rs h. at_first _ rs _)
@@ -71,16 +71,16 @@ returns-then-not-follows c rs h =
     at_gap _ rs _ _ _ (mid (goal.at.returns-then-not-follows c).At-loop-i rs h) (room (goal.at.returns-then-not-follows c).In-loop-i)
     (λ a. omega (arith, first (goal.at.returns-then-not-follows c).After-follows, leb-false _ (covered c.loop-i.i c.loop-i.end) (failed c.follows.ensures (not_from_false _ c.if-not-follows.true))))
 
-pub returns-then-last-first : goal.returns-then-last-first
-returns-then-last-first c rs h =
-    out_of_order _ rs _ _ _ (mid (goal.at.returns-then-last-first c).At-loop-i rs h) (room (goal.at.returns-then-last-first c).In-loop-i) (λ o. omega (arith, o.0, c.if-last-first.true, first (goal.at.returns-then-last-first c).After-follows, last (goal.at.returns-then-last-first c).After-follows))
+pub returns-then-is_backward : goal.returns-then-is_backward
+returns-then-is_backward c rs h =
+    out_of_order _ rs _ _ _ (mid (goal.at.returns-then-is_backward c).At-loop-i rs h) (room (goal.at.returns-then-is_backward c).In-loop-i) (λ o. omega (arith, o.0, c.if-is_backward.true, first (goal.at.returns-then-is_backward c).After-follows, last (goal.at.returns-then-is_backward c).After-follows))
 
-pub returns-then-top-last : goal.returns-then-top-last
-returns-then-top-last c rs h =
-    out_of_order _ rs _ _ _ (mid (goal.at.returns-then-top-last c).At-loop-i rs h) (room (goal.at.returns-then-top-last c).In-loop-i) (λ o. omega (arith, o.1, c.if-top-last.true, last (goal.at.returns-then-top-last c).After-follows, c.top-top.ensures))
+pub returns-then-is_above : goal.returns-then-is_above
+returns-then-is_above c rs h =
+    out_of_order _ rs _ _ _ (mid (goal.at.returns-then-is_above c).At-loop-i rs h) (room (goal.at.returns-then-is_above c).In-loop-i) (λ o. omega (arith, o.1, c.if-is_above.true, last (goal.at.returns-then-is_above c).After-follows, c.top-top.ensures))
 
 pub shows-requires : goal.shows-requires
-shows-requires c = record { width = c.requires.width; lie = c.requires.lie; tidy = (c.requires.tidy, (order (goal.at.shows-requires c).Else-top-last).0, (order (goal.at.shows-requires c).Else-top-last).1) }
+shows-requires c = record { width = c.requires.width; lie = c.requires.lie; tidy = (c.requires.tidy, (order (goal.at.shows-requires c).Else-is_above).0, (order (goal.at.shows-requires c).Else-is_above).1) }
 
 pub returns-then-not-shows : goal.returns-then-not-shows
 returns-then-not-shows c rs h =
@@ -98,17 +98,17 @@ loop-i-preserved c = (
   omega (arith, c.loop-i.invariant.1),
   λ z. absurd (omega arith),
   λ rs h.
-      subst (Midway _ rs _ _) (largest (goal.at.loop-i-preserved c).Joined-end-last)
+      subst (Midway _ rs _ _) (largest (goal.at.loop-i-preserved c).Joined-is_further)
       (at_next _ rs _ _ _ (mid (goal.at.loop-i-preserved c).At-loop-i rs h) (room (goal.at.loop-i-preserved c).In-loop-i) c.loop-i.invariant.2
       (omega (arith, first (goal.at.loop-i-preserved c).After-follows, leb-true c.link_from-read.result.from (covered c.loop-i.i c.loop-i.end) (passed c.follows.ensures (not_from_true _ c.if-not-follows.false))))
-      (omega (arith, first (goal.at.loop-i-preserved c).After-follows, last (goal.at.loop-i-preserved c).After-follows, order (goal.at.loop-i-preserved c).Else-top-last)) (passed (reason (goal.at.loop-i-preserved c).After-shows rs h) (not_from_true _ c.if-not-shows.false))),
+      (omega (arith, first (goal.at.loop-i-preserved c).After-follows, last (goal.at.loop-i-preserved c).After-follows, order (goal.at.loop-i-preserved c).Else-is_above)) (passed (reason (goal.at.loop-i-preserved c).After-shows rs h) (not_from_true _ c.if-not-shows.false))),
 )
 
-pub returns-then-i-links : goal.returns-then-i-links
-returns-then-i-links c rs h =
-    no_threes _ rs _ (λ t. omega (arith, c.loop-i.invariant.1, c.loop-i-test.false, c.if-i-links.true))
+pub returns-then-has_tail : goal.returns-then-has_tail
+returns-then-has_tail c rs h =
+    no_threes _ rs _ (λ t. omega (arith, c.loop-i.invariant.1, c.loop-i-test.false, c.if-has_tail.true))
 
 pub returns : goal.returns
 returns c rs h =
     ap (eqb c.loop-i.end) c.top-top.ensures
-    ∙ at_last _ rs _ _ _ (mid (goal.at.returns c).At-loop-i rs h) (le_antisymm c.loop-i.invariant.0 c.if-i-links.false) c.loop-i.invariant.1 c.loop-i.invariant.2 (omega (arith, halves c.args.force.width.bits c.requires.width.low, half_pos c.args.force.width.bits))
+    ∙ at_last _ rs _ _ _ (mid (goal.at.returns c).At-loop-i rs h) (le_antisymm c.loop-i.invariant.0 c.if-has_tail.false) c.loop-i.invariant.1 c.loop-i.invariant.2 (omega (arith, halves c.args.force.width.bits c.requires.width.low, half_pos c.args.force.width.bits))

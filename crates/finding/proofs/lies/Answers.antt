@@ -26,14 +26,14 @@ unfolding by_place
 returns-then-number-eq0 c =
     lies_as c.args.top c.args.number c.args.end c.args.link (le-leb c.args.link.from c.args.link.to (omega arith)) (le-leb c.args.link.to c.args.top (omega arith)) (eq-eqb c.args.number 0 (omega arith)) (eq-eqb c.args.link.from 0 (omega arith)) refl
 
-pub returns-then-link-end-ne1 : goal.returns-then-link-end-ne1
+pub returns-then-is_gap : goal.returns-then-is_gap
 unfolding by_place
-returns-then-link-end-ne1 c =
-    lies_as c.args.top c.args.number c.args.end c.args.link (le-leb c.args.link.from c.args.link.to (omega arith)) (le-leb c.args.link.to c.args.top (omega arith)) (ne_eqb c.args.number 0 c.if-number-eq0.false) refl (lt-leb c.args.link.from (suc c.args.end) (omega (arith, c.if-link-end-ne1.true)))
+returns-then-is_gap c =
+    lies_as c.args.top c.args.number c.args.end c.args.link (le-leb c.args.link.from c.args.link.to (omega arith)) (le-leb c.args.link.to c.args.top (omega arith)) (ne_eqb c.args.number 0 c.if-number-eq0.false) refl (lt-leb c.args.link.from (suc c.args.end) (omega (arith, c.if-is_gap.true)))
 
-pub returns-else-link-end-ne1 : goal.returns-else-link-end-ne1
+pub returns-else-is_gap : goal.returns-else-is_gap
 unfolding by_place
-returns-else-link-end-ne1 c =
+returns-else-is_gap c =
     lies_as c.args.top c.args.number c.args.end c.args.link (le-leb c.args.link.from c.args.link.to (omega arith)) (le-leb c.args.link.to c.args.top (omega arith)) (ne_eqb c.args.number 0 c.if-number-eq0.false) refl (le-leb c.args.link.from (suc c.args.end) (omega arith))
 
 pub returns-else-end-link : goal.returns-else-end-link

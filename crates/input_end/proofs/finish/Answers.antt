@@ -3,4 +3,4 @@ use Rattle.exchange.proofs.Finishing.{fed_finished}
 use Rattle.input_end.proofs.finish.Goals as goal
 
 pub returns : goal.returns
-returns c = fed_finished c.if-begun-eq0.false c.requires.chain_len.1 c.feed.ensures.fed_on.so
+returns c = fed_finished c.if-is_empty.false c.requires.chain_len.1 c.feed.ensures.fed_on.so

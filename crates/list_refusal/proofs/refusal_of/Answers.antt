@@ -2,20 +2,20 @@
 use mathlib.Core.Path.{◌≡◌}
 use native.Mathlib.Omega.{arith}
 use Rattle.list_refusal.specs.route.Seen.{before_table, high_start, own_start}
-use Rattle.list_refusal.proofs.refusal_of.Goals.{Else-number-gt0}
+use Rattle.list_refusal.proofs.refusal_of.Goals.{Else-is_refused}
 use Rattle.list_refusal.proofs.refusal_of.Goals as goal
 
-none : (c : Else-number-gt0) → c.args.number ≡ 0
-none c = omega (arith, c.if-number-gt0.false)
+none : (c : Else-is_refused) → c.args.number ≡ 0
+none c = omega (arith, c.if-is_refused.false)
 
-pub returns-then-number-gt0 : goal.returns-then-number-gt0
-returns-then-number-gt0 c = before_table (λ e. omega (arith, c.if-number-gt0.true, e))
+pub returns-then-is_refused : goal.returns-then-is_refused
+returns-then-is_refused c = before_table (λ e. omega (arith, c.if-is_refused.true, e))
 
 pub top-requires : goal.top-requires
-top-requires c = c.requires (none (goal.at.top-requires c).Else-number-gt0)
+top-requires c = c.requires (none (goal.at.top-requires c).Else-is_refused)
 
 pub returns-then-top-start : goal.returns-then-top-start
-returns-then-top-start c = high_start (none (goal.at.returns-then-top-start c).Else-number-gt0) (omega (arith, c.top.ensures, c.if-top-start.true))
+returns-then-top-start c = high_start (none (goal.at.returns-then-top-start c).Else-is_refused) (omega (arith, c.top.ensures, c.if-top-start.true))
 
 pub returns : goal.returns
-returns c = own_start (none (goal.at.returns c).Else-number-gt0) (omega (arith, c.top.ensures, c.if-top-start.false))
+returns c = own_start (none (goal.at.returns c).Else-is_refused) (omega (arith, c.top.ensures, c.if-top-start.false))

@@ -15,13 +15,13 @@ pub loop-i-init : goal.loop-i-init
 unfolding name_in
 loop-i-init c = (omega arith, omega arith)
 
-pub returns-then-row-i-eq0 : goal.returns-then-row-i-eq0
-returns-then-row-i-eq0 c =
-    omega (arith, c.loop-i.invariant.1, ap length (name_ends (take LIMIT c.args.row.now) c.loop-i.i (get_or-take LIMIT c.args.row.now c.loop-i.i 0 (omega arith) ∙ c.if-row-i-eq0.true)))
+pub returns-then-is_end : goal.returns-then-is_end
+returns-then-is_end c =
+    omega (arith, c.loop-i.invariant.1, ap length (name_ends (take LIMIT c.args.row.now) c.loop-i.i (get_or-take LIMIT c.args.row.now c.loop-i.i 0 (omega arith) ∙ c.if-is_end.true)))
 
 pub loop-i-preserved : goal.loop-i-preserved
 loop-i-preserved c =
-    let more = name_goes_on (take LIMIT c.args.row.now) c.loop-i.i (λ e. c.if-row-i-eq0.false (sym (get_or-take LIMIT c.args.row.now c.loop-i.i 0 (omega arith)) ∙ e)) in
+    let more = name_goes_on (take LIMIT c.args.row.now) c.loop-i.i (λ e. c.if-is_end.false (sym (get_or-take LIMIT c.args.row.now c.loop-i.i 0 (omega arith)) ∙ e)) in
     (omega arith, c.loop-i.invariant.1 ∙ rw (add-one c.loop-i.i) (omega (arith, ap length more)))
 
 pub returns : goal.returns

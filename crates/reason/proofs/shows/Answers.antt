@@ -95,14 +95,14 @@ pub returns-then-reason-n : goal.returns-then-reason-n
 returns-then-reason-n c =
     rule_met _ (own (goal.at.returns-then-reason-n c).Start) c.args.number c.args.link (named (goal.at.returns-then-reason-n c).Start c.if-reason-n.true) _ (ne_eqb _ 7 (outside (goal.at.returns-then-reason-n c).Else-rule_at-eq7)) (sym (found (goal.at.returns-then-reason-n c).After-held) ∙ c.in-At.is)
 
-pub returns-then-reason-ne-BITS : goal.returns-then-reason-ne-BITS
-returns-then-reason-ne-BITS c =
-    no_rule _ (own (goal.at.returns-then-reason-ne-BITS c).Start) c.args.number c.args.link (other (goal.at.returns-then-reason-ne-BITS c).Start (λ h. omega (arith, h, c.if-reason-n.false))) (ne_eqb c.args.link.reason BITS (λ e. omega (arith, e, c.if-reason-ne-BITS.true)))
+pub returns-then-is_no_rule : goal.returns-then-is_no_rule
+returns-then-is_no_rule c =
+    no_rule _ (own (goal.at.returns-then-is_no_rule c).Start) c.args.number c.args.link (other (goal.at.returns-then-is_no_rule c).Start (λ h. omega (arith, h, c.if-reason-n.false))) (ne_eqb c.args.link.reason BITS (λ e. omega (arith, e, c.if-is_no_rule.true)))
 
 pub returns-in_default-having : goal.returns-in_default-having
 returns-in_default-having c =
-    bits_missed _ (own (goal.at.returns-in_default-having c).Start) c.args.number c.args.link (other (goal.at.returns-in_default-having c).Start (λ t. omega (arith, t, c.if-reason-n.false))) (eq-eqb c.args.link.reason BITS (omega (arith, c.if-reason-ne-BITS.false))) (sym (had (goal.at.returns-in_default-having c).After-having) ∙ c.in_default-having.is)
+    bits_missed _ (own (goal.at.returns-in_default-having c).Start) c.args.number c.args.link (other (goal.at.returns-in_default-having c).Start (λ t. omega (arith, t, c.if-reason-n.false))) (eq-eqb c.args.link.reason BITS (omega (arith, c.if-is_no_rule.false))) (sym (had (goal.at.returns-in_default-having c).After-having) ∙ c.in_default-having.is)
 
 pub returns : goal.returns
 returns c =
-    bits_met _ (own (goal.at.returns c).Start) c.args.number c.args.link (other (goal.at.returns c).Start (λ t. omega (arith, t, c.if-reason-n.false))) _ (eq-eqb c.args.link.reason BITS (omega (arith, c.if-reason-ne-BITS.false))) (sym (had (goal.at.returns c).After-having) ∙ c.in-At-having.is)
+    bits_met _ (own (goal.at.returns c).Start) c.args.number c.args.link (other (goal.at.returns c).Start (λ t. omega (arith, t, c.if-reason-n.false))) _ (eq-eqb c.args.link.reason BITS (omega (arith, c.if-is_no_rule.false))) (sym (had (goal.at.returns c).After-having) ∙ c.in-At-having.is)

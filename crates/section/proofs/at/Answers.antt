@@ -17,7 +17,7 @@ use Rattle.rows.proofs.Reading.{laid_take}
 use Rattle.section.specs.route.Section.{section}
 use Rattle.section.specs.route.Sides.{fails}
 use Rattle.section.proofs.Scan.{scan, scan_all, scan_fails, scan_held, scan_none}
-use Rattle.section.proofs.at.Goals.{After-band_at-band, At-loop-i, Else-not-holds, Then-not-holds, else-last-end, then-last-end}
+use Rattle.section.proofs.at.Goals.{After-band_at-band, At-loop-i, Else-not-holds, Then-not-holds, else-is_nearer, then-is_nearer}
 use Rattle.section.proofs.at.Goals as goal
 
 abbrev lying : At-loop-i → List Band
@@ -77,11 +77,11 @@ loop-i-smaller c = omega arith
 
 pub loop-i-preserved : goal.loop-i-preserved
 loop-i-preserved c =
-    let q : c.if-last-end.end ≡ min c.loop-i.end (climb (fails c.band_at-band.result) (c.args.top - c.args.p) c.args.p) =
-    elim c.if-last-end.branch [ then-last-end t ↦ omega (arith, c.last_held-last.ensures) | else-last-end t ↦ omega (arith, c.last_held-last.ensures) ] in (
+    let q : c.if-is_nearer.end ≡ min c.loop-i.end (climb (fails c.band_at-band.result) (c.args.top - c.args.p) c.args.p) =
+    elim c.if-is_nearer.branch [ then-is_nearer t ↦ omega (arith, c.last_held-last.ensures) | else-is_nearer t ↦ omega (arith, c.last_held-last.ensures) ] in (
       omega arith,
       omega arith,
-      ap (λ (j : ℕ). scan c.args.top c.args.p (drop j (bands (goal.at.loop-i-preserved c).At-loop-i)) c.if-last-end.end) (add-one c.loop-i.i)
+      ap (λ (j : ℕ). scan c.args.top c.args.p (drop j (bands (goal.at.loop-i-preserved c).At-loop-i)) c.if-is_nearer.end) (add-one c.loop-i.i)
           ∙ ap (scan c.args.top c.args.p (drop (suc c.loop-i.i) (bands (goal.at.loop-i-preserved c).At-loop-i))) q
           ∙ sym (scan_held _ _ _ _ _ (held (goal.at.loop-i-preserved c).Else-not-holds))
           ∙ ap (λ (bs : List Band). scan c.args.top c.args.p bs c.loop-i.end) (sym (left (goal.at.loop-i-preserved c).After-band_at-band))

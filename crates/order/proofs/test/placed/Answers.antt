@@ -13,12 +13,12 @@ loop-i-init c = (omega arith, λ j h. absurd (omega arith))
 pub returns-then-n-k : goal.returns-then-n-k
 returns-then-n-k c = λ e. absurd (false≢true e)
 
-pub returns-then-order-k : goal.returns-then-order-k
-returns-then-order-k c = λ e. absurd (false≢true e)
+pub returns-then-is_elsewhere : goal.returns-then-is_elsewhere
+returns-then-is_elsewhere c = λ e. absurd (false≢true e)
 
 pub loop-i-preserved : goal.loop-i-preserved
 loop-i-preserved c =
-    (omega arith, below_more _ _ c.loop-i.invariant.1 (_, omega arith, c.if-order-k.false))
+    (omega arith, below_more _ _ c.loop-i.invariant.1 (_, omega arith, c.if-is_elsewhere.false))
 
 pub returns : goal.returns
 returns c =

@@ -2,8 +2,8 @@
 use Rattle.sheet.proofs.ByValue.{handed_back, opened_anew}
 use Rattle.sheet.proofs.Sheet.open.Goals as goal
 
-pub returns-then-number-ne0 : goal.returns-then-number-ne0
-returns-then-number-ne0 c = handed_back _ _ _ _ c.called-answer.ensures c.if-number-ne0.true
+pub returns-then-is_refused : goal.returns-then-is_refused
+returns-then-is_refused c = handed_back _ _ _ _ c.called-answer.ensures c.if-is_refused.true
 
 pub returns : goal.returns
-returns c = opened_anew _ _ _ _ c.called-answer.ensures c.if-number-ne0.false
+returns c = opened_anew _ _ _ _ c.called-answer.ensures c.if-is_refused.false

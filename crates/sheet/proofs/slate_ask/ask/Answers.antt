@@ -45,15 +45,15 @@ pub returns-then-out-room : goal.returns-then-out-room
 returns-then-out-room c =
     subst (Asks _ _ _ _) (sym c.refusal-then-out-room.ensures) (unasked (own_ground (none (goal.at.returns-then-out-room c).Else-number-ne0) (omega (arith, c.room.ensures, c.if-out-room.true))))
 
-pub returns-then-kept-ne0 : goal.returns-then-kept-ne0
-returns-then-kept-ne0 c =
-    some_fit (none (goal.at.returns-then-kept-ne0 c).Else-number-ne0) (omega (arith, c.room.ensures, c.if-out-room.false)) c.if-kept-ne0.true
+pub returns-then-fits : goal.returns-then-fits
+returns-then-fits c =
+    some_fit (none (goal.at.returns-then-fits c).Else-number-ne0) (omega (arith, c.room.ensures, c.if-out-room.false)) c.if-fits.true
 
 pub write-links-requires : goal.write-links-requires
 write-links-requires c =
-    let t = swept c.args.head.opening.width c.args.head.counts.count _ _ (rules_in c.args.rows.now) (width_so c.requires.1 (none (goal.at.write-links-requires c).Else-number-ne0)).low (few (goal.at.write-links-requires c).Else-number-ne0) (bands_places c.requires.1.room) (lawful_so c.requires.1 (none (goal.at.write-links-requires c).Else-number-ne0)) (drawn_so c.requires.1 (none (goal.at.write-links-requires c).Else-number-ne0)) in record { width = width_so c.requires.1 (none (goal.at.write-links-requires c).Else-number-ne0); lie = t.lie; of_lawful = (rs (goal.at.write-links-requires c).Else-number-ne0, of-rules (goal.at.write-links-requires c).Else-number-ne0, no_word (goal.at.write-links-requires c).Else-number-ne0 c.if-kept-ne0.false); n_in_bounds = omega (arith, c.room.ensures, c.if-out-room.false) }
+    let t = swept c.args.head.opening.width c.args.head.counts.count _ _ (rules_in c.args.rows.now) (width_so c.requires.1 (none (goal.at.write-links-requires c).Else-number-ne0)).low (few (goal.at.write-links-requires c).Else-number-ne0) (bands_places c.requires.1.room) (lawful_so c.requires.1 (none (goal.at.write-links-requires c).Else-number-ne0)) (drawn_so c.requires.1 (none (goal.at.write-links-requires c).Else-number-ne0)) in record { width = width_so c.requires.1 (none (goal.at.write-links-requires c).Else-number-ne0); lie = t.lie; of_lawful = (rs (goal.at.write-links-requires c).Else-number-ne0, of-rules (goal.at.write-links-requires c).Else-number-ne0, no_word (goal.at.write-links-requires c).Else-number-ne0 c.if-fits.false); n_in_bounds = omega (arith, c.room.ensures, c.if-out-room.false) }
 
 pub returns : goal.returns
 returns c =
-    let d = c.write-links.ensures (rs (goal.at.returns c).Else-number-ne0) (of-rules (goal.at.returns c).Else-number-ne0) (no_word (goal.at.returns c).Else-number-ne0 c.if-kept-ne0.false) in
-    none_fits (none (goal.at.returns c).Else-number-ne0) (omega (arith, c.room.ensures, c.if-out-room.false)) c.if-kept-ne0.false d.0 d.1
+    let d = c.write-links.ensures (rs (goal.at.returns c).Else-number-ne0) (of-rules (goal.at.returns c).Else-number-ne0) (no_word (goal.at.returns c).Else-number-ne0 c.if-fits.false) in
+    none_fits (none (goal.at.returns c).Else-number-ne0) (omega (arith, c.room.ensures, c.if-out-room.false)) c.if-fits.false d.0 d.1

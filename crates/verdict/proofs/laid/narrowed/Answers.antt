@@ -3,11 +3,11 @@ use mathlib.Core.Path.{◌∙◌}
 use Rattle.verdict.proofs.Solved.{none_kept}
 use Rattle.verdict.proofs.laid.narrowed.Goals as goal
 
-pub returns-then-before-eq0 : goal.returns-then-before-eq0
-returns-then-before-eq0 c = c.none.ensures ∙ none_kept _ _ _ (c.requires.bounds.none c.if-before-eq0.true)
+pub returns-then-is_none : goal.returns-then-is_none
+returns-then-is_none c = c.none.ensures ∙ none_kept _ _ _ (c.requires.bounds.none c.if-is_none.true)
 
 pub solve-requires : goal.solve-requires
-solve-requires c = record { width = c.requires.width; lie = c.requires.lie; tidy = c.requires.tidy; ends = c.requires.bounds.ends c.if-before-eq0.false }
+solve-requires c = record { width = c.requires.width; lie = c.requires.lie; tidy = c.requires.tidy; ends = c.requires.bounds.ends c.if-is_none.false }
 
 pub returns : goal.returns
 returns c = c.solve.ensures

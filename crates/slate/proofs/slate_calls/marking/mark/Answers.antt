@@ -10,7 +10,7 @@ use Rattle.slate.specs.route.Numbers.{before}
 use Rattle.slate.proofs.Holding.{waits_so}
 use Rattle.slate.specs.slate_calls.route.Done.{Marks}
 use Rattle.slate.specs.slate_calls.route.Done.Marks.{marked, unmarked}
-use Rattle.slate.specs.stepping.route.Steps.Refused.{before_first, own_ground}
+use Rattle.slate.specs.stepping.route.Steps.Refused.{before_first}
 use Rattle.slate.proofs.slate_calls.Marked.{beside_marked, rules_marked}
 use Rattle.slate.proofs.slate_calls.marking.mark.Goals.{Else-refused}
 use Rattle.slate.proofs.slate_calls.marking.mark.Goals as goal
@@ -21,9 +21,6 @@ none a = sym a.refuses-number.ensures ∙ a.if-refused.false
 
 pub returns-then-refused : goal.returns-then-refused
 returns-then-refused c = unmarked (before_first c.refuses-number.ensures (c.if-refused.true))
-
-pub returns-then-full : goal.returns-then-full
-returns-then-full c = unmarked (own_ground (none (goal.at.returns-then-full c).Else-refused) (c.if-full.true))
 
 pub clear_waiting-requires : goal.clear_waiting-requires
 clear_waiting-requires c = waits_so c.requires (none (goal.at.clear_waiting-requires c).Else-refused)

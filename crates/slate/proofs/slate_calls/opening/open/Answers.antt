@@ -26,8 +26,8 @@ high a = subst (λ (k : Terms). a.args.opening.width ≤ k.widest) a.terms.ensur
 is-width : (a : Else-terms-width) → IsWidth a.args.opening.width
 is-width a = record { low = low a; high = omega (arith, high a, widest_held a.args.opening.edition) }
 
-pub returns-then-width-lt1 : goal.returns-then-width-lt1
-returns-then-width-lt1 c = narrow c.if-width-lt1.true
+pub returns-then-is_none : goal.returns-then-is_none
+returns-then-is_none c = narrow c.if-is_none.true
 
 pub returns-then-terms-width : goal.returns-then-terms-width
 returns-then-terms-width c =

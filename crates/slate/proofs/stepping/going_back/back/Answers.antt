@@ -10,7 +10,7 @@ use Rattle.slate.specs.route.Numbers.{before}
 use Rattle.slate.proofs.Holding.{width_so}
 use Rattle.slate.specs.stepping.route.Steps.{Backs, leaves}
 use Rattle.slate.specs.stepping.route.Steps.Backs.{goes_back, stays}
-use Rattle.slate.specs.stepping.route.Steps.Refused.{before_first, own_ground}
+use Rattle.slate.specs.stepping.route.Steps.Refused.{before_first}
 use Rattle.slate.proofs.stepping.Moved.{moved_beside}
 use Rattle.slate.proofs.stepping.SteppedBack.{leaves_low, mark_there, one_more, sought_back}
 use Rattle.slate.proofs.stepping.going_back.back.Goals.{Else-none, Else-refused}
@@ -25,9 +25,6 @@ there b = mark_there b.requires (let none-1 : before b.args.head.stands b.args.h
 
 pub returns-then-refused : goal.returns-then-refused
 returns-then-refused c = stays (before_first c.refuses-number.ensures (c.if-refused.true))
-
-pub returns-then-none : goal.returns-then-none
-returns-then-none c = stays (own_ground (none (goal.at.returns-then-none c).Else-refused) (c.if-none.true))
 
 pub overflow_sub-at : goal.overflow_sub-at
 overflow_sub-at c = omega (arith, c.if-none.false)

@@ -5,7 +5,7 @@ use native.Mathlib.Omega.{arith}
 use Rattle.slate.specs.route.Numbers.{before}
 use Rattle.slate.specs.stepping.route.Steps.{Forwards}
 use Rattle.slate.specs.stepping.route.Steps.Forwards.{goes_on, remains}
-use Rattle.slate.specs.stepping.route.Steps.Refused.{before_first, own_ground}
+use Rattle.slate.specs.stepping.route.Steps.Refused.{before_first}
 use Rattle.slate.proofs.stepping.Moved.{moved_beside}
 use Rattle.slate.proofs.stepping.SteppedForward.{brings_low, marks_there, sought_forward}
 use Rattle.slate.proofs.stepping.going_forward.forward.Goals.{Else-refused}
@@ -17,9 +17,6 @@ none a = sym a.refuses-number.ensures ∙ a.if-refused.false
 
 pub returns-then-refused : goal.returns-then-refused
 returns-then-refused c = remains (before_first c.refuses-number.ensures (c.if-refused.true))
-
-pub returns-then-none : goal.returns-then-none
-returns-then-none c = remains (own_ground (none (goal.at.returns-then-none c).Else-refused) (c.if-none.true))
 
 pub overflow_add-next : goal.overflow_add-next
 overflow_add-next c = omega (arith, marks_there c.requires (none (goal.at.overflow_add-next c).Else-refused) (c.if-none.false))
