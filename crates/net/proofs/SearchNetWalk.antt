@@ -1,4 +1,4 @@
--- The lemmas that the goals of `walk` want where it stops, whatever its tests are and come after. Assumes nothing.
-use Rattle.net.proofs.Going.{given_empty, given_steady, given_spent}
+-- The lemmas that the goals of `walk` want where it is steady or spent, whatever its tests come after. Assumes nothing.
+use Rattle.net.proofs.Going.{given_steady, given_spent}
 
-pub ruleset wanted = (given_empty, given_steady, given_spent)
+pub ruleset wanted = (given_steady, given_spent)

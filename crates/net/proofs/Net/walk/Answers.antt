@@ -6,7 +6,8 @@ use native.Mathlib.Nat.{mod-lt}
 use native.Mathlib.Omega.{arith}
 use Rattle.net_tests.specs.Fits.{JOINS}
 use Rattle.net.specs.Net.{turn}
-use Rattle.net.proofs.Going.{walk_on, walk_start}
+use Rattle.net.specs.route.Run.{walked}
+use Rattle.net.proofs.Going.{given_empty, walk_on, walk_start}
 use Rattle.net.proofs.Net.walk.Goals.{Else-spent, Else-steady}
 use Rattle.net.proofs.Net.walk.Goals as goal
 
@@ -23,6 +24,10 @@ unspent n = n.if-spent.false
 
 pub loop-empty-init : goal.loop-empty-init
 loop-empty-init c = walk_start _ _ _ _ _
+
+pub returns-then-empty : goal.returns-then-empty
+unfolding walked
+returns-then-empty c = given_empty _ _ _ c.loop-empty.invariant c.given.ensures c.if-empty.true
 
 pub nonzero_rem-turn : goal.nonzero_rem-turn
 nonzero_rem-turn c = omega (arith, unsteady (goal.at.nonzero_rem-turn c).Else-steady)
