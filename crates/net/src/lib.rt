@@ -72,7 +72,7 @@ impl Net {
         let mut steps: u64 = 0;
         let mut quiet: usize = 0;
         let mut empty = false;
-        loop {
+        'turns: loop {
             let steady = joined <= quiet;
             let spent = steps == pay;
             if empty {

@@ -16,48 +16,48 @@ turn_below : (steps joined : ℕ) → 0 < joined → joined ≤ JOINS → steps 
 turn_below steps joined h l = omega (arith, mod-lt steps h)
 
 -- where the run goes on, not every join was quiet, and a step is left to pay for
-unsteady : (n : Else-steady) → n.loop-empty.quiet < n.args.self.joined
+unsteady : (n : Else-steady) → n.turns.quiet < n.args.self.joined
 unsteady n = n.if-steady.false
 
-unspent : (n : Else-spent) → n.loop-empty.steps ≡ n.args.pay → ⊥
+unspent : (n : Else-spent) → n.turns.steps ≡ n.args.pay → ⊥
 unspent n = n.if-spent.false
 
-pub loop-empty-init : goal.loop-empty-init
-loop-empty-init c = walk_start _ _ _ _ _
+pub turns-init : goal.turns-init
+turns-init c = walk_start _ _ _ _ _
 
 pub returns-then-empty : goal.returns-then-empty
 unfolding walked
-returns-then-empty c = given_empty _ _ _ c.loop-empty.invariant c.given.ensures c.if-empty.true
+returns-then-empty c = given_empty _ _ _ c.turns.invariant c.given.ensures c.if-empty.true
 
 pub nonzero_rem-turn : goal.nonzero_rem-turn
 nonzero_rem-turn c = omega (arith, unsteady (goal.at.nonzero_rem-turn c).Else-steady)
 
 pub offset_bounds-joins-turn : goal.offset_bounds-joins-turn
 offset_bounds-joins-turn c =
-    omega (arith, turn_below c.loop-empty.steps c.args.self.joined (omega (arith, unsteady (goal.at.offset_bounds-joins-turn c).Else-steady)) c.requires.joins)
+    omega (arith, turn_below c.turns.steps c.args.self.joined (omega (arith, unsteady (goal.at.offset_bounds-joins-turn c).Else-steady)) c.requires.joins)
 
 pub bounds-joins-turn : goal.bounds-joins-turn
 bounds-joins-turn c =
-    turn_below c.loop-empty.steps c.args.self.joined (omega (arith, unsteady (goal.at.bounds-joins-turn c).Else-steady)) c.requires.joins
+    turn_below c.turns.steps c.args.self.joined (omega (arith, unsteady (goal.at.bounds-joins-turn c).Else-steady)) c.requires.joins
 
 pub step-next-requires : goal.step-next-requires
 step-next-requires c =
-    c.requires.names (c.loop-empty.steps % c.args.self.joined) (mod-lt c.loop-empty.steps (omega (arith, unsteady (goal.at.step-next-requires c).Else-steady)))
+    c.requires.names (c.turns.steps % c.args.self.joined) (mod-lt c.turns.steps (omega (arith, unsteady (goal.at.step-next-requires c).Else-steady)))
 
 pub overflow_add-steps : goal.overflow_add-steps
 overflow_add-steps c =
-    omega (arith, unspent (goal.at.overflow_add-steps c).Else-spent, c.loop-empty.invariant.paid, c.ranges.pay)
+    omega (arith, unspent (goal.at.overflow_add-steps c).Else-spent, c.turns.invariant.paid, c.ranges.pay)
 
 pub in_a_row-quiet-requires : goal.in_a_row-quiet-requires
 in_a_row-quiet-requires c =
     omega (arith, unsteady (goal.at.in_a_row-quiet-requires c).Else-steady, c.requires.joins)
 
-pub loop-empty-smaller : goal.loop-empty-smaller
-loop-empty-smaller c =
-    omega (arith, c.loop-empty.invariant.paid, unspent (goal.at.loop-empty-smaller c).Else-spent)
+pub turns-smaller : goal.turns-smaller
+turns-smaller c =
+    omega (arith, c.turns.invariant.paid, unspent (goal.at.turns-smaller c).Else-spent)
 
-pub loop-empty-preserved : goal.loop-empty-preserved
+pub turns-preserved : goal.turns-preserved
 unfolding turn
-loop-empty-preserved c =
-    walk_on _ _ _ c.loop-empty.invariant c.if-empty.false (unsteady (goal.at.loop-empty-preserved c).Else-steady) (omega (arith, c.loop-empty.invariant.paid, unspent (goal.at.loop-empty-preserved c).Else-spent))
+turns-preserved c =
+    walk_on _ _ _ c.turns.invariant c.if-empty.false (unsteady (goal.at.turns-preserved c).Else-steady) (omega (arith, c.turns.invariant.paid, unspent (goal.at.turns-preserved c).Else-spent))
     c.step-next.ensures c.in_a_row-quiet.ensures

@@ -3,8 +3,8 @@ use Rattle.net.specs.route.Run.{stand}
 use Rattle.net.proofs.Going.{Walk}
 use Rattle.net.proofs.Net.walk.Given as goal
 
-abbrev pub invariant-loop-empty : goal.invariant-loop-empty
-invariant-loop-empty l = Walk l.width l.joins l.joined l.initial.words l.pay (stand l.words l.steps l.quiet l.empty)
+abbrev pub invariant-turns : goal.invariant-turns
+invariant-turns l = Walk l.width l.joins l.joined l.initial.words l.pay (stand l.words l.steps l.quiet l.empty)
 
-abbrev pub decreases-loop-empty : goal.decreases-loop-empty
-decreases-loop-empty l = l.pay - l.steps
+abbrev pub decreases-turns : goal.decreases-turns
+decreases-turns l = l.pay - l.steps
