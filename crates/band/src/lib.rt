@@ -1,4 +1,0 @@
-// Passed on from where it stands now, `rows::band`.
-#![tactic(auto)]
-
-pub use rows::band::{Band, Run};

@@ -1,4 +1,0 @@
-// Passed on from where it stands now, `rule::bits`.
-#![tactic(auto)]
-
-pub use rule::bits::Fixed;

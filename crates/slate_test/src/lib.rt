@@ -1,4 +1,0 @@
-// Passed on from where it stands now, `slate::slate_test`.
-#![tactic(auto)]
-
-pub use slate::slate_test::tested;

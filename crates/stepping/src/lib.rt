@@ -1,4 +1,0 @@
-// Passed on from where it stands now, `slate::stepping`.
-#![tactic(auto)]
-
-pub use slate::stepping::{back, forward};
