@@ -16,7 +16,7 @@ use Rattle.word.specs.Word.{top}
 use Rattle.rule.specs.declared.Rule.{Rule}
 use Rattle.rule.specs.Meaning.{AllLawful, Lawful, ends, meets, runs}
 use Rattle.rule.proofs.Runs.{run_ends, runs_later, runs_past}
-use Rattle.rows.proofs.band.Law.{two_runs}
+use Rattle.rule.proofs.band.Law.{two_runs}
 use Rattle.chain.specs.Chain.{BitsLink, Fails, IsChain, Plain, RuleLink}
 use Rattle.chain.specs.Chain.IsChain.{last, more}
 use Rattle.chain.specs.declared.Link.{Link}

@@ -18,9 +18,9 @@ use Rattle.word.specs.Search.{climb, first, sink}
 use Rattle.word.proofs.Search.{first_same}
 use Rattle.rule.specs.declared.Rule.{Rule}
 use Rattle.rule.specs.Meaning.{AllLawful, Lawful, start}
-use Rattle.rows.specs.declared.band.Band.{Band}
-use Rattle.rows.specs.band.route.Band.{band_of, holds}
-use Rattle.rows.proofs.band.Law.{band_law, bit_band, reach_law, start_law}
+use Rattle.rule.specs.declared.band.Band.{Band}
+use Rattle.rule.specs.band.route.Band.{band_of, holds}
+use Rattle.rule.proofs.band.Law.{band_law, bit_band, reach_law, start_law}
 use Rattle.rule.specs.declared.bits.Fixed.{Fixed}
 use Rattle.rule.specs.bits.route.Fixed.{fixed_bits, has_bits}
 use Rattle.rule.proofs.bits.Joined.{fixed_bits_lem}

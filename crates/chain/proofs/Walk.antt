@@ -11,7 +11,7 @@ use Rattle.word.specs.Word.{top}
 use Rattle.word.proofs.Widths.{top-suc}
 use Rattle.rule.specs.declared.Rule.{Rule}
 use Rattle.rule.specs.Meaning.{AllLawful, fits}
-use Rattle.rows.specs.declared.band.Band.{Band}
+use Rattle.rule.specs.declared.band.Band.{Band}
 use Rattle.rule.specs.declared.bits.Fixed.{Fixed}
 use Rattle.rows.specs.route.OfRules.{OfLawful}
 use Rattle.verdict.specs.Kept.{kept}

@@ -11,7 +11,7 @@ use lib.Dec.{eqb}
 use lib.ListN.{length, take}
 use Rattle.word.specs.Word.{IsWidth, top}
 use Rattle.rule.specs.declared.Rule.{Rule}
-use Rattle.rows.specs.band.route.Band.{AllLaid}
+use Rattle.rule.specs.band.route.Band.{AllLaid}
 use Rattle.rule.specs.bits.route.Fixed.{Tidy}
 use Rattle.rule.proofs.bits.Joined.{fixed_tidy}
 use Rattle.rows.proofs.Passes.{bands_laid}

@@ -8,7 +8,7 @@ use native.Mathlib.Omega.{arith, pow_step}
 use lib.Pow.{pow_mono, pow_pos}
 use Rattle.word.specs.Word.{top}
 use Rattle.word.proofs.Widths.{top-suc}
-use Rattle.rows.specs.declared.band.Run.{Run}
+use Rattle.rule.specs.declared.band.Run.{Run}
 use Rattle.column.specs.Column.{columns, size, words_of}
 
 module _ (w : ℕ) where

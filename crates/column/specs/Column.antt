@@ -1,6 +1,6 @@
 -- The columns of a picture: "the line of words in 64 columns".
 use Rattle.std.specs.Prelude.{ℕ, min, ◌+◌, ◌-◌, ◌*◌, ◌^◌}
-use Rattle.rows.specs.declared.band.Run.{Run}
+use Rattle.rule.specs.declared.band.Run.{Run}
 
 abbrev pub COLUMNS : ℕ
 COLUMNS = 64

@@ -5,7 +5,7 @@ ghost use Rattle.std.specs.Prelude.{◌≡◌, ◌<◌};
 ghost use Rattle.word.specs.Word.{IsWidth};
 ghost use Rattle.column.specs.Column.{columns, size, words_of};
 
-use rows::band::Run;
+use rule::band::Run;
 use word::Width;
 
 // As many columns as a picture has at most, which are the words of so many bits.

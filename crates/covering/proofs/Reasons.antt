@@ -13,9 +13,9 @@ use lib.Seq.{get_or-take, length-take-le}
 use Rattle.word.specs.Word.{top}
 use Rattle.rule.specs.declared.Rule.{Rule}
 use Rattle.rule.specs.Meaning.{AllLawful, Lawful, meets, meets7}
-use Rattle.rows.specs.declared.band.Band.{Band}
-use Rattle.rows.specs.band.route.Band.{band_of, holds}
-use Rattle.rows.proofs.band.Law.{band_law, bit_band}
+use Rattle.rule.specs.declared.band.Band.{Band}
+use Rattle.rule.specs.band.route.Band.{band_of, holds}
+use Rattle.rule.proofs.band.Law.{band_law, bit_band}
 use Rattle.rule.specs.bits.route.Fixed.{fixed_bits, has_bits}
 use Rattle.rule.proofs.bits.Joined.{fixed_bits_lem}
 use Rattle.chain.specs.Links.{BITS, link, nth}

@@ -2,7 +2,7 @@
 ghost use Rattle.std.specs.Prelude.{not, List, ◌≡◌, ℕ, ◌≤◌, leb, take};
 ghost use Rattle.word.specs.Word.{IsWidth, top};
 ghost use Rattle.rule.specs.declared.Rule.{Rule as RuleOf};
-ghost use Rattle.rows.specs.band.route.Band.{Laid, holds};
+ghost use Rattle.rule.specs.band.route.Band.{Laid, holds};
 ghost use Rattle.rule.specs.bits.route.Fixed.{Tidy, has_bits};
 ghost use Rattle.rows.specs.route.Bands.{Lie};
 ghost use Rattle.rows.specs.route.OfRules.{OfLawful};
@@ -12,7 +12,7 @@ ghost use Rattle.covering.specs.route.Route.{covered};
 
 use chain::Link;
 use rows::InForce;
-use rows::band::Band;
+use rule::band::Band;
 use rule::Rule;
 use rule::bits::Fixed;
 use word::{Found, Width};

@@ -11,8 +11,8 @@ use borrow.Author.Tests.{le-ltb, ltb-false, ltb-true}
 use lib.Dec.{ltb}
 use lib.ListN.{length, take}
 use Rattle.word.specs.Search.{climb}
-use Rattle.rows.specs.declared.band.Band.{Band}
-use Rattle.rows.specs.band.route.Band.{holds}
+use Rattle.rule.specs.declared.band.Band.{Band}
+use Rattle.rule.specs.band.route.Band.{holds}
 use Rattle.rows.specs.route.Bands.{blank_band}
 use Rattle.chain.specs.declared.Far.{Far}
 use Rattle.chain.specs.declared.Far.TheVariants.{To, Nowhere}

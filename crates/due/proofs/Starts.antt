@@ -12,9 +12,9 @@ use lib.Dec.{eqb}
 use Rattle.word.specs.Search.{sink}
 use Rattle.word.proofs.Climb.{climb_is, no_further}
 use Rattle.word.proofs.Sink.{sink_is}
-use Rattle.rows.specs.declared.band.Band.{Band}
-use Rattle.rows.specs.band.route.Band.{Laid, holds}
-use Rattle.rows.proofs.band.Runs.{inside-from, inside_zero, outside_from, outside_zero}
+use Rattle.rule.specs.declared.band.Band.{Band}
+use Rattle.rule.specs.band.route.Band.{Laid, holds}
+use Rattle.rule.proofs.band.Runs.{inside-from, inside_zero, outside_from, outside_zero}
 use Rattle.chain.specs.declared.Far.{Far}
 use Rattle.chain.specs.declared.Far.TheVariants.{To, Nowhere}
 use Rattle.order.specs.route.Order.{band_at, eve}

@@ -9,8 +9,8 @@ use Prim.Native.Nat.{ℕ, ◌+◌, ◌≤◌, ◌<◌}
 use native.Mathlib.Decide.{dec_le, dec_lt}
 use native.Mathlib.Omega.{arith}
 use lib.ListN.{get_or, length, take}
-use Rattle.rows.specs.declared.band.Band.{Band}
-use Rattle.rows.specs.band.route.Band.{holds}
+use Rattle.rule.specs.declared.band.Band.{Band}
+use Rattle.rule.specs.band.route.Band.{holds}
 use Rattle.rows.specs.route.Bands.{Lie, blank_band}
 use Rattle.rows.proofs.Reading.{laid_take}
 use Rattle.rule.specs.Meaning.{RULES}

@@ -5,7 +5,7 @@ ghost use Rattle.rule.specs.Meaning.{RULES};
 ghost use Rattle.rule.specs.bits.route.Fixed.{fixed_bits};
 ghost use Rattle.rows.specs.route.Rows.{drawn, rules_in};
 
-use rows::band::Band;
+use rule::band::Band;
 use rule::Rule;
 use rule::bits::Fixed;
 use word::Width;

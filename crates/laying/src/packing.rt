@@ -3,7 +3,7 @@ ghost use Rattle.std.specs.Prelude.{◌≡◌, map, ◌++◌, ◌-◌, ◌≤◌
 ghost use Rattle.rule.specs.Meaning.{RULES};
 ghost use Rattle.rows.specs.route.Rows.{bare_row, no_row, rules_in};
 
-use rows::band::Band;
+use rule::band::Band;
 use rule::Rule;
 
 // Takes the rules from place n up to m away.

@@ -13,8 +13,8 @@ use Rattle.word.specs.Search.{climb, first}
 use Rattle.word.proofs.Search.{first_at, first_none}
 use Rattle.word.proofs.Climb.{all_miss, climb_is}
 use Rattle.word.proofs.Searched.{First, first_nothing}
-use Rattle.rows.specs.declared.band.Band.{Band}
-use Rattle.rows.specs.band.route.Band.{all_hold, holds}
+use Rattle.rule.specs.declared.band.Band.{Band}
+use Rattle.rule.specs.band.route.Band.{all_hold, holds}
 use Rattle.rule.specs.declared.bits.Fixed.{Fixed}
 use Rattle.rule.specs.bits.route.Fixed.{has_bits}
 use Rattle.rows.specs.route.Bands.{passes}

@@ -7,8 +7,8 @@ use native.Mathlib.Omega.{arith}
 use lib.ListN.{get_or, take}
 use lib.Seq.{get_or-take}
 use Rattle.word.specs.Search.{sink}
-use Rattle.rows.specs.declared.band.Band.{Band}
-use Rattle.rows.specs.band.route.Band.{holds}
+use Rattle.rule.specs.declared.band.Band.{Band}
+use Rattle.rule.specs.band.route.Band.{holds}
 use Rattle.rule.specs.declared.bits.Fixed.{Fixed}
 use Rattle.rows.specs.route.Bands.{Lie, blank_band}
 use Rattle.rows.proofs.Reading.{laid_take}

@@ -12,9 +12,9 @@ use Rattle.word.specs.Word.{IsWidth, top}
 use Rattle.word.proofs.Tests.{both_pass}
 use Rattle.rule.specs.declared.Rule.{Rule}
 use Rattle.rule.specs.Meaning.{AllLawful, Lawful, RULES, fits, meets}
-use Rattle.rows.specs.declared.band.Band.{Band}
-use Rattle.rows.specs.declared.band.Run.{Run}
-use Rattle.rows.specs.band.route.Band.{AllLaid, band_of}
+use Rattle.rule.specs.declared.band.Band.{Band}
+use Rattle.rule.specs.declared.band.Run.{Run}
+use Rattle.rule.specs.band.route.Band.{AllLaid, band_of}
 use Rattle.rule.specs.declared.bits.Fixed.{Fixed}
 use Rattle.rule.specs.declared.bits.Fixed.TheVariants.{Bits}
 use Rattle.rule.specs.bits.route.Fixed.{Tidy, fixed_bits, fixed_from, joined}

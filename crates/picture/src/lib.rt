@@ -7,7 +7,7 @@ ghost use Rattle.rule.specs.Meaning.{Lawful, meets};
 ghost use Rattle.shade.specs.Cell.{cell_of};
 ghost use Rattle.picture.specs.route.Shown.{shown};
 
-use rows::band::{Band, Run};
+use rule::band::{Band, Run};
 use rows::{InForce, NUMBERS};
 use rule::Rule;
 use rule::bits::Fixed;

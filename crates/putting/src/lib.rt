@@ -7,7 +7,7 @@ ghost use Rattle.rule.specs.bits.route.Fixed.{Tidy};
 ghost use Rattle.putting.specs.route.Put.{is_free, put_at, run_words, section_words};
 
 use rows::InForce;
-use rows::band::Run;
+use rule::band::Run;
 use rule::bits::Fixed;
 use section::Section;
 use word::Found;

@@ -15,8 +15,8 @@ use Rattle.word.specs.Search.{first}
 use Rattle.word.proofs.Search.{first_same}
 use Rattle.rule.specs.declared.Rule.{Rule}
 use Rattle.rule.specs.Meaning.{AllLawful, meets, meets7}
-use Rattle.rows.specs.band.route.Band.{band_of, holds}
-use Rattle.rows.proofs.band.Law.{band_law}
+use Rattle.rule.specs.band.route.Band.{band_of, holds}
+use Rattle.rule.proofs.band.Law.{band_law}
 use Rattle.rule.specs.bits.route.Fixed.{fixed_bits, has_bits}
 use Rattle.rule.proofs.bits.Joined.{fixed_bits_lem}
 use Rattle.chain.specs.declared.Link.{Link}

@@ -4,7 +4,7 @@
 ghost use Rattle.std.specs.Prelude.{◌≡◌, suc, ◌-◌, ◌≤◌, take};
 ghost use Rattle.word.specs.Word.{IsWidth, top};
 ghost use Rattle.word.specs.Search.{first};
-ghost use Rattle.rows.specs.band.route.Band.{Laid, holds};
+ghost use Rattle.rule.specs.band.route.Band.{Laid, holds};
 ghost use Rattle.rule.specs.bits.route.Fixed.{Tidy, has_bits};
 ghost use Rattle.rows.specs.route.Bands.{Lie};
 ghost use Rattle.rows.specs.route.OfRules.{OfLawful};
@@ -14,7 +14,7 @@ ghost use Rattle.finding.specs.Clauses.{first_broken, reason_clauses};
 use chain::Link;
 use finding::Finding;
 use rows::InForce;
-use rows::band::Band;
+use rule::band::Band;
 use rule::Rule;
 use rule::bits::Fixed;
 use word::{Found, Width};

@@ -3,7 +3,7 @@
 use Rattle.std.proofs.Common.{◌≡◌, ℕ, zero, suc, List, [], ◌∷◌, map, length, take, refl, ap, ap₂}
 use Rattle.word.specs.Word.{IsWidth}
 use Rattle.rule.specs.Meaning.{AllLawful}
-use Rattle.rows.specs.band.route.Band.{band_of}
+use Rattle.rule.specs.band.route.Band.{band_of}
 use Rattle.rows.specs.route.Rows.{bands_in, drawn, drawn_row, rule_in, rules_in}
 use Rattle.rows.proofs.Reading.{own_of, rule_of}
 

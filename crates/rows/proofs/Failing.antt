@@ -4,10 +4,10 @@ use mathlib.Core.Bool.{not-not}
 use native.Mathlib.Decide.{dec_le}
 use Rattle.word.specs.Word.{IsWidth, top}
 use Rattle.word.proofs.Widths.{top-suc}
-use Rattle.rows.specs.declared.band.Band.{Band}
-use Rattle.rows.specs.band.route.Band.{Laid, holds, within}
-use Rattle.rows.proofs.band.Runs.{inside-holds, outside_holds}
-use Rattle.rows.proofs.band.Sides.{is_in}
+use Rattle.rule.specs.declared.band.Band.{Band}
+use Rattle.rule.specs.band.route.Band.{Laid, holds, within}
+use Rattle.rule.proofs.band.Runs.{inside-holds, outside_holds}
+use Rattle.rule.proofs.band.Sides.{is_in}
 use Rattle.rows.specs.route.Rows.{band_in, onward}
 use Rattle.rows.proofs.Reading.{machine}
 

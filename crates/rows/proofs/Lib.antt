@@ -1,8 +1,5 @@
-pub mod SearchBandBandWritten
-pub mod SearchBandBandHolds
 pub mod SearchFailsAt
 pub mod SearchBandAt
-pub mod SearchBandBandSeamless
 pub mod Copies
 pub mod Drawn
 pub mod Failing

@@ -6,10 +6,10 @@ use native.Mathlib.Decide.{ℕ_discrete}
 use Rattle.word.specs.Word.{top}
 use Rattle.rule.specs.declared.Rule.{Rule}
 use Rattle.rule.specs.Meaning.{AllLawful, Lawful, fits, meets, meets7}
-use Rattle.rows.specs.declared.band.Band.{Band}
-use Rattle.rows.specs.band.route.Band.{AllLaid, all_hold, band_of, holds, turned_band}
-use Rattle.rows.proofs.band.Law as law
-use Rattle.rows.proofs.band.Turn.{turned_holds}
+use Rattle.rule.specs.declared.band.Band.{Band}
+use Rattle.rule.specs.band.route.Band.{AllLaid, all_hold, band_of, holds, turned_band}
+use Rattle.rule.proofs.band.Law as law
+use Rattle.rule.proofs.band.Turn.{turned_holds}
 use Rattle.rule.specs.declared.bits.Fixed.{Fixed}
 use Rattle.rule.specs.bits.route.Fixed.{Tidy, Within, fixed_bits, turned_bits}
 use Rattle.rule.proofs.bits.Joined.{fixed_bits_lem}

@@ -7,10 +7,10 @@ use Rattle.word.proofs.Widths.{top-suc}
 use Rattle.rule.specs.declared.Rule.{Rule}
 use Rattle.rule.specs.Meaning.{Lawful}
 use Rattle.rule.specs.accept.Accept.{no_rule}
-use Rattle.rows.specs.declared.band.Band.{Band}
-use Rattle.rows.specs.band.route.Band.{AllLaid, Laid, band_of, holds, turned_band}
-use Rattle.rows.proofs.band.Law.{laid}
-use Rattle.rows.proofs.band.Turn.{turned_holds, turned_laid}
+use Rattle.rule.specs.declared.band.Band.{Band}
+use Rattle.rule.specs.band.route.Band.{AllLaid, Laid, band_of, holds, turned_band}
+use Rattle.rule.proofs.band.Law.{laid}
+use Rattle.rule.proofs.band.Turn.{turned_holds, turned_laid}
 use Rattle.rows.specs.route.Bands.{all_seen, blank_band, faced, seen}
 use Rattle.rows.specs.route.Rows.{away, band_in, bands_in, onward, row_of, rule_in, rules_in}
 

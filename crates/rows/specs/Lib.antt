@@ -1,2 +1,1 @@
 pub mod route
-pub mod band

@@ -5,13 +5,11 @@ ghost use Rattle.std.specs.Prelude.{◌≡◌, ◌<◌, ◌≤◌, not, slice_in
 ghost use Rattle.word.specs.Word.{IsWidth, top};
 ghost use Rattle.rule.specs.Meaning.{RULES};
 ghost use Rattle.rule.specs.accept.Accept.{no_rule};
-ghost use Rattle.rows.specs.band.route.Band.{Laid, holds, within};
+ghost use Rattle.rule.specs.band.route.Band.{Laid, holds, within};
 ghost use Rattle.rows.specs.route.Bands.{blank_band, faced, seen};
 ghost use Rattle.rows.specs.route.Rows.{bands_in, onward, row_of, rules_in};
 
-pub mod band;
-
-use crate::band::Band;
+use rule::band::Band;
 use rule::Rule;
 use rule::bits::Fixed;
 use word::Width;

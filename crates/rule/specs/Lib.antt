@@ -1,3 +1,4 @@
 pub mod Meaning
 pub mod bits
 pub mod accept
+pub mod band

@@ -6,6 +6,7 @@ ghost use Rattle.word.specs.Word.{IsWidth, top};
 ghost use Rattle.rule.specs.Meaning.{meets, settled, written};
 
 pub mod accept;
+pub mod band;
 pub mod bits;
 
 use word::Width;

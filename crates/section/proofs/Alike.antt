@@ -8,8 +8,8 @@ use native.Mathlib.Omega.{arith}
 use borrow.Author.Tests.{not-false}
 use Rattle.word.specs.Search.{climb}
 use Rattle.word.proofs.Climb.{Climbed, all_miss, climb_is}
-use Rattle.rows.specs.declared.band.Band.{Band}
-use Rattle.rows.specs.band.route.Band.{all_hold, holds}
+use Rattle.rule.specs.declared.band.Band.{Band}
+use Rattle.rule.specs.band.route.Band.{all_hold, holds}
 use Rattle.rule.specs.declared.bits.Fixed.{Fixed}
 use Rattle.rule.specs.bits.route.Fixed.{has_bits}
 use Rattle.rows.specs.route.Bands.{passes}

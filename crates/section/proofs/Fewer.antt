@@ -16,10 +16,10 @@ use Rattle.word.proofs.Climb.{all_miss, climb_is}
 use Rattle.word.proofs.Count.{count_later, count_past}
 use Rattle.word.proofs.Search.{count_two}
 use Rattle.word.proofs.Tests.{both_pass}
-use Rattle.rows.specs.declared.band.Band.{Band}
-use Rattle.rows.specs.band.route.Band.{AllLaid, Laid, all_hold, holds, other_side}
-use Rattle.rows.proofs.band.Law.{other_holds}
-use Rattle.rows.proofs.band.Runs.{edge, run_ends}
+use Rattle.rule.specs.declared.band.Band.{Band}
+use Rattle.rule.specs.band.route.Band.{AllLaid, Laid, all_hold, holds, other_side}
+use Rattle.rule.proofs.band.Law.{other_holds}
+use Rattle.rule.proofs.band.Runs.{edge, run_ends}
 use Rattle.rows.specs.route.Bands.{Lie}
 use Rattle.section.specs.declared.Section.{Section}
 use Rattle.section.specs.route.Section.{section_at}

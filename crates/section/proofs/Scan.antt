@@ -9,9 +9,9 @@ use native.Mathlib.Omega.{arith}
 use Rattle.word.specs.Search.{climb}
 use Rattle.word.proofs.Climb.{climb_is}
 use Rattle.word.proofs.Search.{climb_same, climb_to}
-use Rattle.rows.specs.declared.band.Band.{Band}
-use Rattle.rows.specs.band.route.Band.{all_hold, holds, other_side}
-use Rattle.rows.proofs.band.Law.{other_holds}
+use Rattle.rule.specs.declared.band.Band.{Band}
+use Rattle.rule.specs.band.route.Band.{all_hold, holds, other_side}
+use Rattle.rule.proofs.band.Law.{other_holds}
 use Rattle.section.specs.declared.Section.{Section}
 use Rattle.section.specs.route.Section.{section, section_at}
 use Rattle.section.specs.route.Sides.{fails, first_failing, some_fails}

@@ -4,14 +4,14 @@
 ghost use Rattle.std.specs.Prelude.{◌≡◌, true, ◌*◌, ◌-◌, ◌≤◌, take};
 ghost use Rattle.rule.specs.Meaning.{RULES};
 ghost use Rattle.word.specs.Search.{climb};
-ghost use Rattle.rows.specs.band.route.Band.{Laid, holds};
+ghost use Rattle.rule.specs.band.route.Band.{Laid, holds};
 ghost use Rattle.rows.specs.route.Bands.{Lie};
 ghost use Rattle.rows.specs.route.Rows.{bands_in};
 ghost use Rattle.section.specs.route.Section.{section_at};
 ghost use Rattle.section.specs.route.Turns.{most_sections};
 ghost use Rattle.section.specs.route.Sides.{fails};
 
-use rows::band::Band;
+use rule::band::Band;
 use rule::Rule;
 
 // Whether the bands hold the words of a section, and its last word.

@@ -12,8 +12,8 @@ use Rattle.word.specs.declared.Found.TheVariants.{At, Nothing}
 use Rattle.word.specs.Search.{climb, first}
 use Rattle.word.proofs.Climb.{climb_is}
 use Rattle.word.proofs.Tests.{both_pass, same_test}
-use Rattle.rows.specs.declared.band.Band.{Band}
-use Rattle.rows.specs.band.route.Band.{all_hold}
+use Rattle.rule.specs.declared.band.Band.{Band}
+use Rattle.rule.specs.band.route.Band.{all_hold}
 use Rattle.rule.specs.declared.bits.Fixed.{Fixed}
 use Rattle.rule.specs.bits.route.Fixed.{has_bits}
 use Rattle.rows.specs.route.Bands.{passes}

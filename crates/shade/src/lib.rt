@@ -10,7 +10,7 @@ ghost use Rattle.covering.specs.Check.{every_word};
 ghost use Rattle.shade.specs.Cell.{cell_of};
 
 use rows::InForce;
-use rows::band::Run;
+use rule::band::Run;
 use rule::Rule;
 use rule::bits::Fixed;
 use word::Found;

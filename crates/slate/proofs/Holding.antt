@@ -14,8 +14,8 @@ use Rattle.word.proofs.Editions.{widest_held}
 use Rattle.word.proofs.Tests.{both_pass}
 use Rattle.rule.specs.declared.Rule.{Rule}
 use Rattle.rule.specs.Meaning.{AllLawful, RULES}
-use Rattle.rows.specs.declared.band.Band.{Band}
-use Rattle.rows.specs.band.route.Band.{AllLaid, band_of}
+use Rattle.rule.specs.declared.band.Band.{Band}
+use Rattle.rule.specs.band.route.Band.{AllLaid, band_of}
 use Rattle.rule.specs.declared.bits.Fixed.{Fixed}
 use Rattle.rule.specs.bits.route.Fixed.{Tidy, Within, fixed_bits}
 use Rattle.rule.proofs.bits.Joined.{fixed_tidy, fixed_within}

@@ -9,7 +9,7 @@ use native.Mathlib.Omega.{arith}
 use lib.ListN.{get_or, length, length-set, set, take}
 use lib.Seq.{get_or-set_other, get_or-set_same, get_or-take, take-take}
 use Rattle.rule.specs.declared.Rule.{Rule}
-use Rattle.rows.specs.declared.band.Band.{Band}
+use Rattle.rule.specs.declared.band.Band.{Band}
 use Rattle.rule.specs.declared.bits.Fixed.{Fixed}
 use Rattle.rule.specs.declared.bits.Fixed.TheVariants.{Bits, Clash}
 use Rattle.rule.specs.bits.route.Fixed.{fixed_bits, fixed_from}

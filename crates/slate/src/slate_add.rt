@@ -6,7 +6,7 @@ mod narrowing;
 
 use crate::{Counts, Head, Said};
 use page::MARKS;
-use rows::band::Band;
+use rule::band::Band;
 use rows::{InForce, NUMBERS};
 use rule::Rule;
 use word::{Edition, Width};

@@ -5,7 +5,7 @@ ghost use Rattle.slate.specs.route.Held.{Held, Room, found_to};
 
 use crate::Head;
 use page::MARKS;
-use rows::band::Run;
+use rule::band::Run;
 use rows::{InForce, NUMBERS};
 use rule::Rule;
 use word::Width;

@@ -8,7 +8,7 @@ use Rattle.word.specs.declared.Found.TheVariants as found
 use Rattle.word.specs.Search.{first}
 use Rattle.word.proofs.Search.{first_at, first_none}
 use Rattle.word.proofs.Searched.{first_is, first_nothing}
-use Rattle.rows.specs.declared.band.Band.{Band}
+use Rattle.rule.specs.declared.band.Band.{Band}
 use Rattle.rule.specs.declared.bits.Fixed.{Fixed}
 use Rattle.rows.specs.route.Bands.{passes}
 use Rattle.leap.specs.route.Leapt.{NoneFrom}

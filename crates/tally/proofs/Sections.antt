@@ -7,7 +7,7 @@ use Prim.Native.Nat.{ℕ, suc, ◌+◌, ◌-◌}
 use native.Mathlib.Omega.{arith}
 use lib.ListN.{length}
 use Rattle.word.specs.Search.{count}
-use Rattle.rows.specs.declared.band.Band.{Band}
+use Rattle.rule.specs.declared.band.Band.{Band}
 use Rattle.rule.specs.declared.bits.Fixed.{Fixed}
 use Rattle.rule.specs.bits.route.Fixed.{has_bits}
 use Rattle.rows.specs.route.Bands.{passes}

@@ -13,7 +13,7 @@ ghost use Rattle.word.specs.Word.{top};
 ghost use Rattle.rule.specs.Meaning.{Lawful};
 ghost use Rattle.trial_direct.specs.Trial.{Narrow};
 
-use rows::band::Band;
+use rule::band::Band;
 use rule::Rule;
 use trial_direct::rules::{negated, rule};
 use trial_direct::{direct, rules};

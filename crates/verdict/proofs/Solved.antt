@@ -14,8 +14,8 @@ use Rattle.word.specs.Search.{first, last}
 use Rattle.word.proofs.Search.{first_at, first_none}
 use Rattle.word.proofs.Searched.{first_is, first_nothing}
 use Rattle.word.proofs.Turn.{back, turned_back}
-use Rattle.rows.specs.declared.band.Band.{Band}
-use Rattle.rows.specs.band.route.Band.{AllLaid, turned_band}
+use Rattle.rule.specs.declared.band.Band.{Band}
+use Rattle.rule.specs.band.route.Band.{AllLaid, turned_band}
 use Rattle.rule.specs.declared.bits.Fixed.{Fixed}
 use Rattle.rule.specs.bits.route.Fixed.{Tidy, Within, turned_bits}
 use Rattle.rows.specs.route.Bands.{passes}

@@ -9,7 +9,7 @@ ghost use Rattle.verdict.specs.route.OnBands.{Bounds, Ends, kept_by};
 
 use crate::Kept;
 use rows::InForce;
-use rows::band::Run;
+use rule::band::Run;
 use rule::Rule;
 use word::Found;
 

@@ -2,8 +2,8 @@
 -- of rules it is the paper's step is proved (proofs/OnBands.antt).
 use Rattle.std.specs.Prelude.{true, false, List, [], ◌∷◌, ℕ, suc, ◌-◌, get_or}
 use Rattle.word.specs.Search.{climb, first, sink}
-use Rattle.rows.specs.declared.band.Band.{Band}
-use Rattle.rows.specs.band.route.Band.{holds}
+use Rattle.rule.specs.declared.band.Band.{Band}
+use Rattle.rule.specs.band.route.Band.{holds}
 use Rattle.rule.specs.declared.bits.Fixed.{Fixed}
 use Rattle.rule.specs.bits.route.Fixed.{has_bits}
 use Rattle.rows.specs.route.Bands.{blank_band}

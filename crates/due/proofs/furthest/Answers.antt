@@ -7,8 +7,8 @@ use native.Mathlib.Omega.{arith}
 use borrow.Author.Count.{below_more}
 use lib.ListN.{get_or, take}
 use Rattle.word.specs.Search.{climb}
-use Rattle.rows.specs.band.route.Band.{Laid, holds}
-use Rattle.rows.specs.declared.band.Band.{Band}
+use Rattle.rule.specs.band.route.Band.{Laid, holds}
+use Rattle.rule.specs.declared.band.Band.{Band}
 use Rattle.rows.specs.route.Bands.{Lie, blank_band, seen}
 use Rattle.rows.specs.route.Rows.{bands_in}
 use Rattle.rows.proofs.Reading.{laid_take}

@@ -1,7 +1,7 @@
 -- What the walk by the order knows at a word. A route: what it finds is what a search over all bands finds (proofs/Walk.antt).
 use Rattle.std.specs.Prelude.{◌≡◌, true, false, cond, List, ℕ, ◌≤◌, ◌<◌, ltb}
-use Rattle.rows.specs.declared.band.Band.{Band}
-use Rattle.rows.specs.band.route.Band.{holds}
+use Rattle.rule.specs.declared.band.Band.{Band}
+use Rattle.rule.specs.band.route.Band.{holds}
 use Rattle.chain.specs.declared.Far.{Far}
 use Rattle.chain.specs.declared.Far.TheVariants.{To, Nowhere}
 use Rattle.order.specs.route.Order.{band_at, eve, placed_band}

@@ -9,7 +9,7 @@ use native.Mathlib.Omega.{arith}
 use lib.ListN.{length, take}
 use lib.Seq.{take-nil}
 use Rattle.word.specs.Word.{top}
-use Rattle.rows.specs.declared.band.Band.{Band}
+use Rattle.rule.specs.declared.band.Band.{Band}
 use Rattle.rows.specs.route.Bands.{Lie, passes}
 use Rattle.rows.specs.route.Rows.{bands_in}
 use Rattle.section.specs.route.Turns.{turns_from}

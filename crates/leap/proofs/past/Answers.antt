@@ -9,8 +9,8 @@ use lib.Seq.{get_or-take, length-take-le}
 use Rattle.word.specs.Word.{top}
 use Rattle.word.specs.Search.{climb}
 use Rattle.word.proofs.Searched.{First, first_is}
-use Rattle.rows.specs.declared.band.Band.{Band}
-use Rattle.rows.specs.band.route.Band.{Laid, holds}
+use Rattle.rule.specs.declared.band.Band.{Band}
+use Rattle.rule.specs.band.route.Band.{Laid, holds}
 use Rattle.rule.specs.bits.route.Fixed.{has_bits}
 use Rattle.rows.specs.route.Bands.{all_seen, blank_band, seen}
 use Rattle.rows.specs.route.Rows.{bands_in}

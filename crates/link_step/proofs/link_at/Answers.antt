@@ -7,8 +7,8 @@ use native.Mathlib.Omega.{arith}
 use lib.ListN.{get_or}
 use Rattle.word.specs.Word.{top}
 use Rattle.word.specs.Search.{sink}
-use Rattle.rows.specs.band.route.Band.{Laid, holds}
-use Rattle.rows.specs.declared.band.Band.{Band}
+use Rattle.rule.specs.band.route.Band.{Laid, holds}
+use Rattle.rule.specs.declared.band.Band.{Band}
 use Rattle.rows.specs.route.Bands.{blank_band, seen}
 use Rattle.rows.specs.route.Rows.{bands_in}
 use Rattle.chain.specs.declared.Far.TheVariants.{To}

@@ -11,8 +11,8 @@ use lib.ListN.{length, length-map, take}
 use lib.Seq.{length-take-le}
 use Rattle.word.specs.Word.{top}
 use Rattle.rule.specs.declared.Rule.{Rule}
-use Rattle.rows.specs.declared.band.Band.{Band}
-use Rattle.rows.specs.band.route.Band.{band_of}
+use Rattle.rule.specs.declared.band.Band.{Band}
+use Rattle.rule.specs.band.route.Band.{band_of}
 use Rattle.rule.specs.bits.route.Fixed.{Tidy}
 use Rattle.rule.proofs.bits.Joined.{fixed_tidy}
 use Rattle.rows.specs.route.Bands.{Lie}

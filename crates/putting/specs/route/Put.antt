@@ -1,7 +1,7 @@
 -- Words put into a buffer. A route: what a listing writes is said elsewhere.
 use Rattle.std.specs.Prelude.{Bool, true, false, cond, List, [], ◌++◌, ℕ, suc, ◌+◌, ◌-◌, drop, length, take, eqb}
 use Rattle.word.specs.Search.{passing}
-use Rattle.rows.specs.declared.band.Run.{Run}
+use Rattle.rule.specs.declared.band.Run.{Run}
 use Rattle.rule.specs.declared.bits.Fixed.{Fixed}
 use Rattle.rule.specs.declared.bits.Fixed.TheVariants.{Bits, Clash}
 use Rattle.rule.specs.bits.route.Fixed.{has_bits}

@@ -6,8 +6,8 @@ use Prim.Native.Nat.{ℕ, ◌-◌, ◌<◌}
 use native.Mathlib.Numerals.{add-one}
 use native.Mathlib.Omega.{arith}
 use lib.ListN.{get_or, length, take}
-use Rattle.rows.specs.band.route.Band.{Laid}
-use Rattle.rows.specs.declared.band.Band.{Band}
+use Rattle.rule.specs.band.route.Band.{Laid}
+use Rattle.rule.specs.declared.band.Band.{Band}
 use Rattle.rows.proofs.Reading.{laid_take}
 use Rattle.rows.specs.route.Bands.{blank_band, seen}
 use Rattle.chain.specs.declared.Far.{Far}

@@ -3,7 +3,7 @@ use mathlib.Core.Path.{sym, ap, ◌∙◌}
 use native.Mathlib.Omega.{arith}
 use Prim.Native.Nat.{ℕ, ◌+◌}
 use Rattle.word.specs.declared.Found.TheVariants.{At}
-use Rattle.rows.specs.band.route.Band.{holds}
+use Rattle.rule.specs.band.route.Band.{holds}
 use Rattle.reason.proofs.Meeting.{after_run, at_once, run_covers}
 use Rattle.reason.proofs.held.Goals as goal
 

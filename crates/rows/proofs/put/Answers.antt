@@ -2,7 +2,7 @@
 use Rattle.std.proofs.Common.{◌≡◌, ℕ, Bool, true, false, cond, List, [], ◌∷◌, set, refl, ap₂, arith}
 use mir.Val.{bool_byte}
 use Rattle.rule.specs.declared.Rule.{Rule}
-use Rattle.rows.specs.declared.band.Band.{Band}
+use Rattle.rule.specs.declared.band.Band.{Band}
 use Rattle.rows.specs.route.Rows.{row_of}
 use Rattle.rows.proofs.Reading.{far_so}
 use Rattle.rows.proofs.put.Goals as goal

@@ -1,6 +1,6 @@
 -- `reaches` meets its contract: how far up from the start a word is tells whether it is met. Assumes nothing.
 use Rattle.std.proofs.Common.{arith}
-use Rattle.rows.proofs.band.Arcs.{by_differences}
+use Rattle.rule.proofs.band.Arcs.{by_differences}
 use Rattle.rows.specs.route.Rows.{onward}
 use Rattle.rows.proofs.reaches.Goals as goal
 

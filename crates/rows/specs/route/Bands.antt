@@ -2,8 +2,8 @@
 -- of rules exactly when it fits is proved (proofs/Passes.antt).
 use Rattle.std.specs.Prelude.{◌≡◌, ℕ, ◌-◌, ◌≤◌, Bool, false, cond, ◌&&◌, List, map, length, take}
 use Rattle.rule.specs.Meaning.{RULES}
-use Rattle.rows.specs.declared.band.Band.{Band}
-use Rattle.rows.specs.band.route.Band.{AllLaid, all_hold, turned_band}
+use Rattle.rule.specs.declared.band.Band.{Band}
+use Rattle.rule.specs.band.route.Band.{AllLaid, all_hold, turned_band}
 use Rattle.rule.specs.declared.bits.Fixed.{Fixed}
 use Rattle.rule.specs.bits.route.Fixed.{has_bits}
 

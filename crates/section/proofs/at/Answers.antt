@@ -9,8 +9,8 @@ use native.Mathlib.Omega.{arith}
 use lib.ListN.{drop, drop_of_length-le, get_or, length, take}
 use lib.Seq.{drop-cons, get_or-take, length-take-le}
 use Rattle.word.specs.Search.{climb}
-use Rattle.rows.specs.declared.band.Band.{Band}
-use Rattle.rows.specs.band.route.Band.{Laid, holds}
+use Rattle.rule.specs.declared.band.Band.{Band}
+use Rattle.rule.specs.band.route.Band.{Laid, holds}
 use Rattle.rows.specs.route.Bands.{blank_band, seen}
 use Rattle.rows.specs.route.Rows.{bands_in}
 use Rattle.rows.proofs.Reading.{laid_take}

@@ -1,7 +1,7 @@
 -- `last_held` meets its contract: the words that the band holds are those that its other side fails. Assumes nothing.
 use mathlib.Core.Path.{ap, ◌∙◌}
 use mathlib.Core.Bool.{not}
-use Rattle.rows.proofs.band.Law.{other_holds}
+use Rattle.rule.proofs.band.Law.{other_holds}
 use Rattle.section.proofs.Scan.{other_climb}
 use Rattle.section.proofs.last_held.Goals as goal
 

@@ -2,8 +2,8 @@
 -- goes as its first is proved (proofs/Alike.antt).
 use Rattle.std.specs.Prelude.{Bool, true, false, cond, List, ℕ, ◌-◌}
 use Rattle.word.specs.Search.{climb}
-use Rattle.rows.specs.declared.band.Band.{Band}
-use Rattle.rows.specs.band.route.Band.{all_hold, holds}
+use Rattle.rule.specs.declared.band.Band.{Band}
+use Rattle.rule.specs.band.route.Band.{all_hold, holds}
 use Rattle.section.specs.declared.Section.{Section}
 use Rattle.section.specs.route.Sides.{first_failing, some_fails}
 

@@ -1,7 +1,7 @@
 -- What a word does at bands that it fails. A route, as a band is.
 use Rattle.std.specs.Prelude.{Bool, not, cond, List, [], ◌∷◌, ℕ}
-use Rattle.rows.specs.declared.band.Band.{Band}
-use Rattle.rows.specs.band.route.Band.{all_hold, holds}
+use Rattle.rule.specs.declared.band.Band.{Band}
+use Rattle.rule.specs.band.route.Band.{all_hold, holds}
 use Rattle.rows.specs.route.Bands.{blank_band}
 
 -- the band fails the word x

@@ -1,8 +1,8 @@
 -- How many sections there are: each but the last ends where a band turns. A route, as a band is.
 use Rattle.std.specs.Prelude.{Bool, not, cond, List, [], ◌∷◌, ℕ, zero, suc, ◌+◌, ◌*◌, ◌-◌, eqb}
 use Rattle.word.specs.Search.{count}
-use Rattle.rows.specs.declared.band.Band.{Band}
-use Rattle.rows.specs.band.route.Band.{holds}
+use Rattle.rule.specs.declared.band.Band.{Band}
+use Rattle.rule.specs.band.route.Band.{holds}
 use Rattle.section.specs.route.Section.{section_at}
 
 -- the band turns after the word x: it holds one of x and the next word, and fails the other

@@ -18,8 +18,8 @@ use Rattle.rule.specs.accept.Accept.{acceptable, every, refusal_of}
 use Rattle.rule.proofs.accept.Accepted.{all_lawful}
 use Rattle.rule.proofs.accept.Choices.{never}
 use Rattle.rule.proofs.accept.Every.{every_append}
-use Rattle.rows.specs.declared.band.Band.{Band}
-use Rattle.rows.specs.band.route.Band.{band_of, holds}
+use Rattle.rule.specs.declared.band.Band.{Band}
+use Rattle.rule.specs.band.route.Band.{band_of, holds}
 use Rattle.rule.specs.declared.bits.Fixed.{Fixed}
 use Rattle.rule.specs.bits.route.Fixed.{fixed_bits, fixed_from, has_bits, joined}
 use Rattle.rows.specs.route.Rows.{band_in, bands_in, row_of, rules_in}

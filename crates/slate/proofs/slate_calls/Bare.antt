@@ -9,7 +9,7 @@ use lib.Seq.{length-take-le, take_at}
 use Rattle.rule.specs.declared.Rule.{Rule}
 use Rattle.rule.specs.Meaning.{RULES}
 use Rattle.rule.specs.accept.Accept.{no_rule}
-use Rattle.rows.specs.band.route.Band.{band_of}
+use Rattle.rule.specs.band.route.Band.{band_of}
 use Rattle.rule.specs.bits.route.Fixed.{fixed_bits}
 use Rattle.rows.specs.route.Rows.{band_in, bands_in, no_row, rule_in, rules_in}
 use Rattle.page.specs.Page.{MARKS}

@@ -5,7 +5,7 @@ use Prim.Native.Nat.{ℕ}
 use native.Mathlib.Omega.{arith}
 use lib.ListN.{take}
 use Rattle.rule.specs.declared.Rule.{Rule}
-use Rattle.rows.specs.band.route.Band.{band_of}
+use Rattle.rule.specs.band.route.Band.{band_of}
 use Rattle.rule.specs.bits.route.Fixed.{fixed_bits}
 use Rattle.rows.specs.route.Rows.{bands_in, rules_in}
 use Rattle.verdict.specs.Kept.{kept}

@@ -7,7 +7,7 @@ use native.Mathlib.Omega.{arith}
 use lib.ListN.{take}
 use Rattle.word.specs.declared.Edition.{Edition}
 use Rattle.rule.specs.declared.Rule.{Rule}
-use Rattle.rows.specs.band.route.Band.{band_of}
+use Rattle.rule.specs.band.route.Band.{band_of}
 use Rattle.rule.specs.declared.bits.Fixed.{Fixed}
 use Rattle.rule.specs.bits.route.Fixed.{fixed_bits}
 use Rattle.verdict.specs.declared.Kept.{Kept}

@@ -9,7 +9,7 @@ use lib.ListN.{length, length-map, take}
 use Rattle.word.specs.Word.{IsWidth}
 use Rattle.rule.specs.declared.Rule.{Rule}
 use Rattle.rule.specs.Meaning.{AllLawful, RULES}
-use Rattle.rows.specs.band.route.Band.{band_of}
+use Rattle.rule.specs.band.route.Band.{band_of}
 use Rattle.rule.specs.declared.bits.Fixed.{Fixed}
 use Rattle.rule.specs.bits.route.Fixed.{fixed_bits}
 use Rattle.rows.specs.route.Rows.{band_in, bands_in, drawn, rules_in}

@@ -4,7 +4,7 @@ use Rattle.std.specs.Prelude.{◌≡◌, Bool, true, List, ◌++◌, ℕ, ◌+�
 use Rattle.rule.specs.declared.Rule.{Rule}
 use Rattle.rule.specs.Meaning.{RULES}
 use Rattle.rule.specs.accept.Accept.{no_rule}
-use Rattle.rows.specs.declared.band.Band.{Band}
+use Rattle.rule.specs.declared.band.Band.{Band}
 use Rattle.rule.specs.declared.bits.Fixed.{Fixed}
 use Rattle.rows.specs.route.OfRules.{OfRules}
 use Rattle.rows.specs.route.Rows.{bands_in, no_row, rules_in}

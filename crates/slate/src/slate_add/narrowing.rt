@@ -4,7 +4,7 @@ ghost use Rattle.rows.specs.route.Rows.{bands_in};
 ghost use Rattle.verdict.specs.route.OnBands.{kept_by};
 ghost use Rattle.slate.specs.slate_add.route.Narrows.{Narrows, stays_so};
 
-use rows::band::Band;
+use rule::band::Band;
 use rows::{InForce, NUMBERS};
 use rule::Rule;
 use rule::bits::Fixed;

@@ -5,7 +5,7 @@ use Prim.Native.Nat.{ℕ}
 use native.Mathlib.Omega.{arith}
 use lib.ListN.{take}
 use Rattle.word.specs.Word.{top}
-use Rattle.rows.specs.declared.band.Band.{Band}
+use Rattle.rule.specs.declared.band.Band.{Band}
 use Rattle.rows.specs.route.Bands.{all_seen}
 use Rattle.rows.specs.route.Rows.{bands_in}
 use Rattle.leap.proofs.Steps.{found_none}

@@ -3,7 +3,7 @@ use mathlib.Core.List.{List}
 use Prim.Native.Nat.{ℕ}
 use lib.ListN.{take}
 use Rattle.word.specs.Word.{top}
-use Rattle.rows.specs.declared.band.Band.{Band}
+use Rattle.rule.specs.declared.band.Band.{Band}
 use Rattle.rows.specs.route.Bands.{all_seen}
 use Rattle.rows.specs.route.Rows.{bands_in}
 use Rattle.sweep.proofs.Ways.{same_found}

@@ -15,8 +15,8 @@ use Rattle.word.specs.declared.Found.TheVariants.{At, Nothing}
 use Rattle.word.specs.Word.{top}
 use Rattle.word.specs.Search.{climb, first}
 use Rattle.word.proofs.Searched.{First, first_is}
-use Rattle.rows.specs.declared.band.Band.{Band}
-use Rattle.rows.specs.band.route.Band.{Laid, all_hold, holds}
+use Rattle.rule.specs.declared.band.Band.{Band}
+use Rattle.rule.specs.band.route.Band.{Laid, all_hold, holds}
 use Rattle.rule.specs.bits.route.Fixed.{has_bits}
 use Rattle.rows.specs.route.Bands.{all_seen, blank_band, faced, passes, seen}
 use Rattle.rows.specs.route.Rows.{bands_in}

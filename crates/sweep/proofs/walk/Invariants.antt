@@ -4,7 +4,7 @@ use Prim.Native.Nat.{ℕ, suc, ◌+◌, ◌-◌, ◌≤◌}
 use lib.ListN.{take}
 use Rattle.word.specs.declared.Found.TheVariants.{Nothing}
 use Rattle.word.specs.Word.{top}
-use Rattle.rows.specs.band.route.Band.{all_hold}
+use Rattle.rule.specs.band.route.Band.{all_hold}
 use Rattle.rows.specs.route.Bands.{all_seen}
 use Rattle.rows.specs.route.Rows.{bands_in}
 use Rattle.leap.specs.route.Leapt.{NoneFrom}

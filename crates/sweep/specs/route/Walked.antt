@@ -3,7 +3,7 @@ use Rattle.std.specs.Prelude.{◌≡◌, List, ℕ, suc, ◌-◌, ◌≤◌}
 use Rattle.word.specs.declared.Found.{Found}
 use Rattle.word.specs.declared.Found.TheVariants as found
 use Rattle.word.specs.Search.{first}
-use Rattle.rows.specs.declared.band.Band.{Band}
+use Rattle.rule.specs.declared.band.Band.{Band}
 use Rattle.rule.specs.declared.bits.Fixed.{Fixed}
 use Rattle.rows.specs.route.Bands.{passes}
 use Rattle.leap.specs.route.Leapt.{NoneFrom}

@@ -2,7 +2,7 @@
 use mathlib.Core.Path.{sym, ◌∙◌}
 use native.Mathlib.Omega.{arith}
 use Rattle.rule.specs.Meaning.{AllLawful}
-use Rattle.rows.proofs.band.Law.{laid}
+use Rattle.rule.proofs.band.Law.{laid}
 use Rattle.try_rules.proofs.same_run.Goals as goal
 
 pub run-run-requires : goal.run-run-requires

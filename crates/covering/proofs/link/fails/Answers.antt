@@ -2,7 +2,7 @@
 use mathlib.Core.Path.{sym, ap, ◌∙◌}
 use native.Mathlib.Omega.{arith}
 use lib.Dec.{leb}
-use Rattle.rows.specs.band.route.Band.{holds}
+use Rattle.rule.specs.band.route.Band.{holds}
 use Rattle.covering.proofs.EveryWord.{first_passes, run_misses}
 use Rattle.covering.proofs.link.fails.Goals as goal
 

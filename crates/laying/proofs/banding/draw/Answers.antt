@@ -8,8 +8,8 @@ use native.Mathlib.Omega.{arith}
 use lib.ListN.{get_or-map, get_or, length-map, set}
 use Rattle.rule.specs.declared.Rule.{Rule}
 use Rattle.rule.specs.accept.Accept.{no_rule}
-use Rattle.rows.specs.declared.band.Band.{Band}
-use Rattle.rows.specs.band.route.Band.{band_of}
+use Rattle.rule.specs.declared.band.Band.{Band}
+use Rattle.rule.specs.band.route.Band.{band_of}
 use Rattle.rows.specs.route.Rows.{drawn, drawn_row, row_of, rule_in, rules_in}
 use Rattle.rows.proofs.Copies.{copied}
 use Rattle.rows.proofs.Drawn.{drawn_rules}

@@ -2,8 +2,8 @@
 -- (verdict: proofs/Unmoved.antt).
 use Rattle.std.specs.Prelude.{◌≡◌, Bool, true, not, ◌&&◌, List, ℕ, eqb, take}
 use Rattle.word.specs.Word.{IsWidth, top}
-use Rattle.rows.specs.declared.band.Band.{Band}
-use Rattle.rows.specs.band.route.Band.{holds}
+use Rattle.rule.specs.declared.band.Band.{Band}
+use Rattle.rule.specs.band.route.Band.{holds}
 use Rattle.rule.specs.declared.bits.Fixed.{Fixed}
 use Rattle.rule.specs.bits.route.Fixed.{Tidy, Within, has_bits}
 use Rattle.rows.specs.route.Bands.{Lie}

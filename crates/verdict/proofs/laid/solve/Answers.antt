@@ -12,7 +12,7 @@ use Rattle.word.specs.Word.{top}
 use Rattle.word.specs.Search.{first, last}
 use Rattle.word.proofs.Searched.{first_is}
 use Rattle.word.proofs.Turn.{back}
-use Rattle.rows.specs.band.route.Band.{turned_band}
+use Rattle.rule.specs.band.route.Band.{turned_band}
 use Rattle.rule.specs.declared.bits.Fixed.{Fixed}
 use Rattle.rule.specs.bits.route.Fixed.{Tidy}
 use Rattle.rule.proofs.bits.Turn.{turned_tidy}

@@ -5,9 +5,9 @@ use native.Mathlib.Decide.{dec_le, dec_lt, ℕ_discrete}
 use borrow.Author.Tests.{not-false}
 use Rattle.word.specs.Search.{climb, sink}
 use Rattle.word.proofs.Search.{climb_to, sink_to}
-use Rattle.rows.specs.declared.band.Band.{Band}
-use Rattle.rows.specs.band.route.Band.{Laid, holds, within}
-use Rattle.rows.proofs.band.Sides.{In, Out, is_in, is_out, in_of, out_of}
+use Rattle.rule.specs.declared.band.Band.{Band}
+use Rattle.rule.specs.band.route.Band.{Laid, holds, within}
+use Rattle.rule.proofs.band.Sides.{In, Out, is_in, is_out, in_of, out_of}
 
 module _ (b : Band) where
   pub inside-holds : b.inside ≡ true → (x : ℕ) → holds b x ≡ not (within b.from b.to x)

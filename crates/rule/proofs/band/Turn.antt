@@ -1,9 +1,9 @@
 -- A band on the wheel of words turned round: a word is within an arc exactly when its turn is within the turned arc, whose
 -- ends have changed places. Assumes nothing.
 use Rattle.std.proofs.Common.{◌≡◌, ℕ, ◌-◌, ◌≤◌, Bool, cond, not, sym, ap, ◌∙◌, inl, inr, ⊎_elim, arith}
-use Rattle.rows.specs.declared.band.Band.{Band}
-use Rattle.rows.specs.band.route.Band.{Laid, holds, turned_band, within}
-use Rattle.rows.proofs.band.Sides.{In, Out, is_in, is_out, sides}
+use Rattle.rule.specs.declared.band.Band.{Band}
+use Rattle.rule.specs.band.route.Band.{Laid, holds, turned_band, within}
+use Rattle.rule.proofs.band.Sides.{In, Out, is_in, is_out, sides}
 
 within_turned : (t a b x : ℕ) → a ≤ t → b ≤ t → x ≤ t → within (t - b) (t - a) x ≡ within a b (t - x)
 within_turned t a b x ha hb hx =

@@ -3,8 +3,8 @@ use Rattle.std.proofs.Common.{◌≡◌, ℕ, ◌-◌, ◌<◌, ◌≤◌, Bool,
 use borrow.Author.Tests.{lt-leb}
 use Rattle.word.specs.Word.{half, plus, top}
 use Rattle.word.proofs.Widths.{half_pos}
-use Rattle.rows.specs.band.route.Band.{settled_band, span, wheel}
-use Rattle.rows.proofs.band.Band.settled.Goals as goal
+use Rattle.rule.specs.band.route.Band.{settled_band, span, wheel}
+use Rattle.rule.proofs.band.Band.settled.Goals as goal
 
 -- h is what the code has for half
 module _ (w c1 c2 : ℕ) {h : ℕ} (is-half : h ≡ half w) where

@@ -3,7 +3,7 @@
 use Rattle.std.proofs.Common.{◌≡◌, ℕ, ◌<◌, ◌≤◌, Bool, true, false, cond, ◌&&◌, ◌||◌, leb, ◌⊎◌, sym, ◌∙◌, inl, inr, ⊎_elim, true≢false, arith, le-leb}
 use native.Mathlib.Decide.{dec_le}
 use borrow.Author.Tests.{lt-leb}
-use Rattle.rows.specs.band.route.Band.{within}
+use Rattle.rule.specs.band.route.Band.{within}
 
 abbrev pub In : (a b x : ℕ) → Type 0
 In a b x = ((a ≤ x) × (x ≤ b)) ⊎ (((b < a) × (x ≤ b)) ⊎ ((b < a) × (a ≤ x)))

@@ -5,8 +5,8 @@ use Rattle.word.specs.Word.{top, minus}
 use Rattle.rule.specs.declared.Rule.{Rule}
 use Rattle.rule.specs.Meaning.{FORMS}
 use Rattle.rule.proofs.Forms.{Rows, by_form, row}
-use Rattle.rows.specs.declared.band.Band.{Band}
-use Rattle.rows.specs.band.route.Band.{by_sense, other_side, seamless, span, wheel, written_band, written_bands}
+use Rattle.rule.specs.declared.band.Band.{Band}
+use Rattle.rule.specs.band.route.Band.{by_sense, other_side, seamless, span, wheel, written_band, written_bands}
 
 module _ (w : ℕ) (b : Band) where
   pub whole_band : minus w b.to b.from ≡ top w → seamless w b ≡ wheel (top w) b.inside

@@ -3,7 +3,7 @@
 use Rattle.std.specs.Prelude.{◌≡◌, ℕ, suc, ◌-◌, ◌≤◌, Bool, true, false, cond, not, ◌&&◌, ◌||◌, List, [], ◌∷◌, ◌==◌, nat_le, slice_index_or}
 use Rattle.word.specs.Word.{top, half, plus, minus}
 use Rattle.rule.specs.declared.Rule.{Rule}
-use Rattle.rows.specs.declared.band.Band.{Band}
+use Rattle.rule.specs.declared.band.Band.{Band}
 
 -- x is met on the way up from a to b, round past the top word where b is below a
 unfoldable pub within : (a b x : ℕ) → Bool

@@ -1,7 +1,7 @@
 -- `Band::of` meets its contract. Assumes nothing.
 use Rattle.std.proofs.Common.{ap, ◌∙◌}
-use Rattle.rows.specs.band.route.Band.{band_of, by_sense, seamless}
-use Rattle.rows.proofs.band.Band.of.Goals as goal
+use Rattle.rule.specs.band.route.Band.{band_of, by_sense, seamless}
+use Rattle.rule.proofs.band.Band.of.Goals as goal
 
 pub returns : goal.returns
 unfolding band_of

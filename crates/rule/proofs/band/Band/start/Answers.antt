@@ -1,7 +1,7 @@
 -- `Band::start` meets its contract: one law for each way out. Assumes nothing.
 use Rattle.std.proofs.Common.{sym}
-use Rattle.rows.proofs.band.Runs.{inside-from, inside_zero, outside_from, outside_zero}
-use Rattle.rows.proofs.band.Band.start.Goals as goal
+use Rattle.rule.proofs.band.Runs.{inside-from, inside_zero, outside_from, outside_zero}
+use Rattle.rule.proofs.band.Band.start.Goals as goal
 
 pub returns-then-self-p : goal.returns-then-self-p
 returns-then-self-p c =

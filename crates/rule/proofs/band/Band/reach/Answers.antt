@@ -1,7 +1,7 @@
 -- `Band::reach` meets its contract: one law for each way out. Assumes nothing.
 use Rattle.std.proofs.Common.{sym}
-use Rattle.rows.proofs.band.Runs.{inside-to, inside_top, outside_to, outside_top}
-use Rattle.rows.proofs.band.Band.reach.Goals as goal
+use Rattle.rule.proofs.band.Runs.{inside-to, inside_top, outside_to, outside_top}
+use Rattle.rule.proofs.band.Band.reach.Goals as goal
 
 pub returns-then-p-self : goal.returns-then-p-self
 returns-then-p-self c =

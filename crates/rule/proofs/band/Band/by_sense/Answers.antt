@@ -1,8 +1,8 @@
 -- `Band::by_sense` meets its contract. Assumes nothing.
 use Rattle.std.proofs.Common.{arith, eq-eqb}
-use Rattle.rows.specs.band.route.Band.{by_sense}
-use Rattle.rows.proofs.band.Laying.{negated_side}
-use Rattle.rows.proofs.band.Band.by_sense.Goals as goal
+use Rattle.rule.specs.band.route.Band.{by_sense}
+use Rattle.rule.proofs.band.Laying.{negated_side}
+use Rattle.rule.proofs.band.Band.by_sense.Goals as goal
 
 pub returns-then-sense-eq0 : goal.returns-then-sense-eq0
 unfolding by_sense

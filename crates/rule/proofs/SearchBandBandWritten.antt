@@ -3,8 +3,8 @@ use Rattle.std.proofs.Common.{◌≡◌, ℕ, ◌-◌, sym, refl, ap, ◌∙◌,
 use Rattle.word.specs.Word.{minus, top}
 use Rattle.word.proofs.Widths.{half_pos}
 use Rattle.rule.proofs.Forms.{end, row}
-use Rattle.rows.specs.band.route.Band.{span, written_bands}
-use Rattle.rows.proofs.band.Laying.{at_band, no_band}
+use Rattle.rule.specs.band.route.Band.{span, written_bands}
+use Rattle.rule.proofs.band.Laying.{at_band, no_band}
 
 pub from_top : (w c : ℕ) {t m : ℕ} → m ≡ minus w t c → t ≡ top w → m ≡ minus w (top w) c
 from_top w c e f = e ∙ ap (λ (n : ℕ). minus w n c) f

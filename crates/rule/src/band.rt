@@ -3,9 +3,9 @@
 ghost use Rattle.std.specs.Prelude.{◌≡◌, ◌-◌, ◌≤◌, false};
 ghost use Rattle.word.specs.Word.{IsWidth};
 ghost use Rattle.word.specs.Search.{climb, sink};
-ghost use Rattle.rows.specs.band.route.Band.{Laid, band_of, by_sense, holds, seamless, settled_band, span, turned_band, wheel, within, written_band};
+ghost use Rattle.rule.specs.band.route.Band.{Laid, band_of, by_sense, holds, seamless, settled_band, span, turned_band, wheel, within, written_band};
 
-use rule::Rule;
+use crate::Rule;
 use word::Width;
 
 // An arc, the words from one up to another, round past the top word where the second is below the first, and the side of it

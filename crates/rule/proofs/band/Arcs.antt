@@ -12,9 +12,9 @@ use Rattle.word.proofs.Tests.{leb_same, ltb-leb}
 use Rattle.word.proofs.Widths.{halves, half_pos}
 use Rattle.rule.specs.Meaning.{settled}
 use Rattle.rule.proofs.Settled.{never}
-use Rattle.rows.specs.declared.band.Band.{Band}
-use Rattle.rows.specs.band.route.Band.{holds, settled_band, span, wheel, within}
-use Rattle.rows.proofs.band.Sides.{In, Out, is_in, is_out, sides, value}
+use Rattle.rule.specs.declared.band.Band.{Band}
+use Rattle.rule.specs.band.route.Band.{holds, settled_band, span, wheel, within}
+use Rattle.rule.proofs.band.Sides.{In, Out, is_in, is_out, sides, value}
 
 -- d is how far it is up from a to y on a wheel with the top word t
 abbrev Up : (t a y d : ℕ) → Type 0

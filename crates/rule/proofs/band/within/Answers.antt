@@ -1,7 +1,7 @@
 -- `within` meets its contract: how far up from the arc's start a word is tells whether the arc has it. Assumes nothing.
 use Rattle.std.proofs.Common.{arith}
-use Rattle.rows.proofs.band.Arcs.{by_differences}
-use Rattle.rows.proofs.band.within.Goals as goal
+use Rattle.rule.proofs.band.Arcs.{by_differences}
+use Rattle.rule.proofs.band.within.Goals as goal
 
 pub returns : goal.returns
 returns c =

@@ -13,12 +13,12 @@ use Rattle.rule.specs.Meaning.{Lawful, ends, meets, reach, rows, runs, start, wr
 use Rattle.rule.proofs.Forms.{by_form, end, row}
 use Rattle.rule.proofs.Ends.{ends_below}
 use Rattle.rule.proofs.Rows.{at_row, past_rows}
-use Rattle.rows.specs.declared.band.Band.{Band}
-use Rattle.rows.specs.band.route.Band.{Laid, band_of, by_sense, holds, other_side, seamless, settled_band, span, wheel, within, written_band, written_bands}
-use Rattle.rows.proofs.band.Arcs.{distance, form1, form2, form3, form4, form5, form6, form8}
-use Rattle.rows.proofs.band.Laying.{at_band, part_band, past_bands, whole_band}
-use Rattle.rows.proofs.band.Runs.{edge, run_ends}
-use Rattle.rows.proofs.band.Sides.{is_in}
+use Rattle.rule.specs.declared.band.Band.{Band}
+use Rattle.rule.specs.band.route.Band.{Laid, band_of, by_sense, holds, other_side, seamless, settled_band, span, wheel, within, written_band, written_bands}
+use Rattle.rule.proofs.band.Arcs.{distance, form1, form2, form3, form4, form5, form6, form8}
+use Rattle.rule.proofs.band.Laying.{at_band, part_band, past_bands, whole_band}
+use Rattle.rule.proofs.band.Runs.{edge, run_ends}
+use Rattle.rule.proofs.band.Sides.{is_in}
 
 abbrev Words : ℕ → Band → Type 0
 Words w b = (b.from ≤ top w) × (b.to ≤ top w)
