@@ -17,11 +17,11 @@ use Rattle.page.specs.Calls.{add, changed, open_at, refusal, written}
 use Rattle.page.specs.declared.Opening.{Opening}
 use Rattle.page.specs.Page.{OpenPage, a_rule, new_page, no_page, page, rules_on, with_entries}
 use Rattle.page.proofs.Refusals.{added_rule, after_accepted}
-use Rattle.course.specs.declared.Batch.{Batch}
-use Rattle.course.specs.Batch.{Batched, Ending, Gives, MOST, added, batch}
-use Rattle.course.specs.route.Route.{batch_at}
-use Rattle.course.proofs.Added.{add_goes, add-stops}
-use Rattle.adds.specs.route.Few.{few}
+use Rattle.batch.specs.declared.course.Batch.{Batch}
+use Rattle.batch.specs.course.Batch.{Batched, Ending, Gives, MOST, added, batch}
+use Rattle.batch.specs.course.route.Route.{batch_at}
+use Rattle.batch.proofs.course.Added.{add_goes, add-stops}
+use Rattle.batch.specs.adds.route.Few.{few}
 
 module _ (e : Edition) (m : ℕ) where
   abbrev many : OpenPage → ℕ

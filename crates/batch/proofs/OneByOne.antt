@@ -16,11 +16,11 @@ use Rattle.page.specs.Page.{Page, no_page}
 use Rattle.sheet.specs.Record.{fresh}
 use Rattle.page.specs.Reached.{Reached, start}
 use Rattle.sheet.specs.Statements.{refuses}
-use Rattle.demands.proofs.Demand.{after_reached, outcome_on}
-use Rattle.course.specs.declared.Batch.{Batch}
-use Rattle.course.specs.Batch.{Batched, Gives, added, batches}
+use Rattle.sheet.proofs.demands.Demand.{after_reached, outcome_on}
+use Rattle.batch.specs.declared.course.Batch.{Batch}
+use Rattle.batch.specs.course.Batch.{Batched, Gives, added, batches}
 use Rattle.batch.specs.OneByOne.{Adding, OneByOne, adds, asks, opens, refused_opening, refused_rule}
-use Rattle.course.proofs.Added.{add_goes, add-stops, open_goes, open_stops}
+use Rattle.batch.proofs.course.Added.{add_goes, add-stops, open_goes, open_stops}
 
 adding_gives : {d : Edition} {b b' : List ℕ} {s : Sheet} {i : ℕ} {us : List Rule} {r : Batch} (pg : Page) → Reached pg → s ≡ fresh pg
     → Adding d b s i us b' r → Gives (added d pg i us (length b)) b b' r

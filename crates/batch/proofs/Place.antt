@@ -17,8 +17,8 @@ use Rattle.page.specs.Calls.{add, changed, first_that_applies, ground, grounds, 
 use Rattle.page.specs.declared.Opening.{Opening}
 use Rattle.page.specs.Page.{OpenPage, a_rule, edition_of, new_page, no_page, page, with_entries}
 use Rattle.page.proofs.Refusals.{after_accepted}
-use Rattle.course.specs.Batch.{Ending, added, batch}
-use Rattle.course.proofs.Added.{add_goes, add-stops, open_goes, open_stops}
+use Rattle.batch.specs.course.Batch.{Ending, added, batch}
+use Rattle.batch.proofs.course.Added.{add_goes, add-stops, open_goes, open_stops}
 
 -- the numbers that a rule is refused with, or for which there is no place left
 abbrev pub OfRule : ℕ → Type 0

@@ -17,8 +17,8 @@ use Rattle.sheet.specs.Record.{blank, fresh}
 use Rattle.sheet.specs.Statements.{Asked, Outcome, answers, chain_on, overlaid, reply}
 use Rattle.sheet.proofs.OnePage.{one_page}
 use Rattle.sheet.proofs.Ways.{accepted_open, refused_open, sheet_reads}
-use Rattle.demands.proofs.Demand.{after_reached}
-use Rattle.course.specs.declared.Batch.{Batch}
+use Rattle.sheet.proofs.demands.Demand.{after_reached}
+use Rattle.batch.specs.declared.course.Batch.{Batch}
 use Rattle.batch.specs.OneByOne.{Adding, Comes, adds, asks, opens, refused_opening, refused_rule}
 
 record Goes (e : Edition) (b : List ℕ) (s : Sheet) (i : ℕ) (us : List Rule) : Type 0 where

@@ -14,9 +14,9 @@ use Rattle.page.specs.Calls.{add, after, ask, open_at, refusal}
 use Rattle.page.specs.declared.Opening.{Opening}
 use Rattle.page.specs.Page.{Page, no_page}
 use Rattle.sheet.specs.Statements.{chain_on, overlaid, reply}
-use Rattle.course.specs.declared.Batch.{Batch}
-use Rattle.course.specs.Batch.{Batched, Ending, added, batch}
-use Rattle.course.proofs.Added.{add_goes, add-stops, open_goes, open_stops}
+use Rattle.batch.specs.declared.course.Batch.{Batch}
+use Rattle.batch.specs.course.Batch.{Batched, Ending, added, batch}
+use Rattle.batch.proofs.course.Added.{add_goes, add-stops, open_goes, open_stops}
 
 pub batched_unique : (g : Opening) (us : List Rule) {b b₁ b₂ : List ℕ} {r₁ r₂ : Batch} → Batched g us b b₁ r₁ → Batched g us b b₂ r₂
     → (r₁ ≡ r₂) × (b₁ ≡ b₂)

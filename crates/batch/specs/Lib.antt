@@ -1,1 +1,4 @@
 pub mod OneByOne
+pub mod adds
+pub mod begun
+pub mod course

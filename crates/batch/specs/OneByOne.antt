@@ -10,8 +10,8 @@ use Rattle.page.specs.Calls.{add, open_at}
 use Rattle.page.specs.declared.Opening.{Opening}
 use Rattle.sheet.specs.Record.{blank}
 use Rattle.sheet.specs.Statements.{Asked, Outcome, refuses}
-use Rattle.course.specs.declared.Batch.{Batch}
-use Rattle.course.specs.Batch.{batches}
+use Rattle.batch.specs.declared.course.Batch.{Batch}
+use Rattle.batch.specs.course.Batch.{batches}
 
 -- "adding each rule in order and asking", by adds of one edition, where i rules were added to the sheet before
 pub data Adding (e : Edition) (b : List ℕ) : Sheet → (i : ℕ) → List Rule → List ℕ → Batch → Type 0 where

@@ -1,13 +1,21 @@
 // The batch call: an opening, a lent list of rules and a chain buffer, answered as the calls one by one would be.
 #![tactic(auto)]
 
+pub mod few_rules;
+
+pub mod course;
+
+pub mod begun;
+
+pub mod adds;
+
 ghost use Rattle.std.specs.Prelude.{◌≡◌, replicate};
 ghost use Rattle.rule.specs.accept.Accept.{no_rule};
-ghost use Rattle.course.specs.Batch.{Batched, MOST};
+ghost use Rattle.batch.specs.course.Batch.{Batched, MOST};
 
-use adds::few;
-pub use course::{Batch, beginning};
-pub use few_rules::first;
+use crate::adds::few;
+pub use crate::course::{Batch, beginning};
+pub use crate::few_rules::first;
 use page::Opening;
 use rule::Rule;
 
@@ -24,7 +32,7 @@ pub fn run(opening: Opening, rules: &[Rule], out: &mut [u64]) -> Batch
         list[i] = rules[i];
         i += 1;
     }
-    course::beginning(opening, list, given, out)
+    crate::course::beginning(opening, list, given, out)
 }
 
 // As many places as are read, with no rule in them.

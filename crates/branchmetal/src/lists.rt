@@ -1,20 +1,20 @@
 // The calls without a sheet to keep.
 ghost use Rattle.std.specs.Prelude.{◌≡◌};
-ghost use Rattle.handing.specs.Handed.{opening_of, rule_in, rules_in, weigh_number, weighed};
-ghost use Rattle.making.specs.Made.{makes};
-ghost use Rattle.on_lists.specs.Lists.{check_numbers};
-ghost use Rattle.on_counts.specs.Counts.{count_numbers, share_in};
-ghost use Rattle.on_listings.specs.Listings.{ListedIn};
-ghost use Rattle.vetting.specs.Vetted.{Vetted};
+ghost use Rattle.outside.specs.handing.Handed.{opening_of, rule_in, rules_in, weigh_number, weighed};
+ghost use Rattle.outside.specs.making.Made.{makes};
+ghost use Rattle.outside.specs.on_lists.Lists.{check_numbers};
+ghost use Rattle.outside.specs.on_counts.Counts.{count_numbers, share_in};
+ghost use Rattle.outside.specs.on_listings.Listings.{ListedIn};
+ghost use Rattle.outside.specs.vetting.Vetted.{Vetted};
 
-use handing::NUMBERS;
+use outside::handing::NUMBERS;
 
 // Whether a word meets a rule.
 pub fn branchmetal_meets(width: u64, rule: &[u64; NUMBERS], word: u64, meets: &mut u64) -> u64
     ensures value { result ≡ weigh_number width (rule_in rule.now) word }
     ensures meets_after { meets.new ≡ weighed width (rule_in rule.now) word }
 {
-    on_rules::meets(width, rule, word, meets)
+    outside::on_rules::meets(width, rule, word, meets)
 }
 
 // Vets a list: the batch call.
@@ -27,7 +27,7 @@ pub fn branchmetal_vet(
 ) -> u64
     ensures { Vetted (opening_of width edition) (rules_in rules.now) links.old links.new answer.new result }
 {
-    vetting::vet(width, edition, rules, links, answer)
+    outside::vetting::vet(width, edition, rules, links, answer)
 }
 
 // Checks a chain of any maker against a list.
@@ -41,7 +41,7 @@ pub fn branchmetal_check(
     ensures value { result ≡ (makes (opening_of width edition) (rules_in rules.now)).number }
     ensures answer_after { answer.new ≡ check_numbers (makes (opening_of width edition) (rules_in rules.now)) links.now }
 {
-    on_lists::check(width, edition, rules, links, answer)
+    outside::on_lists::check(width, edition, rules, links, answer)
 }
 
 // Counts the words that fit a list.
@@ -54,7 +54,7 @@ pub fn branchmetal_count(
     ensures value { result ≡ (share_in (makes (opening_of width edition) (rules_in rules.now))).number }
     ensures answer_after { answer.new ≡ count_numbers (makes (opening_of width edition) (rules_in rules.now)) }
 {
-    on_counts::count(width, edition, rules, answer)
+    outside::on_counts::count(width, edition, rules, answer)
 }
 
 // Lists the words that fit a list of rules, from a start on.
@@ -68,5 +68,5 @@ pub fn branchmetal_list(
 ) -> u64
     ensures { ListedIn (makes (opening_of width edition) (rules_in rules.now)) start words.old words.new answer.new result }
 {
-    on_listings::list(width, edition, rules, start, words, answer)
+    outside::on_listings::list(width, edition, rules, start, words, answer)
 }

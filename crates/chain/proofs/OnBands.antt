@@ -24,7 +24,7 @@ use Rattle.rule.proofs.band.Law.{band_law, bit_band, reach_law, start_law}
 use Rattle.rule.specs.declared.bits.Fixed.{Fixed}
 use Rattle.rule.specs.bits.route.Fixed.{fixed_bits, has_bits}
 use Rattle.rule.proofs.bits.Joined.{fixed_bits_lem}
-use Rattle.rows.specs.route.Bands.{blank_band}
+use Rattle.search.specs.rows.route.Bands.{blank_band}
 use Rattle.chain.specs.declared.Far.{Far}
 use Rattle.chain.specs.declared.Far.TheVariants.{To, Nowhere}
 use Rattle.chain.specs.Chain.{Plain}

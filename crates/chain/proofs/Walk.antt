@@ -13,9 +13,9 @@ use Rattle.rule.specs.declared.Rule.{Rule}
 use Rattle.rule.specs.Meaning.{AllLawful, fits}
 use Rattle.rule.specs.declared.band.Band.{Band}
 use Rattle.rule.specs.declared.bits.Fixed.{Fixed}
-use Rattle.rows.specs.route.OfRules.{OfLawful}
-use Rattle.verdict.specs.Kept.{kept}
-use Rattle.verdict.proofs.Right.{kept_right}
+use Rattle.search.specs.rows.route.OfRules.{OfLawful}
+use Rattle.search.specs.verdict.Kept.{kept}
+use Rattle.search.proofs.verdict.Right.{kept_right}
 use Rattle.chain.specs.declared.Link.{Link}
 use Rattle.chain.specs.Links.{go_on, numbers_of, link_at, links, links_from}
 use Rattle.chain.specs.route.OnBands.{link_on}

@@ -4,7 +4,7 @@ use mathlib.Core.List.{map}
 use Rattle.word.specs.Word.{half, minus, plus, signed, top}
 use Rattle.word.specs.Search.{climb, first, last, passing, sink}
 use Rattle.rule.specs.Meaning.{fits, meets, meets7, reach, rows, written, start}
-use Rattle.verdict.specs.Kept.{kept, verdict_of}
+use Rattle.search.specs.verdict.Kept.{kept, verdict_of}
 use Rattle.chain.specs.Findings.{findings, chain_for}
 use Rattle.chain.specs.Cases.{Case, case6, case6_words, cases}
 use Rattle.chain.specs.Links.{before, blocks, further, furthest, furthest_of, gap, go_on, link_at, link_by, links, links_from}

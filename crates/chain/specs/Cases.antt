@@ -3,7 +3,7 @@
 use Rattle.std.specs.Prelude.{List, [], ◌∷◌, ℕ}
 use Rattle.rule.specs.declared.Rule.{Rule}
 use Rattle.rule.specs.Meaning.{rule}
-use Rattle.verdict.specs.Kept.{keeps}
+use Rattle.search.specs.verdict.Kept.{keeps}
 use Rattle.chain.specs.Findings.{Findings, says}
 use Rattle.chain.specs.Links.{BITS, link}
 

@@ -1,8 +1,8 @@
 -- What the desk says of a sheet: what it keeps, and for "none" the chain.
 use Rattle.std.specs.Prelude.{true, false, List, [], ℕ, eqb}
 use Rattle.rule.specs.declared.Rule.{Rule}
-use Rattle.verdict.specs.declared.Kept.{Kept}
-use Rattle.verdict.specs.Kept.{kept}
+use Rattle.search.specs.declared.verdict.Kept.{Kept}
+use Rattle.search.specs.verdict.Kept.{kept}
 use Rattle.chain.specs.declared.Link.{Link}
 use Rattle.chain.specs.Links.{links}
 

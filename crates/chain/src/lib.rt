@@ -1,6 +1,14 @@
 // The chain of links from zero to the top word that shows why no word fits.
 #![tactic(auto)]
 
+pub mod linking;
+
+pub mod link_step;
+
+pub mod reach;
+
+pub mod due;
+
 ghost use Rattle.std.specs.Prelude.{◌≡◌, ◌++◌, ◌∷◌, ◌+◌, ◌≤◌, drop, length, take};
 ghost use Rattle.rule.specs.Meaning.{RULES};
 ghost use Rattle.chain.specs.Links.{chain_room, further, link_from};

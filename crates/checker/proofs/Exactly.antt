@@ -21,9 +21,9 @@ use Rattle.page.specs.Page.{MARKS}
 use Rattle.sheet.specs.route.Shape.{is_sheet}
 use Rattle.sheet.proofs.Tested.{passes_sheet, sheet_passes}
 use Rattle.checker.specs.Accepted.{Accepted, ShownBy, link_no}
-use Rattle.covering.specs.Check.{in_order, largest_end, links_in, no_gap, right_reason, shown, shown_by}
+use Rattle.checker.specs.covering.Check.{in_order, largest_end, links_in, no_gap, right_reason, shown, shown_by}
 use Rattle.checker.specs.Check.{accepts}
-use Rattle.covering.proofs.Covering.{order_is, order_shown, shows_is, shows_reason}
+use Rattle.checker.proofs.covering.Covering.{order_is, order_shown, shows_is, shows_reason}
 
 -- ---- a test of every link
 

@@ -14,23 +14,23 @@ use Rattle.rule.specs.declared.Rule.{Rule}
 use Rattle.rule.specs.band.route.Band.{AllLaid}
 use Rattle.rule.specs.bits.route.Fixed.{Tidy}
 use Rattle.rule.proofs.bits.Joined.{fixed_tidy}
-use Rattle.rows.proofs.Passes.{bands_laid}
+use Rattle.search.proofs.rows.Passes.{bands_laid}
 use Rattle.sheet.specs.declared.Sheet.{Sheet}
 use Rattle.sheet.specs.route.Shape.{is_sheet}
 use Rattle.sheet.specs.route.Stands.{Standing}
 use Rattle.page.proofs.Lawful.{reached_lawful}
-use Rattle.slate.proofs.Holding.{bands_places, first_drawn}
+use Rattle.sheet.proofs.slate.Holding.{bands_places, first_drawn}
 use Rattle.sheet.proofs.Holding.{marks_length, packed_told, rules_length}
 use Rattle.sheet.proofs.Stands.{has_page, has_width, known, rules_lawful, width_of}
 use Rattle.sheet.proofs.Tested.{passes_sheet}
-use Rattle.rows.specs.route.Bands.{Lie}
-use Rattle.rows.specs.route.OfRules.{OfLawful}
-use Rattle.rows.specs.route.Rows.{bands_in, rules_in}
-use Rattle.slate.specs.declared.Head.{Head}
-use Rattle.slate.specs.route.Held.{Held}
+use Rattle.search.specs.rows.route.Bands.{Lie}
+use Rattle.search.specs.rows.route.OfRules.{OfLawful}
+use Rattle.search.specs.rows.route.Rows.{bands_in, rules_in}
+use Rattle.sheet.specs.declared.slate.Head.{Head}
+use Rattle.sheet.specs.slate.route.Held.{Held}
 use Rattle.sheet.specs.route.Held.{packed}
 use Rattle.checker.specs.Accepted.{Accepted}
-use Rattle.covering.specs.Check.{links_in, shown, shown_by}
+use Rattle.checker.specs.covering.Check.{links_in, shown, shown_by}
 use Rattle.checker.specs.Check.{accepts}
 use Rattle.checker.proofs.Exactly.{accepted_yes, yes_accepted}
 

@@ -13,9 +13,9 @@ use Rattle.rule.specs.Meaning.{fits}
 use Rattle.chain.proofs.Cover.{covers_no_fit}
 use Rattle.sheet.specs.declared.Sheet.{Sheet}
 use Rattle.sheet.specs.route.Shape.{is_sheet}
-use Rattle.covering.specs.Check.{links_in, shown, shown_by}
+use Rattle.checker.specs.covering.Check.{links_in, shown, shown_by}
 use Rattle.checker.specs.Check.{accepts}
-use Rattle.covering.proofs.Covering.{shown_covers}
+use Rattle.checker.proofs.covering.Covering.{shown_covers}
 
 pub yes_no_fit : (s : Sheet) (ns : List ℕ) → accepts s ns ≡ true
     → (x : ℕ) → x ≤ top s.width → fits s.width (take s.count s.rules) x ≡ false

@@ -9,13 +9,13 @@ use Rattle.word.specs.Search.{first, last}
 use Rattle.rule.specs.Meaning.{fits, meets, meets7, rows, written}
 use Rattle.rule.specs.accept.Accept.{acceptable, bad_constant, bad_form, bad_sense, every, is_no_rule, refusal_of, rule_grounds, stray_bit}
 use Rattle.rule.specs.accept.Grounds.{first_that_applies}
-use Rattle.verdict.specs.Kept.{kept, verdict_of}
+use Rattle.search.specs.verdict.Kept.{kept, verdict_of}
 use Rattle.sheet.specs.Record.{fresh}
 use Rattle.page.specs.Page.{marks_on, restored, rules_on}
-use Rattle.slate.specs.route.Shape.{in_force, same_kept, stands_so, well_shaped}
+use Rattle.sheet.specs.slate.route.Shape.{in_force, same_kept, stands_so, well_shaped}
 use Rattle.sheet.specs.route.Shape.{is_sheet}
 use Rattle.page.specs.route.Shape.{marks_shaped, rising, rules_shaped}
-use Rattle.covering.specs.Check.{all_of, every_word, in_order, largest_end, links_in, names_bits, names_rule, no_gap, right_reason, shown, shown_by}
+use Rattle.checker.specs.covering.Check.{all_of, every_word, in_order, largest_end, links_in, names_bits, names_rule, no_gap, right_reason, shown, shown_by}
 use Rattle.checker.specs.Check.{accepts}
 use Rattle.checker.specs.Examples.{Example, examples}
 

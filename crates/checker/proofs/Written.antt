@@ -9,7 +9,7 @@ use borrow.Author.Tests.{eq-eqb, ne_eqb}
 use lib.ListN.{length, take}
 use lib.Seq.{take_at}
 use Rattle.rule.specs.declared.Rule.{Rule}
-use Rattle.verdict.specs.Kept.{kept}
+use Rattle.search.specs.verdict.Kept.{kept}
 use Rattle.chain.specs.declared.Link.{Link}
 use Rattle.chain.specs.Chain.{IsChain}
 use Rattle.chain.specs.Findings.{chain_for, findings}
@@ -29,9 +29,9 @@ use Rattle.page.proofs.Lawful.{reached_lawful, reached_page}
 use Rattle.page.proofs.Refusals.{blank_ask}
 use Rattle.sheet.proofs.Tested.{sheet_dec, sheet_passes}
 use Rattle.sheet.proofs.WaysOfAsking.{accepted_reply, reply-number, the_chain}
-use Rattle.covering.specs.Check.{shown, shown_by}
+use Rattle.checker.specs.covering.Check.{shown, shown_by}
 use Rattle.checker.specs.Check.{accepts}
-use Rattle.covering.proofs.Covering.{covers_shown}
+use Rattle.checker.proofs.covering.Covering.{covers_shown}
 use Rattle.checker.proofs.Exactly.{in_threes, links_of}
 
 -- the numbers of any chain by 01's definition

@@ -8,7 +8,7 @@ use Rattle.chain.specs.Chain.{Shows}
 use Rattle.chain.specs.Links.{link, numbers_of}
 use Rattle.sheet.specs.declared.Sheet.{Sheet}
 use Rattle.sheet.specs.Statements.{IsSheet}
-use Rattle.covering.specs.Check.{largest_end}
+use Rattle.checker.specs.covering.Check.{largest_end}
 
 -- link number i of a list
 abbrev pub link_no : List Link → ℕ → Link

@@ -1,11 +1,23 @@
 // A chain that somebody else wrote, checked: whether its links show that no word fits the sheet.
 #![tactic(auto)]
 
+pub mod clause;
+
+pub mod breach;
+
+pub mod reason;
+
+pub mod outset;
+
+pub mod finding;
+
+pub mod covering;
+
 ghost use Rattle.std.specs.Prelude.{true, ◌↔◌, ◌≡◌};
 ghost use Rattle.checker.specs.Accepted.{Accepted};
 ghost use Rattle.checker.specs.Check.{accepts};
 
-use rows::{InForce, NUMBERS};
+use search::rows::{InForce, NUMBERS};
 use rule::Rule;
 use sheet::Sheet;
 use word::Width;
@@ -20,7 +32,7 @@ pub fn accepts(sheet: Sheet, links: &[u64]) -> bool
         return false;
     }
     let mut rows = [[0; NUMBERS]; Rule::LIMIT];
-    let head = laid_rows::lay_out(sheet, &mut rows);
+    let head = sheet::laid_rows::lay_out(sheet, &mut rows);
     let width = head.opening.width;
     let count = head.counts.count;
     let fixed = head.fixed;
@@ -33,7 +45,7 @@ pub fn accepts(sheet: Sheet, links: &[u64]) -> bool
                 fixed,
                 width: Width { bits: width },
             };
-            return covering::covers(links, &rows, force);
+            return crate::covering::covers(links, &rows, force);
         }
     }
     false

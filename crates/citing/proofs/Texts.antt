@@ -1,6 +1,6 @@
 -- The letters of `bits` as a number. Assumes nothing.
 use mathlib.Core.Path.{◌≡◌, refl}
-use Rattle.grammar.specs.Kinds.{packed_from}
+use Rattle.line.specs.grammar.Kinds.{packed_from}
 use Rattle.citing.specs.Citation.{BITS_TEXT}
 
 pub bits_text : BITS_TEXT ≡ 0x62697473

@@ -2,14 +2,14 @@
 use mathlib.Core.Path.{◌≡◌, refl}
 use mathlib.Core.List.{map}
 use Rattle.word.specs.Edition.{terms}
-use Rattle.hexadecimal.specs.Hex.{all_digits, is_digit, number, number_from, value}
-use Rattle.hexadecimal.specs.Text.{bytes_of}
-use Rattle.numeral.specs.Numeral.{after_zero, below_zero, digit, next, past_digit, pointed, value_of}
-use Rattle.grammar.specs.Grammar.{find, kind_of}
-use Rattle.grammar.specs.Kinds.{packed_from}
-use Rattle.token.specs.Token.{begun, class_of, is_blank, is_sign, is_word, kind, kind_of_number, more, opened, packed, text_kind}
-use Rattle.piece.specs.Piece.{end_at, ends, fresh, grown, piece_of, word_at, word_from}
-use Rattle.linked.specs.Linked.{bare, bare_end, is_link, link_in, link_of}
+use Rattle.digits.specs.hexadecimal.Hex.{all_digits, is_digit, number, number_from, value}
+use Rattle.digits.specs.hexadecimal.Text.{bytes_of}
+use Rattle.digits.specs.numeral.Numeral.{after_zero, below_zero, digit, next, past_digit, pointed, value_of}
+use Rattle.line.specs.grammar.Grammar.{find, kind_of}
+use Rattle.line.specs.grammar.Kinds.{packed_from}
+use Rattle.line.specs.token.Token.{begun, class_of, is_blank, is_sign, is_word, kind, kind_of_number, more, opened, packed, text_kind}
+use Rattle.line.specs.piece.Piece.{end_at, ends, fresh, grown, piece_of, word_at, word_from}
+use Rattle.citing.specs.linked.Linked.{bare, bare_end, is_link, link_in, link_of}
 use Rattle.citing.specs.Citation.{citation, cited, is_reason, lab_says, or_lab, said, wrong_at}
 use Rattle.citing.specs.Examples.{Example, examples}
 

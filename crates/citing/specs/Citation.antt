@@ -1,15 +1,15 @@
 -- A line of a chain: `FROM TO RULE`, where RULE is a number, `bits` or a name; or a line that the desk writes for a link.
 use Rattle.std.specs.Prelude.{Bool, true, not, ◌||◌, cond, List, [], ◌∷◌, ℕ, eqb, ltb, length}
 use Rattle.chain.specs.Links.{BITS, link}
-use Rattle.grammar.specs.Kinds.{END, NAME, NUMBER, RULE, SHORTER_LINE, packed_from}
-use Rattle.scan.specs.declared.Name.{Name}
+use Rattle.line.specs.grammar.Kinds.{END, NAME, NUMBER, RULE, SHORTER_LINE, packed_from}
+use Rattle.line.specs.declared.scan.Name.{Name}
 use Rattle.line.specs.Line.{LIMIT, mistake}
-use Rattle.piece.specs.declared.Piece.{Piece}
-use Rattle.piece.specs.Piece.{word_at}
-use Rattle.linked.specs.declared.Linked.{Linked}
-use Rattle.linked.specs.declared.Linked.TheVariants.{At}
-use Rattle.linked.specs.declared.Linked.TheVariants as linked
-use Rattle.linked.specs.Linked.{link_in}
+use Rattle.line.specs.declared.piece.Piece.{Piece}
+use Rattle.line.specs.piece.Piece.{word_at}
+use Rattle.citing.specs.declared.linked.Linked.{Linked}
+use Rattle.citing.specs.declared.linked.Linked.TheVariants.{At}
+use Rattle.citing.specs.declared.linked.Linked.TheVariants as linked
+use Rattle.citing.specs.linked.Linked.{link_in}
 use Rattle.citing.specs.declared.Citation.{Citation}
 use Rattle.citing.specs.declared.Citation.TheVariants.{Named, Nothing, Numbered, Wrong}
 

@@ -1,8 +1,8 @@
 -- Lines of a chain as one table: the line, and what it says, read off docs/VET.md and the paper's frame of a link by hand.
 use Rattle.std.specs.Prelude.{List, [], ◌∷◌, ℕ}
-use Rattle.hexadecimal.specs.Text.{bytes_of}
+use Rattle.digits.specs.hexadecimal.Text.{bytes_of}
 use Rattle.chain.specs.Links.{link}
-use Rattle.grammar.specs.Kinds.{END, NUMBER, RULE}
+use Rattle.line.specs.grammar.Kinds.{END, NUMBER, RULE}
 use Rattle.line.specs.Line.{mistake}
 use Rattle.citing.specs.declared.Citation.{Citation}
 use Rattle.citing.specs.declared.Citation.TheVariants.{Named, Nothing, Numbered, Wrong}

@@ -1,2 +1,3 @@
 pub mod Citation
 pub mod Examples
+pub mod linked

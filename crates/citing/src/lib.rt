@@ -1,14 +1,16 @@
 // A line of a chain, as a lab writes it or as the desk does: read into a link, or into its first mistake.
 #![tactic(auto)]
 
+pub mod linked;
+
 ghost use Rattle.std.specs.Prelude.{◌≡◌};
 ghost use Rattle.citing.specs.Citation.{citation, cited, is_reason, lab_says, said, wrong_at};
 
 use chain::Link;
-use grammar::kind;
-use linked::Linked;
-use piece::Piece;
-use scan::{Mistake, Name};
+use line::grammar::kind;
+use crate::linked::Linked;
+use line::piece::Piece;
+use line::scan::{Mistake, Name};
 
 // What a line says: nothing; a link of three numbers; one whose reason is a name at a place of the line; or where it is wrong.
 #[derive(Clone, Copy)]
@@ -32,7 +34,7 @@ pub fn read(line: &[u8]) -> Citation
             expected: kind::SHORTER_LINE,
         });
     }
-    match linked::read(line) {
+    match crate::linked::read(line) {
         Linked::At(link) => Citation::Numbered(link),
         Linked::Nothing => lab_says(line),
     }
@@ -42,10 +44,10 @@ pub fn read(line: &[u8]) -> Citation
 fn lab_says(line: &[u8]) -> Citation
     ensures { result ≡ lab_says line.now }
 {
-    let first = piece::next(line, 0);
-    let second = piece::next(line, first.to);
-    let third = piece::next(line, second.to);
-    let fourth = piece::next(line, third.to);
+    let first = line::piece::next(line, 0);
+    let second = line::piece::next(line, first.to);
+    let third = line::piece::next(line, second.to);
+    let fourth = line::piece::next(line, third.to);
     said(first, second, third, fourth)
 }
 

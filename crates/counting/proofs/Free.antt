@@ -6,9 +6,9 @@ use Prim.Native.Nat.{ℕ, zero, suc, ◌^◌}
 use native.Mathlib.Omega.{arith}
 use Rattle.word.specs.Search.{count}
 use Rattle.rule.specs.Meaning.{fits}
-use Rattle.fitting.specs.Words.{how_many}
+use Rattle.counting.specs.fitting.Words.{how_many}
 use Rattle.counting.specs.declared.Share.{Share}
-use Rattle.tally.specs.route.Total.{UNIT}
+use Rattle.counting.specs.tally.route.Total.{UNIT}
 use Rattle.counting.specs.Share.{shares, together}
 
 pub together-shares : (n h : ℕ) → together (shares n h) ≡ h

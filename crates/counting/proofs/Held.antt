@@ -9,8 +9,8 @@ use Rattle.word.specs.Word.{top}
 use Rattle.word.specs.Search.{count}
 use Rattle.word.proofs.Widths.{top-suc}
 use Rattle.rule.specs.Meaning.{fits}
-use Rattle.rows.specs.route.Bands.{passes}
-use Rattle.rows.specs.route.Rows.{bands_in}
+use Rattle.search.specs.rows.route.Bands.{passes}
+use Rattle.search.specs.rows.route.Rows.{bands_in}
 use Rattle.page.specs.Calls.{first_that_applies, is_blank, rules_of}
 use Rattle.page.specs.Page.{OpenPage, Page, entries_of, no_page, page, rules_on, width_of}
 use Rattle.page.specs.Reached.{Reached, start}
@@ -18,13 +18,13 @@ use Rattle.sheet.specs.declared.Sheet.{Sheet}
 use Rattle.sheet.specs.Record.{fresh}
 use Rattle.sheet.specs.route.Stands.{Stands, blank_sheet, no_sheet, on_page}
 use Rattle.sheet.proofs.OnePage.{one_page}
-use Rattle.laid_force.specs.declared.Found.{Found}
-use Rattle.laid_force.specs.route.Found.{FoundIn}
-use Rattle.laid_force.proofs.Force.{page_width, passes_so, standing}
-use Rattle.fitting.specs.Words.{how_many}
-use Rattle.fitting.proofs.Passing.{count_same}
-use Rattle.tally.specs.declared.Total.{Total}
-use Rattle.tally.specs.route.Total.{totals}
+use Rattle.sheet.specs.declared.laid_force.Found.{Found}
+use Rattle.sheet.specs.laid_force.route.Found.{FoundIn}
+use Rattle.sheet.proofs.laid_force.Force.{page_width, passes_so, standing}
+use Rattle.counting.specs.fitting.Words.{how_many}
+use Rattle.counting.proofs.fitting.Passing.{count_same}
+use Rattle.counting.specs.declared.tally.Total.{Total}
+use Rattle.counting.specs.tally.route.Total.{totals}
 use Rattle.counting.specs.declared.Share.{Share}
 use Rattle.counting.specs.Counted.{Counted, count_grounds, share_of}
 use Rattle.counting.specs.Share.{shares}

@@ -6,7 +6,7 @@ use Rattle.page.specs.Reached.{Reached}
 use Rattle.sheet.specs.declared.Sheet.{Sheet}
 use Rattle.sheet.specs.Record.{fresh}
 use Rattle.sheet.specs.Statements.{IsSheet}
-use Rattle.fitting.specs.Words.{how_many}
+use Rattle.counting.specs.fitting.Words.{how_many}
 use Rattle.counting.specs.declared.Share.{Share}
 use Rattle.counting.specs.Share.{shares}
 

@@ -1,2 +1,5 @@
 pub mod Counted
 pub mod Share
+pub mod fitting
+pub mod tally
+pub mod audit

@@ -1,6 +1,6 @@
 -- How many words fit, "given as two numbers, quotient and remainder by 2^32".
 use Rattle.std.specs.Prelude.{ℕ, ◌+◌, ◌*◌, ◌/◌, ◌%◌}
-use Rattle.tally.specs.route.Total.{UNIT}
+use Rattle.counting.specs.tally.route.Total.{UNIT}
 use Rattle.counting.specs.declared.Share.{Share}
 
 -- a number, 0 or that of a refusal, and h words

@@ -1,9 +1,17 @@
 // How many words fit a sheet: any record, counted by sections of words, never word by word.
 #![tactic(auto)]
 
+pub mod audit;
+
+pub mod counted_rows;
+
+pub mod tally;
+
+pub mod fitting;
+
 ghost use Rattle.counting.specs.Counted.{Counted};
 
-use rows::NUMBERS;
+use search::rows::NUMBERS;
 use rule::Rule;
 use sheet::Sheet;
 
@@ -21,8 +29,8 @@ pub fn count(sheet: Sheet) -> Share
     ensures { Counted sheet result }
 {
     let mut rows = [[0; NUMBERS]; Rule::LIMIT];
-    let found = laid_force::look(sheet, &mut rows);
-    let total = counted_rows::total(found.number, &rows, found.force);
+    let found = sheet::laid_force::look(sheet, &mut rows);
+    let total = crate::counted_rows::total(found.number, &rows, found.force);
     Share {
         number: found.number,
         quotient: total.quotient,

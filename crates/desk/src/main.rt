@@ -1,8 +1,30 @@
 // The desk: frames on standard input, a line each, and answers on standard output. The sheet is laid out once, and stays so.
 #![tactic(auto)]
 
+pub mod turns;
+
+pub mod one_turn;
+
+pub mod turn;
+
+pub mod serving;
+
+pub mod one_read;
+
+pub mod input_end;
+
+pub mod feed;
+
+pub mod next_line;
+
+pub mod answer;
+
+pub mod frame_call;
+
+pub mod told;
+
 use coming::Came;
-use rows::NUMBERS;
+use search::rows::NUMBERS;
 use rule::Rule;
 use sheet::Sheet;
 
@@ -13,12 +35,12 @@ fn main(rt: HostRuntime) {
     let mut marks: [usize; Sheet::MARKS] = [0; Sheet::MARKS];
     let mut chain = [0; Sheet::LENT];
     let mut out = io::large_buffer();
-    let talk = turns::converse(&rt, &mut rows, &mut marks, &mut chain, &mut out);
+    let talk = crate::turns::converse(&rt, &mut rows, &mut marks, &mut chain, &mut out);
     let turn = talk.turn;
     let came = turn.came;
     if let Came::Nothing = came {
         let state = turn.state;
-        let n = input_end::finish(state, &mut rows, &mut marks, &mut chain, &mut out);
+        let n = crate::input_end::finish(state, &mut rows, &mut marks, &mut chain, &mut out);
         coming::send(&rt, &out[..n]);
     }
 }

@@ -9,9 +9,9 @@ use Rattle.page.specs.Page.{Page, no_page}
 use Rattle.page.specs.Reached.{Reached, start}
 use Rattle.sheet.specs.Record.{blank, fresh}
 use Rattle.line.specs.declared.Statement.{Statement}
-use Rattle.upshot.specs.declared.Response.{Response}
-use Rattle.upshot.specs.declared.Response.TheVariants.{Silent}
-use Rattle.upshot.specs.declared.Upshot.{Upshot}
+use Rattle.dialogue.specs.declared.upshot.Response.{Response}
+use Rattle.dialogue.specs.declared.upshot.Response.TheVariants.{Silent}
+use Rattle.dialogue.specs.declared.upshot.Upshot.{Upshot}
 use Rattle.dialogue.specs.declared.Dialogue.{Dialogue}
 use Rattle.dialogue.specs.Takes.{upshot_of}
 use Rattle.dialogue.specs.Heard.{Heard, all, answer_on, answers_to, ending, next, page_after, page_on}

@@ -5,9 +5,9 @@ use mathlib.Core.List.{List}
 use Prim.Native.Nat.{ℕ}
 use borrow.Author.Tests.{le-leb, le-ltb}
 use Rattle.word.specs.Word.{IsWidth}
-use Rattle.line_width.specs.Width.{WIDEST, reading_at}
+use Rattle.word.specs.line_width.Width.{WIDEST, reading_at}
 use Rattle.line.specs.declared.Line.{Line}
-use Rattle.saying.specs.Says.{Lent}
+use Rattle.dialogue.specs.saying.Says.{Lent}
 use Rattle.dialogue.specs.declared.Dialogue.{Dialogue}
 use Rattle.dialogue.specs.declared.Hearing.{Hearing}
 use Rattle.dialogue.specs.declared.Taken.{Taken}

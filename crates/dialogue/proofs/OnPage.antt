@@ -20,20 +20,20 @@ use Rattle.sheet.specs.Record.{fresh}
 use Rattle.sheet.specs.route.Stands.{Stands, blank_sheet, no_sheet, on_page}
 use Rattle.sheet.specs.Statements.{reply}
 use Rattle.sheet.proofs.OnePage.{one_page}
-use Rattle.demands.proofs.Demand.{outcome_on}
+use Rattle.sheet.proofs.demands.Demand.{outcome_on}
 use Rattle.counting.specs.declared.Share.{Share}
 use Rattle.counting.specs.Counted.{count_grounds}
 use Rattle.listing.specs.declared.Listing.{Listing}
-use Rattle.list_refusal.specs.Grounds.{list_number}
+use Rattle.listing.specs.list_refusal.Grounds.{list_number}
 use Rattle.listing.specs.Listed.{list_on, listings}
-use Rattle.blaming.specs.Blamed.{failed_on, why_number}
+use Rattle.listing.specs.blaming.Blamed.{failed_on, why_number}
 use Rattle.line.specs.declared.Statement.{Statement}
 use Rattle.line.specs.declared.Statement.TheVariants as said
-use Rattle.upshot.specs.declared.Response.{Response}
-use Rattle.upshot.specs.declared.Response.TheVariants.{Asked, Blamed, Counted, Done, Listed, Refused, Shown}
-use Rattle.upshot.specs.declared.Upshot.{Upshot}
-use Rattle.upshot.specs.Upshot.{by_number, goes, stops, upshot}
-use Rattle.saying.specs.Says.{Calls, Gated, Lent, Says, Wanted, at_least, at_most, sets, unread, up_to, within}
+use Rattle.dialogue.specs.declared.upshot.Response.{Response}
+use Rattle.dialogue.specs.declared.upshot.Response.TheVariants.{Asked, Blamed, Counted, Done, Listed, Refused, Shown}
+use Rattle.dialogue.specs.declared.upshot.Upshot.{Upshot}
+use Rattle.dialogue.specs.upshot.Upshot.{by_number, goes, stops, upshot}
+use Rattle.dialogue.specs.saying.Says.{Calls, Gated, Lent, Says, Wanted, at_least, at_most, sets, unread, up_to, within}
 use Rattle.dialogue.specs.Heard.{answer_on, ending, gate_answer, gate_page, numbered, page_on}
 
 -- a call's number, and what follows from it

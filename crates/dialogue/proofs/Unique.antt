@@ -2,11 +2,11 @@
 use mathlib.Core.Path.{◌≡◌, sym, ap, ◌∙◌}
 use mathlib.Core.Bool.{Bool, true, false}
 use Rattle.line.specs.declared.Statement.{Statement}
-use Rattle.upshot.specs.declared.Response.TheVariants.{Silent}
-use Rattle.upshot.specs.declared.Upshot.{Upshot}
-use Rattle.upshot.specs.Upshot.{stops}
-use Rattle.saying.specs.Says.{Lent, Says}
-use Rattle.saying.proofs.Unique.{says_unique}
+use Rattle.dialogue.specs.declared.upshot.Response.TheVariants.{Silent}
+use Rattle.dialogue.specs.declared.upshot.Upshot.{Upshot}
+use Rattle.dialogue.specs.upshot.Upshot.{stops}
+use Rattle.dialogue.specs.saying.Says.{Lent, Says}
+use Rattle.dialogue.proofs.saying.Unique.{says_unique}
 use Rattle.dialogue.specs.declared.Dialogue.{Dialogue}
 use Rattle.dialogue.specs.declared.Taken.{Taken}
 use Rattle.dialogue.specs.Takes.{Takes, upshot_of}

@@ -7,14 +7,14 @@ use Rattle.page.specs.Calls.{add, after, back, first_that_applies, forward, mark
 use Rattle.page.specs.Page.{Page, at_width}
 use Rattle.sheet.specs.Statements.{reply}
 use Rattle.counting.specs.Counted.{count_grounds, share_of}
-use Rattle.list_refusal.specs.Grounds.{list_number}
+use Rattle.listing.specs.list_refusal.Grounds.{list_number}
 use Rattle.listing.specs.Listed.{list_on, listings}
-use Rattle.blaming.specs.Blamed.{failed_on, why_number}
+use Rattle.listing.specs.blaming.Blamed.{failed_on, why_number}
 use Rattle.line.specs.declared.Statement.{Statement}
 use Rattle.line.specs.declared.Statement.TheVariants as said
-use Rattle.upshot.specs.declared.Response.{Response}
-use Rattle.upshot.specs.declared.Response.TheVariants.{Asked, Blamed, Counted, Done, Listed, Mistaken, Refused, Shown, Silent}
-use Rattle.saying.specs.Says.{Lent, Wanted, at_least, at_most, sets, unread, up_to, within}
+use Rattle.dialogue.specs.declared.upshot.Response.{Response}
+use Rattle.dialogue.specs.declared.upshot.Response.TheVariants.{Asked, Blamed, Counted, Done, Listed, Mistaken, Refused, Shown, Silent}
+use Rattle.dialogue.specs.saying.Says.{Lent, Wanted, at_least, at_most, sets, unread, up_to, within}
 use Rattle.dialogue.specs.declared.Dialogue.{Dialogue}
 use Rattle.dialogue.specs.declared.Taken.{Taken}
 use Rattle.dialogue.specs.Takes.{Takes}

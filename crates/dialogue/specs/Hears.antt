@@ -1,8 +1,8 @@
 -- What hearing a line does: it is read at the width of the sheet that is open, and its statement is taken.
 use Rattle.std.specs.Prelude.{◌≡◌, List, ℕ}
-use Rattle.line_width.specs.Width.{reading_at}
+use Rattle.word.specs.line_width.Width.{reading_at}
 use Rattle.line.specs.Line.{read}
-use Rattle.saying.specs.Says.{Lent}
+use Rattle.dialogue.specs.saying.Says.{Lent}
 use Rattle.dialogue.specs.declared.Dialogue.{Dialogue}
 use Rattle.dialogue.specs.declared.Hearing.{Hearing}
 use Rattle.dialogue.specs.Takes.{Takes}

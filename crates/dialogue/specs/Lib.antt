@@ -1,3 +1,5 @@
 pub mod Heard
 pub mod Hears
 pub mod Takes
+pub mod upshot
+pub mod saying

@@ -1,10 +1,10 @@
 -- What taking a statement does: what the statement says, and nothing after a mistake or a refusal.
 use Rattle.std.specs.Prelude.{◌≡◌, true, false}
 use Rattle.line.specs.declared.Statement.{Statement}
-use Rattle.upshot.specs.declared.Response.TheVariants.{Silent}
-use Rattle.upshot.specs.declared.Upshot.{Upshot}
-use Rattle.upshot.specs.Upshot.{stops, upshot}
-use Rattle.saying.specs.Says.{Lent, Says}
+use Rattle.dialogue.specs.declared.upshot.Response.TheVariants.{Silent}
+use Rattle.dialogue.specs.declared.upshot.Upshot.{Upshot}
+use Rattle.dialogue.specs.upshot.Upshot.{stops, upshot}
+use Rattle.dialogue.specs.saying.Says.{Lent, Says}
 use Rattle.dialogue.specs.declared.Dialogue.{Dialogue}
 use Rattle.dialogue.specs.declared.Taken.{Taken}
 

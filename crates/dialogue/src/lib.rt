@@ -2,16 +2,20 @@
 // one is done or answered.
 #![tactic(auto)]
 
+pub mod saying;
+
+pub mod upshot;
+
 ghost use Rattle.std.specs.Prelude.{◌≡◌, false};
 ghost use Rattle.sheet.specs.Record.{blank};
-ghost use Rattle.saying.specs.Says.{lent};
+ghost use Rattle.dialogue.specs.saying.Says.{lent};
 ghost use Rattle.dialogue.specs.Hears.{Hears};
 ghost use Rattle.dialogue.specs.Takes.{Takes, upshot_of};
 
 use line::{Line, Statement};
-use line_width::width_of;
+use word::line_width::width_of;
 use sheet::Sheet;
-use upshot::{Response, Upshot};
+use crate::upshot::{Response, Upshot};
 
 // The sheet as it is, and whether a mistake or a refusal came.
 #[derive(Clone, Copy)]
@@ -58,9 +62,9 @@ impl Dialogue {
     {
         let sheet = self.sheet;
         if self.stopped {
-            return Taken::of(upshot::silent(sheet));
+            return Taken::of(crate::upshot::silent(sheet));
         }
-        Taken::of(saying::says(sheet, statement, &mut *numbers, &mut *words))
+        Taken::of(crate::saying::says(sheet, statement, &mut *numbers, &mut *words))
     }
 
     // Reads a line, without its byte 10, at the width of the open sheet, and does what it says.

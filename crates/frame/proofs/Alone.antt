@@ -7,9 +7,9 @@ use native.Mathlib.Omega.{arith}
 use borrow.Author.Tests.{le-leb, ne_eqb}
 use lib.ListN.{drop_of_length-le, get_or, length}
 use lib.Seq.{drop-cons, take_all}
-use Rattle.hexadecimal.specs.Hex.{all_digits, glyph, hex, is_digit, number, number_from, value}
-use Rattle.hexadecimal.proofs.Inverse.{digits_back}
-use Rattle.fields.specs.Fields.{BYTE}
+use Rattle.digits.specs.hexadecimal.Hex.{all_digits, glyph, hex, is_digit, number, number_from, value}
+use Rattle.digits.proofs.hexadecimal.Inverse.{digits_back}
+use Rattle.frame.specs.fields.Fields.{BYTE}
 use Rattle.frame.specs.declared.Frame.TheVariants.{NoFrame}
 use Rattle.frame.specs.route.Reading.{bare, by_digits, frame_of}
 use Rattle.frame.proofs.Rows.{bare_row, no_digits}

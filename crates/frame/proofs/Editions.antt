@@ -5,9 +5,9 @@ use Prim.Native.Nat.{ℕ, ◌<◌, ◌^◌}
 use lib.ListN.{replicate}
 use Rattle.word.specs.declared.Edition.TheVariants.{New, Old}
 use Rattle.word.specs.Edition.{terms}
-use Rattle.hexadecimal.specs.Hex.{hex}
-use Rattle.hexadecimal.proofs.Padded.{ZERO, hex_padded}
-use Rattle.fields.specs.Fields.{WORD}
+use Rattle.digits.specs.hexadecimal.Hex.{hex}
+use Rattle.digits.proofs.hexadecimal.Padded.{ZERO, hex_padded}
+use Rattle.frame.specs.fields.Fields.{WORD}
 
 -- "16 digits of an old word are eight zeros and its eight digits"
 pub old_word : (x : ℕ) → x < 2 ^ (terms Old).widest → hex (WORD New) x ≡ replicate 8 ZERO ++ hex (WORD Old) x

@@ -23,8 +23,8 @@ use Rattle.word.proofs.Widths.{top-suc}
 use Rattle.rule.specs.declared.Rule.{Rule}
 use Rattle.rule.specs.Meaning.{RULES, fits}
 use Rattle.rule.specs.accept.Accept.{rule_grounds}
-use Rattle.verdict.specs.declared.Kept.{Kept}
-use Rattle.verdict.specs.Kept.{kept, verdict_of}
+use Rattle.search.specs.declared.verdict.Kept.{Kept}
+use Rattle.search.specs.verdict.Kept.{kept, verdict_of}
 use Rattle.chain.specs.declared.Link.{Link}
 use Rattle.chain.specs.Findings.{findings, chain_for}
 use Rattle.chain.specs.Chain.{Covers, Shows, end, on}
@@ -36,9 +36,9 @@ use Rattle.page.specs.Calls.{Call, Ground, add, ask, back, first_that_applies, f
 use Rattle.page.specs.Page.{Page, edition_of, entries_of, no_page, page, rules_on, width_of}
 use Rattle.page.specs.Reached.{Reached}
 use Rattle.page.proofs.Lawful.{reached_lawful}
-use Rattle.fields.specs.Answers.{ACCEPTED, NO_FRAME, REFUSED, chain_lines, kept_line, link_line, number_line}
+use Rattle.frame.specs.fields.Answers.{ACCEPTED, NO_FRAME, REFUSED, chain_lines, kept_line, link_line, number_line}
 use Rattle.frame.specs.Calls.{MadeCall, asks, makes, none}
-use Rattle.fields.specs.Fields.{AllInDigits, BYTE, InDigits, WORD, byte}
+use Rattle.frame.specs.fields.Fields.{AllInDigits, BYTE, InDigits, WORD, byte}
 use Rattle.frame.specs.Pages.{answer_to}
 use Rattle.word.proofs.Editions.{widest_fits}
 

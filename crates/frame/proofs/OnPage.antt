@@ -18,12 +18,12 @@ use Rattle.page.specs.Page.{Page, edition_of, no_page, page}
 use Rattle.sheet.specs.Record.{fresh}
 use Rattle.sheet.specs.Statements.{Asked, chain_on, overlaid, reply}
 use Rattle.page.specs.Reached.{Reached}
-use Rattle.demands.proofs.Demand.{after_reached, outcome_on}
+use Rattle.sheet.proofs.demands.Demand.{after_reached, outcome_on}
 use Rattle.page.proofs.Lawful.{reached_lawful}
 use Rattle.page.proofs.Refusals.{ask_fits, blank_ask}
-use Rattle.fields.specs.Answers.{ask_lines, chain_lines, link_line, link_lines, number_line}
+use Rattle.frame.specs.fields.Answers.{ask_lines, chain_lines, link_line, link_lines, number_line}
 use Rattle.frame.specs.Calls.{MadeCall, asks, makes, none}
-use Rattle.fields.specs.Fields.{Line}
+use Rattle.frame.specs.fields.Fields.{Line}
 use Rattle.frame.specs.Pages.{answer_to, page_after}
 use Rattle.frame.specs.Statements.{Said, answered, asked, no_call}
 

@@ -12,14 +12,14 @@ use Rattle.word.specs.declared.Edition.{Edition}
 use Rattle.word.specs.Edition.{terms}
 use Rattle.rule.specs.Meaning.{rule}
 use Rattle.page.specs.Page.{at_width}
-use Rattle.hexadecimal.specs.Hex.{all_digits, number}
-use Rattle.frame_numbers.specs.route.Numbers.{OPENING, adding, code_edition, rule_of}
+use Rattle.digits.specs.hexadecimal.Hex.{all_digits, number}
+use Rattle.frame.specs.frame_numbers.route.Numbers.{OPENING, adding, code_edition, rule_of}
 use Rattle.frame.specs.declared.Frame.{Frame}
 use Rattle.frame.specs.declared.Frame.TheVariants.{Add, Ask, Back, Forward, Mark, NoFrame, Open}
-use Rattle.fields.specs.Fields.{BYTE, InDigits, Line, WORD, byte, digits_in}
+use Rattle.frame.specs.fields.Fields.{BYTE, InDigits, Line, WORD, byte, digits_in}
 use Rattle.frame.specs.Frames.{IsFrame, fields_of}
 use Rattle.frame.specs.route.Reading.{bare, frame_of, numbered}
-use Rattle.fields.proofs.Fields.{digits_digits, fields_fit, fields_read, fields_written, fields_at, length_digits, total}
+use Rattle.frame.proofs.fields.Fields.{digits_digits, fields_fit, fields_read, fields_written, fields_at, length_digits, total}
 use Rattle.frame.proofs.Rows.{add_row, adds_own, bare_row, no_add, no_digits, no_open, no_row, numbers_row, open_row, opens_own}
 
 -- ---- a line that is read as a frame is that frame

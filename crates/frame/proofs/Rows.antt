@@ -11,10 +11,10 @@ use Rattle.word.specs.declared.Edition.{Edition}
 use Rattle.word.specs.declared.Edition.TheVariants.{New, Old}
 use Rattle.word.specs.Edition.{terms}
 use Rattle.page.specs.Page.{at_width}
-use Rattle.hexadecimal.specs.Hex.{all_digits, number}
-use Rattle.frame_numbers.specs.route.Numbers.{OPENING, adding, code_edition, rule_of}
+use Rattle.digits.specs.hexadecimal.Hex.{all_digits, number}
+use Rattle.frame.specs.frame_numbers.route.Numbers.{OPENING, adding, code_edition, rule_of}
 use Rattle.frame.specs.declared.Frame.TheVariants.{Add, NoFrame, Open}
-use Rattle.fields.specs.Fields.{BYTE, WORD}
+use Rattle.frame.specs.fields.Fields.{BYTE, WORD}
 use Rattle.frame.specs.route.Reading.{LONGEST, bare, by_digits, frame_of, numbered}
 use Rattle.word.proofs.Editions.{digits_held}
 

@@ -17,9 +17,9 @@ use Rattle.page.specs.Calls.{ask, refusal}
 use Rattle.page.specs.Page.{Page}
 use Rattle.sheet.specs.Statements.{Asked, IsSheet, chain_on, overlaid, reply}
 use Rattle.sheet.proofs.Tested.{sheet_dec}
-use Rattle.fields.specs.Answers.{ROOM, answer_bytes, ask_lines, kept_line, line_bytes, link_lines, number_line}
-use Rattle.fields.specs.Put.{PutAt}
-use Rattle.fields.proofs.Lines.{length_kept, length_links, length_number, one_line}
+use Rattle.frame.specs.fields.Answers.{ROOM, answer_bytes, ask_lines, kept_line, line_bytes, link_lines, number_line}
+use Rattle.frame.specs.fields.Put.{PutAt}
+use Rattle.frame.proofs.fields.Lines.{length_kept, length_links, length_number, one_line}
 
 pub number_fits : (n : ℕ) → length (answer_bytes (number_line n ∷ [])) ≤ ROOM
 unfolding answer_bytes

@@ -10,12 +10,12 @@ use Rattle.sheet.specs.declared.slate_ask.Reply.{Reply}
 use Rattle.sheet.specs.declared.Sheet.{Sheet}
 use Rattle.sheet.specs.Statements.{Asked, IsSheet}
 use Rattle.sheet.proofs.Tested.{sheet_dec}
-use Rattle.demands.proofs.Unique.{outcome_unique}
-use Rattle.fields.specs.Answers.{answer_bytes, ask_lines, number_line}
+use Rattle.sheet.proofs.demands.Unique.{outcome_unique}
+use Rattle.frame.specs.fields.Answers.{answer_bytes, ask_lines, number_line}
 use Rattle.frame.specs.Calls.{MadeCall}
-use Rattle.fields.specs.Fields.{Line}
+use Rattle.frame.specs.fields.Fields.{Line}
 use Rattle.frame.specs.Statements.{Answered, Said, answered, asked, no_call}
-use Rattle.fields.specs.Put.{PutAt}
+use Rattle.frame.specs.fields.Put.{PutAt}
 use Rattle.frame.proofs.OnPage.{asked_lines}
 
 same_answer : {r r' : Answer} → r ≡ r' → (r.sheet ≡ r'.sheet) × (number_line r.number ∷ [] ≡ number_line r'.number ∷ [])

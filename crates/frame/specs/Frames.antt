@@ -3,7 +3,7 @@ use Rattle.std.specs.Prelude.{◌≡◌, List, [], ◌∷◌, ℕ}
 use Rattle.word.specs.Edition.{terms}
 use Rattle.frame.specs.declared.Frame.{Frame}
 use Rattle.frame.specs.declared.Frame.TheVariants.{Add, Ask, Back, Forward, Mark, NoFrame, Open}
-use Rattle.fields.specs.Fields.{InDigits, Line, byte, digits_in, word}
+use Rattle.frame.specs.fields.Fields.{InDigits, Line, byte, digits_in, word}
 
 -- "`01` width(2): open. `02` form(2) sense(2) c1(8) c2(8): add. `03` mark. `04` back. `05` ask."; "frame `06`: it brings back the
 -- stretch most recently taken back"; and "Frame `11` opens a sheet of width 1 to 64; its adds are frame `12`, with constants of 16 digits"

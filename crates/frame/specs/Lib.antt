@@ -3,3 +3,8 @@ pub mod Frames
 pub mod Pages
 pub mod Statements
 pub mod route
+pub mod fields
+pub mod frame_numbers
+pub mod input_line
+pub mod exchange
+pub mod parts

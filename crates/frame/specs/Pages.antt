@@ -3,9 +3,9 @@ use Rattle.std.specs.Prelude.{cond, List, [], ◌∷◌, eqb}
 use Rattle.chain.specs.Findings.{findings}
 use Rattle.page.specs.Calls.{after, ask, refusal, rules_of}
 use Rattle.page.specs.Page.{Page, edition_of, width_of}
-use Rattle.fields.specs.Answers.{NO_FRAME, chain_lines, kept_line, number_line}
+use Rattle.frame.specs.fields.Answers.{NO_FRAME, chain_lines, kept_line, number_line}
 use Rattle.frame.specs.Calls.{MadeCall, asks, makes, none}
-use Rattle.fields.specs.Fields.{Line}
+use Rattle.frame.specs.fields.Fields.{Line}
 
 -- a call is answered by its number, asking by what is found, in the digits of the page's edition, and a line that makes no call by 10
 unfoldable pub answer_to : Page → MadeCall → List Line

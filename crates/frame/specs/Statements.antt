@@ -5,10 +5,10 @@ use Rattle.sheet.specs.declared.slate_ask.Reply.{Reply}
 use Rattle.sheet.specs.declared.Sheet.{Sheet}
 use Rattle.page.specs.Calls.{Call}
 use Rattle.sheet.specs.Statements.{Asked, Outcome}
-use Rattle.fields.specs.Answers.{NO_FRAME, ROOM, answer_bytes, ask_lines, number_line}
+use Rattle.frame.specs.fields.Answers.{NO_FRAME, ROOM, answer_bytes, ask_lines, number_line}
 use Rattle.frame.specs.Calls.{MadeCall, asks, makes, none}
-use Rattle.fields.specs.Fields.{Line}
-use Rattle.fields.specs.Put.{PutAt}
+use Rattle.frame.specs.fields.Fields.{Line}
+use Rattle.frame.specs.fields.Put.{PutAt}
 
 -- What a line gets on a record, whatever that is: the record after it, and the lines of its answer. Its call is made as that
 -- promises, asking with as many numbers lent as it says; where it makes none, the answer is refusal 10.

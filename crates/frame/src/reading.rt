@@ -1,10 +1,10 @@
 // From the digits of a line to a frame.
 ghost use Rattle.std.specs.Prelude.{◌≡◌, length};
-ghost use Rattle.fields.specs.Fields.{BYTE};
+ghost use Rattle.frame.specs.fields.Fields.{BYTE};
 ghost use Rattle.frame.specs.route.Reading.{bare, frame_of, numbered};
 
 use crate::Frame;
-use frame_numbers::OPENING;
+use crate::frame_numbers::OPENING;
 use page::Opening;
 use word::Edition;
 
@@ -19,11 +19,11 @@ pub fn decode(line: &[u8]) -> Frame
     if n == Frame::BYTE {
         return code_alone(line);
     }
-    if !hexadecimal::all_digits(line) {
+    if !digits::hexadecimal::all_digits(line) {
         return Frame::NoFrame;
     }
-    let code = hexadecimal::number(line, 0, Frame::BYTE);
-    numbered(line, code, frame_numbers::edition_of(code))
+    let code = digits::hexadecimal::number(line, 0, Frame::BYTE);
+    numbered(line, code, crate::frame_numbers::edition_of(code))
 }
 
 // The frame of a line that has room for a code alone: most lines, so these are told by their two bytes, without reading a number.
@@ -71,14 +71,14 @@ fn numbered(line: &[u8], code: u64, edition: Edition) -> Frame
     ensures { result ≡ numbered edition code line.now }
 {
     let n = line.len();
-    if frame_numbers::opens(edition, code, n) {
+    if crate::frame_numbers::opens(edition, code, n) {
         return Frame::Open(Opening {
-            width: hexadecimal::number(line, Frame::BYTE, OPENING),
+            width: digits::hexadecimal::number(line, Frame::BYTE, OPENING),
             edition,
         });
     }
-    if frame_numbers::adds(edition, code, n) {
-        return Frame::Add(edition, frame_numbers::rule_of(line, edition));
+    if crate::frame_numbers::adds(edition, code, n) {
+        return Frame::Add(edition, crate::frame_numbers::rule_of(line, edition));
     }
     Frame::NoFrame
 }

@@ -20,8 +20,8 @@ use Rattle.sheet.specs.route.Stands.{Standing}
 use Rattle.sheet.specs.Statements.{AllAccepted, Outcome, Reads, Sequence, answers, calls, done}
 use Rattle.sheet.proofs.Stands.{known, refused_standing}
 use Rattle.sheet.proofs.Ways.{accepted_reads, refused_reads}
-use Rattle.demands.proofs.Demand.{sequence_accepted, sequence_clerk}
-use Rattle.gate_refusal.specs.route.Seen.{GateSeen, before_table, by_table}
+use Rattle.sheet.proofs.demands.Demand.{sequence_accepted, sequence_clerk}
+use Rattle.gating.specs.gate_refusal.route.Seen.{GateSeen, before_table, by_table}
 
 -- a gate that is refused, and one that is not
 pub refused_gate : {s : Sheet} (g : Gate) {n : ℕ} → GateSeen s g n → (n ≡ 0 → ⊥) → Reads s (set_gate g) (answers n s)

@@ -1,1 +1,2 @@
 pub mod route
+pub mod gate_refusal

@@ -1,12 +1,14 @@
 // Setting a power gate on a sheet: its four rules are added, or none is.
 #![tactic(auto)]
 
+pub mod gate_refusal;
+
 ghost use Rattle.page.specs.Calls.{set_gate};
 ghost use Rattle.sheet.specs.Statements.{Outcome};
 ghost use Rattle.gating.specs.route.Added.{AddedFor};
 
 use gate::{Four, Gate, Turned};
-use gate_refusal::refusal_of;
+use crate::gate_refusal::refusal_of;
 use sheet::{Answer, Sheet};
 
 // Sets a gate on any record.

@@ -2,23 +2,39 @@
 // memory: any numbers are read, and those that are no sheet's make a record that is none.
 #![tactic(auto)]
 
+pub mod on_kept;
+
+pub mod on_sheets;
+
+pub mod bare_calls;
+
+pub mod kept_changes;
+
+pub mod kept_put;
+
+pub mod kept_head;
+
+pub mod kept_read;
+
+pub mod kept_numbers;
+
 ghost use Rattle.std.specs.Prelude.{◌≡◌, cond, eqb, length};
-ghost use Rattle.kept_numbers.specs.Numbers.{NUMBERS, numbers_of};
-ghost use Rattle.kept_numbers.specs.route.Reading.{sheet_in};
+ghost use Rattle.keeping.specs.kept_numbers.Numbers.{NUMBERS, numbers_of};
+ghost use Rattle.keeping.specs.kept_numbers.route.Reading.{sheet_in};
 
 use sheet::{Answer, Sheet};
-use verdict::Kept;
+use search::verdict::Kept;
 
-pub const NUMBERS: usize = kept_numbers::NUMBERS;
+pub const NUMBERS: usize = crate::kept_numbers::NUMBERS;
 
 // The record that the numbers are. They come by value, so that there are as many.
 pub fn read(numbers: [u64; NUMBERS]) -> Sheet
     ensures value { result ≡ sheet_in numbers }
     ensures numbers_len { length numbers ≡ NUMBERS }
 {
-    let rules = kept_read::rules_in(&numbers);
-    let marks = kept_read::marks_in(&numbers);
-    let opening = kept_head::opening_in(numbers[0], numbers[1]);
+    let rules = crate::kept_read::rules_in(&numbers);
+    let marks = crate::kept_read::marks_in(&numbers);
+    let opening = crate::kept_head::opening_in(numbers[0], numbers[1]);
     let edition = opening.edition;
     let kept = Kept {
         verdict: numbers[6],
@@ -48,6 +64,6 @@ pub fn keep(numbers: &mut [u64; NUMBERS], answer: Answer) -> u64
         return answer.number;
     }
     let sheet = answer.sheet;
-    *numbers = kept_put::written(sheet);
+    *numbers = crate::kept_put::written(sheet);
     0
 }

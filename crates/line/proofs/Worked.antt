@@ -2,15 +2,15 @@
 use mathlib.Core.Path.{◌≡◌, refl}
 use mathlib.Core.List.{map}
 use Rattle.word.specs.Word.{half, minus}
-use Rattle.hexadecimal.specs.Text.{bytes_of}
-use Rattle.numeral.specs.Numeral.{after_zero, below_zero, digit, next, past_digit, pointed, value_of}
-use Rattle.grammar.specs.Grammar.{expected, find, follow, is_watts, is_whole, kind_of, row_at}
-use Rattle.grammar.specs.Kinds.{packed_from}
-use Rattle.token.specs.Token.{begun, class_of, is_blank, is_sign, is_word, kind, kind_of_number, more, opened, packed, text_kind}
-use Rattle.scan.specs.Scan.{failed, instead_of, is_number, named, negated, numbered, placed, started, takes_number, with_token}
-use Rattle.scanning.specs.Scanning.{accepted, closed, followed, scanned, step, steps}
-use Rattle.line_end.specs.End.{end_of, past_last, uncommented}
-use Rattle.row_rules.specs.Rules.{rule_at, rule_of, signed_word}
+use Rattle.digits.specs.hexadecimal.Text.{bytes_of}
+use Rattle.digits.specs.numeral.Numeral.{after_zero, below_zero, digit, next, past_digit, pointed, value_of}
+use Rattle.line.specs.grammar.Grammar.{expected, find, follow, is_watts, is_whole, kind_of, row_at}
+use Rattle.line.specs.grammar.Kinds.{packed_from}
+use Rattle.line.specs.token.Token.{begun, class_of, is_blank, is_sign, is_word, kind, kind_of_number, more, opened, packed, text_kind}
+use Rattle.line.specs.scan.Scan.{failed, instead_of, is_number, named, negated, numbered, placed, started, takes_number, with_token}
+use Rattle.line.specs.scanning.Scanning.{accepted, closed, followed, scanned, step, steps}
+use Rattle.line.specs.line_end.End.{end_of, past_last, uncommented}
+use Rattle.line.specs.row_rules.Rules.{rule_at, rule_of, signed_word}
 use Rattle.line.specs.Line.{by_row, finished, nothing_read, other, read, rule_statement, rule_with}
 use Rattle.line.specs.Examples.{Example, examples}
 

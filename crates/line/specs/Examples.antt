@@ -1,10 +1,10 @@
 -- Lines of a sheet as one table: the width, the line, and what it says, read off docs/VET.md by hand. Places go from 0.
 use Rattle.std.specs.Prelude.{Bool, true, false, List, [], ◌∷◌, ◌++◌, ℕ, replicate}
 use Prim.Native.String.{String}
-use Rattle.hexadecimal.specs.Text.{bytes_of}
+use Rattle.digits.specs.hexadecimal.Text.{bytes_of}
 use Rattle.rule.specs.Meaning.{rule}
-use Rattle.numeral.specs.Numeral.{DIGITS, numeral}
-use Rattle.grammar.specs.Kinds.{
+use Rattle.digits.specs.numeral.Numeral.{DIGITS, numeral}
+use Rattle.line.specs.grammar.Kinds.{
   AMOUNT,
   AT_MOST,
   COLON,
@@ -20,7 +20,7 @@ use Rattle.grammar.specs.Kinds.{
   STATEMENT,
   UP_TO,
 }
-use Rattle.scan.specs.declared.Amount.{Amount}
+use Rattle.line.specs.declared.scan.Amount.{Amount}
 use Rattle.line.specs.declared.Line.{Line}
 use Rattle.line.specs.declared.Statement.{Statement}
 use Rattle.line.specs.declared.Statement.TheVariants.{

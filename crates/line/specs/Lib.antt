@@ -1,2 +1,9 @@
 pub mod Examples
 pub mod Line
+pub mod grammar
+pub mod token
+pub mod scan
+pub mod scanning
+pub mod line_end
+pub mod row_rules
+pub mod piece

@@ -2,13 +2,13 @@
 use Rattle.std.specs.Prelude.{Bool, false, ◌&&◌, ◌||◌, cond, List, [], ◌∷◌, ℕ, ◌-◌, eqb, ltb, get_or, length}
 use Rattle.word.specs.declared.Found.{Found}
 use Rattle.word.specs.declared.Found.TheVariants.{At, Nothing}
-use Rattle.grammar.specs.declared.Place.{Place}
-use Rattle.grammar.specs.Grammar.{NOT_ROW, ROWS, expected, is_whole}
-use Rattle.grammar.specs.Kinds.{SHORTER_LINE, SIGNED_WORD}
-use Rattle.scan.specs.declared.Amount.{Amount}
-use Rattle.scan.specs.declared.Mistake.{Mistake}
-use Rattle.scan.specs.declared.Scan.{Scan}
-use Rattle.scanning.specs.Scanning.{scanned}
+use Rattle.line.specs.declared.grammar.Place.{Place}
+use Rattle.line.specs.grammar.Grammar.{NOT_ROW, ROWS, expected, is_whole}
+use Rattle.line.specs.grammar.Kinds.{SHORTER_LINE, SIGNED_WORD}
+use Rattle.line.specs.declared.scan.Amount.{Amount}
+use Rattle.line.specs.declared.scan.Mistake.{Mistake}
+use Rattle.line.specs.declared.scan.Scan.{Scan}
+use Rattle.line.specs.scanning.Scanning.{scanned}
 use Rattle.line.specs.declared.Line.{Line}
 use Rattle.line.specs.declared.Statement.{Statement}
 use Rattle.line.specs.declared.Statement.TheVariants.{
@@ -27,8 +27,8 @@ use Rattle.line.specs.declared.Statement.TheVariants.{
   Wrong,
 }
 use Rattle.line.specs.declared.Statement.TheVariants as said
-use Rattle.line_end.specs.End.{end_of}
-use Rattle.row_rules.specs.Rules.{rule_of, signed_word}
+use Rattle.line.specs.line_end.End.{end_of}
+use Rattle.line.specs.row_rules.Rules.{rule_of, signed_word}
 
 -- the most bytes that a line may have
 abbrev pub LIMIT : ℕ

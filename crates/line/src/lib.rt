@@ -1,15 +1,29 @@
 // A line as people write it, read into a statement, or into its first mistake.
 #![tactic(auto)]
 
+pub mod piece;
+
+pub mod row_rules;
+
+pub mod line_end;
+
+pub mod scanning;
+
+pub mod scan;
+
+pub mod token;
+
+pub mod grammar;
+
 ghost use Rattle.std.specs.Prelude.{◌≡◌};
 ghost use Rattle.word.specs.Word.{IsWidth};
 ghost use Rattle.line.specs.Line.{by_row, finished, nothing_read, other, read, rule_statement};
 
-use grammar::{Place, kind};
-use line_end::end_of;
-use row_rules::{rule_of, signed_word};
+use crate::grammar::{Place, kind};
+use crate::line_end::end_of;
+use crate::row_rules::{rule_of, signed_word};
 use rule::Rule;
-use scan::{Amount, Mistake, Name, Scan};
+use crate::scan::{Amount, Mistake, Name, Scan};
 use word::{Found, Width};
 
 // Words to list: from a word on, and at most so many.
@@ -67,7 +81,7 @@ pub fn read(line: &[u8], width: Width) -> Line
             },
         };
     }
-    let scan = scanning::whole(line);
+    let scan = crate::scanning::whole(line);
     let name = scan.name;
     Line {
         statement: finish(scan, end_of(line), width),

@@ -11,8 +11,8 @@ use lib.ListN.{drop, get_or, length, length-replicate, length-take, replicate, t
 use lib.Seq.{get_or-take, take_at}
 use Rattle.word.specs.Word.{top}
 use Rattle.rule.specs.declared.Rule.{Rule}
-use Rattle.verdict.specs.declared.Kept.{Kept}
-use Rattle.verdict.specs.Kept.{kept}
+use Rattle.search.specs.declared.verdict.Kept.{Kept}
+use Rattle.search.specs.verdict.Kept.{kept}
 use Rattle.chain.specs.Findings.{findings}
 use Rattle.page.specs.Calls.{ask, first_that_applies, is_blank, refusal, rules_of}
 use Rattle.page.specs.Page.{OpenPage, entries_of, page, rules_on, width_of}
@@ -22,20 +22,20 @@ use Rattle.sheet.specs.declared.Sheet.{Sheet}
 use Rattle.sheet.specs.Record.{fresh}
 use Rattle.sheet.specs.Statements.{Asked, chain_on, refuses, replies, reply}
 use Rattle.sheet.proofs.WaysOfAsking.{accepted_reply}
-use Rattle.fitting.specs.Agreement.{Agrees}
-use Rattle.fitting.specs.Next.{EachNext}
-use Rattle.fitting.specs.Words.{at_start, fitting_from, how_many, onward, words_from}
-use Rattle.fitting.proofs.Agreement.{kept_agrees}
-use Rattle.fitting.proofs.Carried as carried
-use Rattle.fitting.proofs.Only.{each_next}
+use Rattle.counting.specs.fitting.Agreement.{Agrees}
+use Rattle.counting.specs.fitting.Next.{EachNext}
+use Rattle.counting.specs.fitting.Words.{at_start, fitting_from, how_many, onward, words_from}
+use Rattle.counting.proofs.fitting.Agreement.{kept_agrees}
+use Rattle.counting.proofs.fitting.Carried as carried
+use Rattle.counting.proofs.fitting.Only.{each_next}
 use Rattle.counting.specs.declared.Share.{Share}
 use Rattle.counting.specs.Counted.{Counted, count_grounds, share_of}
 use Rattle.counting.specs.Share.{shares, together}
 use Rattle.counting.proofs.Free.{together-shares}
 use Rattle.listing.specs.declared.Listing.{Listing}
 use Rattle.listing.specs.Carried.{CarriedOn, Wrote, further, not_filled, top_written}
-use Rattle.list_refusal.specs.Grounds.{list_number}
-use Rattle.list_refusal.proofs.Numbers.{own_number}
+use Rattle.listing.specs.list_refusal.Grounds.{list_number}
+use Rattle.listing.proofs.list_refusal.Numbers.{own_number}
 use Rattle.listing.specs.Listed.{list_on, listings}
 use Rattle.listing.proofs.Held.{listed_on}
 

@@ -16,15 +16,15 @@ use Rattle.sheet.specs.declared.Sheet.{Sheet}
 use Rattle.sheet.specs.Record.{fresh}
 use Rattle.sheet.specs.route.Stands.{Stands, blank_sheet, no_sheet, on_page}
 use Rattle.sheet.proofs.OnePage.{one_page}
-use Rattle.laid_force.specs.declared.Found.{Found}
-use Rattle.laid_force.specs.route.Found.{FoundIn}
-use Rattle.laid_force.proofs.Force.{page_width, passes_so, standing}
-use Rattle.fitting.specs.Words.{at_start, fitting_from, words_from}
-use Rattle.fitting.proofs.Passing.{passing_same}
-use Rattle.list_refusal.specs.Grounds.{list_number}
-use Rattle.list_refusal.specs.route.Seen.{StartSeen, before_table, high_start, own_start}
-use Rattle.list_refusal.proofs.Numbers.{blank_number, high_number, own_number}
-use Rattle.listed_rows.specs.route.Filled.{Filled, words_in}
+use Rattle.sheet.specs.declared.laid_force.Found.{Found}
+use Rattle.sheet.specs.laid_force.route.Found.{FoundIn}
+use Rattle.sheet.proofs.laid_force.Force.{page_width, passes_so, standing}
+use Rattle.counting.specs.fitting.Words.{at_start, fitting_from, words_from}
+use Rattle.counting.proofs.fitting.Passing.{passing_same}
+use Rattle.listing.specs.list_refusal.Grounds.{list_number}
+use Rattle.listing.specs.list_refusal.route.Seen.{StartSeen, before_table, high_start, own_start}
+use Rattle.listing.proofs.list_refusal.Numbers.{blank_number, high_number, own_number}
+use Rattle.listing.specs.listed_rows.route.Filled.{Filled, words_in}
 use Rattle.listing.specs.declared.Listing.{Listing}
 use Rattle.listing.specs.Listed.{Listed, list_on, listings}
 

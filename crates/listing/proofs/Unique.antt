@@ -10,7 +10,7 @@ use Rattle.page.specs.Calls.{rules_of}
 use Rattle.page.specs.Page.{width_of}
 use Rattle.sheet.specs.declared.Sheet.{Sheet}
 use Rattle.sheet.proofs.Tested.{same_outcome, sheet_or_not}
-use Rattle.fitting.specs.Words.{at_start, words_from}
+use Rattle.counting.specs.fitting.Words.{at_start, words_from}
 use Rattle.listing.specs.declared.Listing.{Listing}
 use Rattle.listing.specs.Listed.{Listed, list_on}
 

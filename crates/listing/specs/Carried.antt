@@ -3,7 +3,7 @@
 use Rattle.std.specs.Prelude.{◌≡◌, List, ◌++◌, ℕ, suc, ◌<◌, length, take}
 use Rattle.word.specs.Word.{top}
 use Rattle.sheet.specs.declared.Sheet.{Sheet}
-use Rattle.fitting.specs.Words.{onward}
+use Rattle.counting.specs.fitting.Words.{onward}
 use Rattle.listing.specs.declared.Listing.{Listing}
 use Rattle.listing.specs.Listed.{Listed}
 

@@ -6,8 +6,8 @@ use Rattle.page.specs.Reached.{Reached}
 use Rattle.sheet.specs.declared.Sheet.{Sheet}
 use Rattle.sheet.specs.Record.{fresh}
 use Rattle.sheet.specs.Statements.{IsSheet}
-use Rattle.fitting.specs.Words.{at_start, words_from}
-use Rattle.list_refusal.specs.Grounds.{list_number}
+use Rattle.counting.specs.fitting.Words.{at_start, words_from}
+use Rattle.listing.specs.list_refusal.Grounds.{list_number}
 use Rattle.listing.specs.declared.Listing.{Listing}
 
 abbrev pub listings : (number written : ℕ) → Listing

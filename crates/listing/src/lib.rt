@@ -1,10 +1,24 @@
 // Which words fit a sheet: from a given word upward, as many as a lent buffer holds.
 #![tactic(auto)]
 
+pub mod blaming;
+
+pub mod blame_refusal;
+
+pub mod failed_rules;
+
+pub mod list_refusal;
+
+pub mod listed_rows;
+
+pub mod filling;
+
+pub mod putting;
+
 ghost use Rattle.listing.specs.Listed.{Listed};
 
-use list_refusal::refusal_of;
-use rows::NUMBERS;
+use crate::list_refusal::refusal_of;
+use search::rows::NUMBERS;
 use rule::Rule;
 use sheet::Sheet;
 
@@ -20,8 +34,8 @@ pub fn list(sheet: Sheet, start: u64, out: &mut [u64]) -> Listing
     ensures { Listed sheet start out.old out.new result }
 {
     let mut rows = [[0; NUMBERS]; Rule::LIMIT];
-    let found = laid_force::look(sheet, &mut rows);
+    let found = sheet::laid_force::look(sheet, &mut rows);
     let number = refusal_of(found.number, found.force.width, start);
-    let written = listed_rows::fill(number, &rows, found.force, start, &mut *out);
+    let written = crate::listed_rows::fill(number, &rows, found.force, start, &mut *out);
     Listing { number, written }
 }

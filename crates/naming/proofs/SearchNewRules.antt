@@ -2,7 +2,7 @@
 use mathlib.Core.Path.{◌≡◌, refl}
 use Prim.Native.Nat.{ℕ}
 use Rattle.rule.specs.declared.Rule.{Rule}
-use Rattle.scan.specs.declared.Amount.{Amount}
+use Rattle.line.specs.declared.scan.Amount.{Amount}
 use Rattle.line.specs.declared.Statement.{Statement}
 use Rattle.line.specs.declared.Statement.TheVariants as said
 use borrow.Author.Rules.{rules}

@@ -8,15 +8,15 @@ use borrow.Author.Tests.{leb-true, ltb-true, not-true}
 use lib.Dec.{leb, ltb}
 use Rattle.word.specs.Word.{top}
 use Rattle.word.proofs.Tests.{both_pass}
-use Rattle.interval.specs.Interval.{Words, hollow, within}
+use Rattle.span.specs.interval.Interval.{Words, hollow, within}
 use Rattle.span.specs.Join.{is_width}
-use Rattle.interval.proofs.Intervals.{is_words}
-use Rattle.net_step.specs.declared.Join.{Join}
+use Rattle.span.proofs.interval.Intervals.{is_words}
+use Rattle.net.specs.declared.net_step.Join.{Join}
 use Rattle.net.specs.declared.Net.{Net}
 use Rattle.net.specs.Net.{AllNamed, refusal}
-use Rattle.net_tests.specs.Fits.{JOINS, every, fits, join_at}
-use Rattle.net_step.specs.Named.{Named, WORDS, named, third, word_at}
-use Rattle.net_tests.proofs.Every.{every_holds}
+use Rattle.net.specs.net_tests.Fits.{JOINS, every, fits, join_at}
+use Rattle.net.specs.net_step.Named.{Named, WORDS, named, third, word_at}
+use Rattle.net.proofs.net_tests.Every.{every_holds}
 
 pub record Accepted (net : Net) : Type 0 where
   pub words : net.count ≤ WORDS

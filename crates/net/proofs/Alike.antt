@@ -12,25 +12,25 @@ use borrow.Author.Tests.{eq-eqb, ne_eqb}
 use lib.ListN.{length, length-set}
 use lib.Seq.{get_or-set_same, set_out}
 use Rattle.word.specs.Word.{top}
-use Rattle.interval.specs.declared.Interval.{Interval}
-use Rattle.interval.specs.declared.Op.{Op}
-use Rattle.interval.specs.declared.Op.TheVariants.{And, Not, Or, Xor}
-use Rattle.interval.specs.Interval.{cut, hollow, interval, within}
+use Rattle.span.specs.declared.interval.Interval.{Interval}
+use Rattle.span.specs.declared.interval.Op.{Op}
+use Rattle.span.specs.declared.interval.Op.TheVariants.{And, Not, Or, Xor}
+use Rattle.span.specs.interval.Interval.{cut, hollow, interval, within}
 use Rattle.span.specs.Join.{joined}
 use Rattle.net.specs.declared.Ended.{Ended}
 use Rattle.net.specs.declared.Ended.TheVariants.{Empty, Spent, Steady}
-use Rattle.net_step.specs.declared.Join.{Join}
+use Rattle.net.specs.declared.net_step.Join.{Join}
 use Rattle.net.specs.declared.Net.{Net}
 use Rattle.net.specs.Demand.{Alike, SameAnswer, SameJoin, SameWords, refilled}
-use Rattle.net_step.specs.Named.{Named, named, place_of, third, word_at}
-use Rattle.net_tests.specs.Fits.{every, fits, join_at}
+use Rattle.net.specs.net_step.Named.{Named, named, place_of, third, word_at}
+use Rattle.net.specs.net_tests.Fits.{every, fits, join_at}
 use Rattle.net.specs.Net.{refusal, turn, turned_down}
 use Rattle.net.specs.route.Run.{Stop, goes, next, ran, shown, stand, start, stop, walked}
-use Rattle.net_step.specs.Step.{after, cut_all, cut_at, emptied, left, no_word, results, stepped, unchanged}
+use Rattle.net.specs.net_step.Step.{after, cut_all, cut_at, emptied, left, no_word, results, stepped, unchanged}
 use Rattle.net.proofs.Accepted.{accepted}
 use Rattle.net.proofs.Going.{goes-empty, goes-next, goes_spent, goes_steady}
 use Rattle.net.proofs.Reached.{told}
-use Rattle.net_step.proofs.Unchanged.{elsewhere, tested, unchanged_self}
+use Rattle.net.proofs.net_step.Unchanged.{elsewhere, tested, unchanged_self}
 
 every_same : (n : ℕ) (f g : ℕ → Bool) → ((k : ℕ) → k < n → f k ≡ g k) → every n f ≡ every n g
 unfolding every

@@ -7,14 +7,14 @@ use native.Mathlib.Decide.{dec_lt, ℕ_discrete}
 use native.Mathlib.Omega.{arith}
 use lib.ListN.{length}
 use lib.Seq.{get_or-set_same, set_out}
-use Rattle.interval.specs.declared.Interval.{Interval}
+use Rattle.span.specs.declared.interval.Interval.{Interval}
 use Rattle.span.specs.declared.Joined.{Joined}
 use Rattle.span.specs.Demand.{Inside}
-use Rattle.interval.specs.Interval.{cut, interval}
-use Rattle.net_step.specs.declared.Join.{Join}
-use Rattle.net_step.specs.Named.{third, word_at}
-use Rattle.net_step.specs.Step.{after, cut_all, cut_at, emptied, left, results}
-use Rattle.net_step.proofs.Unchanged.{elsewhere}
+use Rattle.span.specs.interval.Interval.{cut, interval}
+use Rattle.net.specs.declared.net_step.Join.{Join}
+use Rattle.net.specs.net_step.Named.{third, word_at}
+use Rattle.net.specs.net_step.Step.{after, cut_all, cut_at, emptied, left, results}
+use Rattle.net.proofs.net_step.Unchanged.{elsewhere}
 
 pub stays : (i : Interval) → Inside i i
 stays i = record { low = omega arith; high = omega arith }

@@ -10,30 +10,30 @@ use native.Mathlib.Omega.{arith}
 use lib.ListN.{length}
 use borrow.Author.Tests.{ltb-true}
 use Rattle.word.proofs.Tests.{both_fail}
-use Rattle.interval.specs.declared.Interval.{Interval}
+use Rattle.span.specs.declared.interval.Interval.{Interval}
 use Rattle.span.specs.declared.Joined.{Joined}
-use Rattle.interval.specs.declared.Op.{Op}
-use Rattle.interval.specs.declared.Op.TheVariants.{And, Not, Or, Xor}
-use Rattle.interval.specs.Interval.{hollow}
+use Rattle.span.specs.declared.interval.Op.{Op}
+use Rattle.span.specs.declared.interval.Op.TheVariants.{And, Not, Or, Xor}
+use Rattle.span.specs.interval.Interval.{hollow}
 use Rattle.span.specs.Join.{all_cut, any_hollow, as_given, is_width}
 use Rattle.span.specs.Join as join
-use Rattle.interval.specs.Op.{second}
-use Rattle.interval.proofs.Intervals.{hollow_none}
+use Rattle.span.specs.interval.Op.{second}
+use Rattle.span.proofs.interval.Intervals.{hollow_none}
 use Rattle.span.proofs.Outcome.{else_cut, empty_gives_back}
-use Rattle.net_step.specs.declared.Join.{Join}
+use Rattle.net.specs.declared.net_step.Join.{Join}
 use Rattle.net.specs.declared.Net.{Net}
 use Rattle.net.specs.Demand.{EmptyCut, InResults, cuts}
-use Rattle.net_step.specs.Named.{Named, third, word_at}
+use Rattle.net.specs.net_step.Named.{Named, third, word_at}
 use Rattle.net.specs.Net.{refusal, turn}
 use Rattle.net.specs.Plain.{empty_at, words_after}
-use Rattle.net_step.specs.Step.{after, emptied, left, no_word, results}
+use Rattle.net.specs.net_step.Step.{after, emptied, left, no_word, results}
 use Rattle.net.proofs.Accepted.{accepted}
 use Rattle.net.proofs.Alike.{no_not}
 use Rattle.net.proofs.Cuts.{either_left}
 use Rattle.net.proofs.Kept.{AllWords, accepts, first_in, words_after_lem}
 use Rattle.net.proofs.Leaves.{after_among, among_after, third_y}
 use Rattle.net.proofs.Reached.{told}
-use Rattle.net_step.proofs.Unchanged.{as_long}
+use Rattle.net.proofs.net_step.Unchanged.{as_long}
 
 any_passes : (a b c : Bool) → (a || (b || c)) ≡ true → (a ≡ true) ⊎ ((b ≡ true) ⊎ (c ≡ true))
 any_passes true b c e = inl refl

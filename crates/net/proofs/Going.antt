@@ -7,14 +7,14 @@ use Prim.Native.Nat.{ℕ, zero, suc, ◌+◌, ◌-◌, ◌≤◌, ◌<◌}
 use native.Mathlib.Numerals.{add-one}
 use native.Mathlib.Omega.{arith}
 use borrow.Author.Tests.{le-leb, lt-leb}
-use Rattle.interval.specs.declared.Interval.{Interval}
+use Rattle.span.specs.declared.interval.Interval.{Interval}
 use Rattle.net.specs.declared.Answer.{Answer}
 use Rattle.net.specs.declared.Ended.TheVariants.{Empty, Spent, Steady}
-use Rattle.net_step.specs.declared.Join.{Join}
-use Rattle.net_step.specs.declared.Stepped.{Stepped}
+use Rattle.net.specs.declared.net_step.Join.{Join}
+use Rattle.net.specs.declared.net_step.Stepped.{Stepped}
 use Rattle.net.specs.Net.{given, turn}
 use Rattle.net.specs.route.Run.{Stand, Stop, goes, next, shown, stand, start, steady, stop}
-use Rattle.net_step.specs.Step.{stepped}
+use Rattle.net.specs.net_step.Step.{stepped}
 
 met : (b : Bool) (x y : Stop) → b ≡ true → cond b x y ≡ x
 met b x y e = ap (λ (c : Bool). cond c x y) e

@@ -8,22 +8,22 @@ use native.Mathlib.Omega.{arith}
 use lib.Dec.{eqb}
 use Rattle.word.specs.Word.{top}
 use Rattle.word.proofs.Tests.{both_fail}
-use Rattle.interval.specs.declared.Interval.{Interval}
-use Rattle.interval.specs.declared.Op.{Op}
-use Rattle.interval.specs.declared.Op.TheVariants.{And, Not, Or, Xor}
+use Rattle.span.specs.declared.interval.Interval.{Interval}
+use Rattle.span.specs.declared.interval.Op.{Op}
+use Rattle.span.specs.declared.interval.Op.TheVariants.{And, Not, Or, Xor}
 use Rattle.span.specs.Demand.{InSecond, Solves}
-use Rattle.interval.specs.Interval.{In, Words, cut, hollow}
+use Rattle.span.specs.interval.Interval.{In, Words, cut, hollow}
 use Rattle.span.specs.Join.{all_cut, all_within, any_hollow, as_given, is_width, joined, new_y, refusal, refused}
-use Rattle.interval.specs.Op.{inverted, result, second}
+use Rattle.span.specs.interval.Op.{inverted, result, second}
 use Rattle.span.specs.Join as join
-use Rattle.interval.proofs.Intervals.{both_within, in_cut, not_hollow, ordered}
+use Rattle.span.proofs.interval.Intervals.{both_within, in_cut, not_hollow, ordered}
 use Rattle.span.proofs.Outcome as outcome
-use Rattle.net_step.specs.declared.Join.{Join}
+use Rattle.net.specs.declared.net_step.Join.{Join}
 use Rattle.net.specs.Demand.{AllIn}
-use Rattle.net_step.specs.Named.{Named, place_of, third, word_at}
-use Rattle.net_step.specs.Step.{after, emptied, no_word, results}
+use Rattle.net.specs.net_step.Named.{Named, place_of, third, word_at}
+use Rattle.net.specs.net_step.Step.{after, emptied, no_word, results}
 use Rattle.net.proofs.Cuts.{kept_all, shrinks}
-use Rattle.net_step.proofs.Unchanged.{not_named}
+use Rattle.net.proofs.net_step.Unchanged.{not_named}
 
 -- words in every one of the first n intervals
 abbrev pub AllWords : (w n : ℕ) → List Interval → Type 0

@@ -7,18 +7,18 @@ use Prim.Native.Nat.{ℕ, ◌<◌}
 use native.Mathlib.Omega.{arith}
 use lib.ListN.{length, length-set}
 use lib.Seq.{get_or-set_same}
-use Rattle.interval.specs.declared.Interval.{Interval}
+use Rattle.span.specs.declared.interval.Interval.{Interval}
 use Rattle.span.specs.declared.Joined.{Joined}
-use Rattle.interval.specs.declared.Op.{Op}
-use Rattle.interval.specs.declared.Op.TheVariants.{And, Not, Or, Xor}
+use Rattle.span.specs.declared.interval.Op.{Op}
+use Rattle.span.specs.declared.interval.Op.TheVariants.{And, Not, Or, Xor}
 use Rattle.span.specs.Demand.{Inside}
-use Rattle.interval.specs.Interval.{In, cut, interval}
+use Rattle.span.specs.interval.Interval.{In, cut, interval}
 use Rattle.span.specs.Join.{joined}
-use Rattle.interval.proofs.Intervals.{in_cut}
-use Rattle.net_step.specs.declared.Join.{Join}
+use Rattle.span.proofs.interval.Intervals.{in_cut}
+use Rattle.net.specs.declared.net_step.Join.{Join}
 use Rattle.net.specs.Demand.{InResults}
-use Rattle.net_step.specs.Named.{place_of, third, word_at}
-use Rattle.net_step.specs.Step.{after, cut_all, cut_at, emptied, left, results}
+use Rattle.net.specs.net_step.Named.{place_of, third, word_at}
+use Rattle.net.specs.net_step.Step.{after, cut_all, cut_at, emptied, left, results}
 use Rattle.net.proofs.Alike.{no_not}
 use Rattle.net.proofs.Cuts.{cut_inside, kept_all, kept_at, shrinks}
 use Rattle.net.proofs.Kept.{y_back}

@@ -9,27 +9,27 @@ use native.Mathlib.Nat.{mod-lt, suc-add, zero-add}
 use native.Mathlib.Omega.{arith}
 use borrow.Author.Tests.{eq-eqb, eqb-false, ne_eqb}
 use lib.Dec.{eqb}
-use Rattle.interval.specs.declared.Interval.{Interval}
+use Rattle.span.specs.declared.interval.Interval.{Interval}
 use Rattle.span.specs.Demand.{Inside}
-use Rattle.interval.specs.Op.{result}
+use Rattle.span.specs.interval.Op.{result}
 use Rattle.net.specs.declared.Answer.{Answer}
 use Rattle.net.specs.declared.Ended.{Ended}
 use Rattle.net.specs.declared.Ended.TheVariants.{Empty, Refused, Spent, Steady}
-use Rattle.net_step.specs.declared.Join.{Join}
+use Rattle.net.specs.declared.net_step.Join.{Join}
 use Rattle.net.specs.declared.Net.{Net}
 use Rattle.net.specs.Demand.{AllIn, Solution, Still, onward, resumed}
-use Rattle.net_step.specs.Named.{Named, word_at}
-use Rattle.net_tests.specs.Fits.{join_at}
+use Rattle.net.specs.net_step.Named.{Named, word_at}
+use Rattle.net.specs.net_tests.Fits.{join_at}
 use Rattle.net.specs.Net.{number, refusal, turn, turned_down}
 use Rattle.net.specs.route.Run.{Stand, Stop, goes, next, ran, shown, start, walked}
-use Rattle.net_step.specs.Step.{after, results, stepped}
+use Rattle.net.specs.net_step.Step.{after, results, stepped}
 use Rattle.net.proofs.Accepted.{accepted}
 use Rattle.net.proofs.Cuts.{either_left, shrinks, stays}
 use Rattle.net.proofs.Going.{goes-empty, goes-next, goes_spent, goes_steady}
 use Rattle.net.proofs.Kept.{AllWords, inside_after, none_empty, words_after_lem}
 use Rattle.net.proofs.Reached.{reach, told}
 use Rattle.net.proofs.Round.{Quiet, all_still, quiet_next, quiet_start}
-use Rattle.net_step.proofs.Unchanged.{not_named}
+use Rattle.net.proofs.net_step.Unchanged.{not_named}
 
 -- the ways to end, told apart
 abbrev way : Ended → ℕ

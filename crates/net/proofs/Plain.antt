@@ -8,19 +8,19 @@ use Prim.Native.Nat.{ℕ, zero, suc, ◌+◌, ◌≤◌, ◌<◌}
 use native.Mathlib.Decide.{dec_lt, ℕ_discrete}
 use native.Mathlib.Omega.{arith}
 use borrow.Author.Tests.{eq-eqb}
-use Rattle.interval.specs.declared.Interval.{Interval}
+use Rattle.span.specs.declared.interval.Interval.{Interval}
 use Rattle.net.specs.declared.Answer.{Answer}
 use Rattle.net.specs.declared.Ended.{Ended}
 use Rattle.net.specs.declared.Ended.TheVariants.{Empty, Refused, Spent, Steady}
-use Rattle.net_step.specs.declared.Join.{Join}
+use Rattle.net.specs.declared.net_step.Join.{Join}
 use Rattle.net.specs.declared.Net.{Net}
 use Rattle.net.specs.Net.{given, number, refusal, turn}
 use Rattle.net.specs.Plain.{QuietFor, Reason, Stops, empty_at, order, words_after}
 use Rattle.net.specs.route.Run.{Stand, next, ran, shown, start, stop, walked}
-use Rattle.net_step.specs.Step.{emptied, left, stepped, unchanged}
+use Rattle.net.specs.net_step.Step.{emptied, left, stepped, unchanged}
 use Rattle.net.proofs.Outcome.{number_is}
 use Rattle.net.proofs.Reached.{reach, told}
-use Rattle.net_step.proofs.Unchanged.{unchanged_equal, unchanged_self}
+use Rattle.net.proofs.net_step.Unchanged.{unchanged_equal, unchanged_self}
 
 module _ (net : Net) where
   -- q is the longest row of steps, up to n, that changed nothing

@@ -7,7 +7,7 @@ use Prim.Native.Nat.{ℕ, zero, suc, ◌≤◌, ◌<◌}
 use native.Mathlib.Decide.{dec_le}
 use native.Mathlib.Omega.{arith}
 use Rattle.net.specs.declared.Ended.TheVariants.{Empty, Spent, Steady}
-use Rattle.net_step.specs.declared.Join.{Join}
+use Rattle.net.specs.declared.net_step.Join.{Join}
 use Rattle.net.specs.route.Run.{Stand, Stop, goes, next, stop}
 use Rattle.net.proofs.Going.{goes-empty, goes-next, goes_spent, goes_steady}
 

@@ -8,15 +8,15 @@ use Prim.Native.Nat.{ℕ, zero, suc, ◌+◌, ◌%◌, ◌≤◌, ◌<◌}
 use native.Mathlib.Decide.{dec_le, ℕ_discrete}
 use native.Mathlib.Nat.{add-mod_right, mod-eq_of_lt}
 use native.Mathlib.Omega.{arith}
-use Rattle.interval.specs.declared.Interval.{Interval}
-use Rattle.net_step.specs.declared.Join.{Join}
+use Rattle.span.specs.declared.interval.Interval.{Interval}
+use Rattle.net.specs.declared.net_step.Join.{Join}
 use Rattle.net.specs.Demand.{Still}
-use Rattle.net_tests.specs.Fits.{join_at}
+use Rattle.net.specs.net_tests.Fits.{join_at}
 use Rattle.net.specs.Net.{turn}
 use Rattle.net.specs.route.Run.{Stand, next, stand, start}
-use Rattle.net_step.specs.Step.{after, emptied, left, stepped, unchanged}
+use Rattle.net.specs.net_step.Step.{after, emptied, left, stepped, unchanged}
 use Rattle.net.proofs.Reached.{told}
-use Rattle.net_step.proofs.Unchanged.{unchanged_equal}
+use Rattle.net.proofs.net_step.Unchanged.{unchanged_equal}
 
 -- of the m steps before step s, the one at which join k had its turn
 record Turn (m s k : ℕ) : Type 0 where

@@ -1,20 +1,20 @@
 -- What is asked of a net, in the paper's words: statements for the definitions to be laid beside.
 use Rattle.std.specs.Prelude.{◌≡◌, false, List, ◌⊎◌, ℕ, ◌<◌, length}
-use Rattle.interval.specs.declared.Interval.{Interval}
+use Rattle.span.specs.declared.interval.Interval.{Interval}
 use Rattle.span.specs.declared.Joined.{Joined}
-use Rattle.interval.specs.declared.Op.TheVariants.{Not}
-use Rattle.interval.specs.Interval.{In}
+use Rattle.span.specs.declared.interval.Op.TheVariants.{Not}
+use Rattle.span.specs.interval.Interval.{In}
 use Rattle.span.specs.Join.{all_cut}
-use Rattle.interval.specs.Op.{result}
+use Rattle.span.specs.interval.Op.{result}
 use Rattle.net.specs.declared.Answer.{Answer}
 use Rattle.net.specs.declared.Ended.{Ended}
 use Rattle.net.specs.declared.Ended.TheVariants.{Empty, Refused, Spent, Steady}
-use Rattle.net_step.specs.declared.Join.{Join}
+use Rattle.net.specs.declared.net_step.Join.{Join}
 use Rattle.net.specs.declared.Net.{Net}
-use Rattle.net_tests.specs.Fits.{join_at}
-use Rattle.net_step.specs.Named.{third, word_at}
+use Rattle.net.specs.net_tests.Fits.{join_at}
+use Rattle.net.specs.net_step.Named.{third, word_at}
 use Rattle.net.specs.route.Run.{Stop, goes}
-use Rattle.net_step.specs.Step.{after, emptied}
+use Rattle.net.specs.net_step.Step.{after, emptied}
 
 -- an assignment, a word for each place, gives words of the first n intervals
 abbrev pub AllIn : ℕ → List Interval → (ℕ → ℕ) → Type 0

@@ -3,3 +3,5 @@ pub mod Demand
 pub mod Net
 pub mod Plain
 pub mod route
+pub mod net_step
+pub mod net_tests

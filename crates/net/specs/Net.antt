@@ -1,16 +1,16 @@
 -- A net of words, and what refuses it: K12 of the paper, a definition for each of its sentences.
 use Rattle.std.specs.Prelude.{not, cond, List, ℕ, ◌%◌, ◌≤◌, ◌<◌}
 use Rattle.word.specs.Word.{top}
-use Rattle.interval.specs.Interval.{hollow, within}
+use Rattle.span.specs.interval.Interval.{hollow, within}
 use Rattle.span.specs.Join.{is_width}
-use Rattle.net_step.specs.declared.Join.{Join}
-use Rattle.net_step.specs.Named.{Named, WORDS, word_at}
-use Rattle.net_tests.specs.Fits.{JOINS, every, fits, join_at}
+use Rattle.net.specs.declared.net_step.Join.{Join}
+use Rattle.net.specs.net_step.Named.{Named, WORDS, word_at}
+use Rattle.net.specs.net_tests.Fits.{JOINS, every, fits, join_at}
 use Rattle.net.specs.declared.Net.{Net}
 use Rattle.net.specs.declared.Answer.{Answer}
 use Rattle.net.specs.declared.Ended.{Ended}
 use Rattle.net.specs.declared.Ended.TheVariants.{Empty, Refused, Spent, Steady}
-use Rattle.interval.specs.declared.Interval.{Interval}
+use Rattle.span.specs.declared.interval.Interval.{Interval}
 
 -- of the first m joins, the one whose turn it is after n steps: "in order, round and round"
 unfoldable pub turn : List Join → ℕ → ℕ → Join

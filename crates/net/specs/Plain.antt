@@ -1,12 +1,12 @@
 -- The plain rule, with no count of the steps that changed nothing: the words after each step, and the first step with a reason to stop.
 use Rattle.std.specs.Prelude.{◌≡◌, Bool, true, false, List, ℕ, zero, suc, ◌+◌, ◌≤◌, ◌<◌}
-use Rattle.interval.specs.declared.Interval.{Interval}
+use Rattle.span.specs.declared.interval.Interval.{Interval}
 use Rattle.net.specs.declared.Answer.{Answer}
 use Rattle.net.specs.declared.Ended.{Ended}
 use Rattle.net.specs.declared.Ended.TheVariants.{Empty, Refused, Spent, Steady}
 use Rattle.net.specs.declared.Net.{Net}
 use Rattle.net.specs.Net.{turn}
-use Rattle.net_step.specs.Step.{emptied, left}
+use Rattle.net.specs.net_step.Step.{emptied, left}
 
 -- the words after n steps: "one step is one join, in order, round and round"
 unfoldable pub words_after : Net → ℕ → List Interval

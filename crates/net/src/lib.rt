@@ -2,15 +2,19 @@
 // other, round and round, for as many steps as the caller will pay for.
 #![tactic(auto)]
 
+pub mod net_tests;
+
+pub mod net_step;
+
 ghost use Rattle.std.specs.Prelude.{◌≡◌, cond, suc, ◌<◌};
 ghost use Rattle.net.specs.Net.{AllNamed, given};
-ghost use Rattle.net_tests.specs.Fits.{JOINS};
+ghost use Rattle.net.specs.net_tests.Fits.{JOINS};
 ghost use Rattle.net.specs.route.Run.{ran, walked};
 
 mod refusal;
 
-pub use net_step::Join;
-use net_step::step;
+pub use crate::net_step::Join;
+use crate::net_step::step;
 use span::Interval;
 
 // A width, the words' intervals with how many are in use, and the joins with how many are in use.
@@ -42,9 +46,9 @@ pub struct Answer {
 
 impl Net {
     // The most words and the most joins of a net.
-    pub const WORDS: usize = net_step::WORDS;
+    pub const WORDS: usize = crate::net_step::WORDS;
 
-    pub const JOINS: usize = net_tests::JOINS;
+    pub const JOINS: usize = crate::net_tests::JOINS;
 
     // Cuts the intervals for as many steps as are paid for, one step a join, in order, round and round.
     pub fn run(self, pay: u64) -> Answer

@@ -3,7 +3,7 @@ ghost use Rattle.std.specs.Prelude.{◌≡◌};
 ghost use Rattle.net.specs.Net.{refusal};
 
 use crate::Net;
-use net_tests::{all_within, fits, none_hollow};
+use crate::net_tests::{all_within, fits, none_hollow};
 use span::is_width;
 use word::Width;
 

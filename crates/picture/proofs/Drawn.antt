@@ -19,22 +19,22 @@ use Rattle.rule.specs.declared.bits.Fixed.{Fixed}
 use Rattle.rule.specs.declared.bits.Fixed.TheVariants.{Bits}
 use Rattle.rule.specs.bits.route.Fixed.{Tidy, fixed_bits, fixed_from, joined}
 use Rattle.rule.proofs.bits.Joined.{fixed_tidy}
-use Rattle.rows.specs.route.Bands.{Lie, passes}
-use Rattle.rows.specs.route.OfRules.{OfLawful}
-use Rattle.rows.specs.route.Rows.{band_in, bands_in, row_of, rules_in}
-use Rattle.rows.proofs.Reading.{bands_put}
-use Rattle.rows.proofs.Passes.{bands_laid, passes-fits}
+use Rattle.search.specs.rows.route.Bands.{Lie, passes}
+use Rattle.search.specs.rows.route.OfRules.{OfLawful}
+use Rattle.search.specs.rows.route.Rows.{band_in, bands_in, row_of, rules_in}
+use Rattle.search.proofs.rows.Reading.{bands_put}
+use Rattle.search.proofs.rows.Passes.{bands_laid, passes-fits}
 use Rattle.chain.specs.Links.{nth}
-use Rattle.slate.specs.declared.Head.{Head}
-use Rattle.slate.specs.route.Held.{Held}
+use Rattle.sheet.specs.declared.slate.Head.{Head}
+use Rattle.sheet.specs.slate.route.Held.{Held}
 use Rattle.sheet.specs.route.Held.{packed}
 use Rattle.sheet.proofs.Holding.{packed_told}
-use Rattle.covering.proofs.EveryWord.{every_same}
-use Rattle.shade.specs.declared.Cell.{Cell}
-use Rattle.shade.specs.declared.Cell.TheVariants.{Fails, Meets, Nowhere, Partly}
-use Rattle.shade.specs.Cell.{cell_of}
-use Rattle.column.specs.Column.{columns, words_of}
-use Rattle.column.proofs.Columns.{column_ends}
+use Rattle.checker.proofs.covering.EveryWord.{every_same}
+use Rattle.picture.specs.declared.shade.Cell.{Cell}
+use Rattle.picture.specs.declared.shade.Cell.TheVariants.{Fails, Meets, Nowhere, Partly}
+use Rattle.picture.specs.shade.Cell.{cell_of}
+use Rattle.picture.specs.column.Column.{columns, words_of}
+use Rattle.picture.proofs.column.Columns.{column_ends}
 use Rattle.picture.specs.declared.Shown.{Shown}
 use Rattle.picture.specs.declared.Shown.TheVariants.{Nothing, Words}
 use Rattle.picture.specs.Picture.{all_cell, column_cell, drawable, rule_cell}

@@ -1,2 +1,4 @@
 pub mod Picture
 pub mod route
+pub mod shade
+pub mod column

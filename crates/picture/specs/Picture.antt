@@ -4,10 +4,10 @@ use Rattle.rule.specs.Meaning.{fits, meets}
 use Rattle.chain.specs.Links.{nth}
 use Rattle.sheet.specs.declared.Sheet.{Sheet}
 use Rattle.sheet.specs.route.Shape.{is_sheet}
-use Rattle.shade.specs.declared.Cell.{Cell}
-use Rattle.shade.specs.declared.Cell.TheVariants.{Nowhere}
-use Rattle.shade.specs.Cell.{cell_of}
-use Rattle.column.specs.Column.{columns, words_of}
+use Rattle.picture.specs.declared.shade.Cell.{Cell}
+use Rattle.picture.specs.declared.shade.Cell.TheVariants.{Nowhere}
+use Rattle.picture.specs.shade.Cell.{cell_of}
+use Rattle.picture.specs.column.Column.{columns, words_of}
 
 -- how a column goes by a test
 unfoldable pub column_cell : (w c : ℕ) → (ℕ → Bool) → Cell

@@ -1,17 +1,25 @@
 // A picture of a sheet, the line of words in at most 64 columns: the words of a column, and how words go by one rule alone.
 #![tactic(auto)]
 
+pub mod all_cells;
+
+pub mod rule_cells;
+
+pub mod column;
+
+pub mod shade;
+
 ghost use Rattle.std.specs.Prelude.{◌≡◌, true, ◌≤◌};
 ghost use Rattle.word.specs.Word.{IsWidth, top};
 ghost use Rattle.rule.specs.Meaning.{Lawful, meets};
-ghost use Rattle.shade.specs.Cell.{cell_of};
+ghost use Rattle.picture.specs.shade.Cell.{cell_of};
 ghost use Rattle.picture.specs.route.Shown.{shown};
 
 use rule::band::{Band, Run};
-use rows::{InForce, NUMBERS};
+use search::rows::{InForce, NUMBERS};
 use rule::Rule;
 use rule::bits::Fixed;
-use shade::Cell;
+use crate::shade::Cell;
 use word::Width;
 
 // What there is to draw of a column: its words, or nothing.
@@ -34,10 +42,10 @@ pub fn words_of(stands: bool, bits: u64, column: u64) -> Shown
         return Shown::Nothing;
     }
     let width = Width { bits };
-    if column::count(width) <= column {
+    if crate::column::count(width) <= column {
         return Shown::Nothing;
     }
-    Shown::Words(column::words(width, column))
+    Shown::Words(crate::column::words(width, column))
 }
 
 // The words from one to another by a rule alone.
@@ -48,9 +56,9 @@ pub fn alone(rule: Rule, width: Width, from: u64, to: u64) -> Cell
 {
     let mut rows = [[0; NUMBERS]; Rule::LIMIT];
     let band = Band::of(rule, width);
-    rows::put(&mut rows, 0, rule, band);
+    search::rows::put(&mut rows, 0, rule, band);
     let fixed = Fixed::Bits { mask: 0, value: 0 };
-    shade::stretch(
+    crate::shade::stretch(
         &rows,
         InForce {
             count: 1,

@@ -1,6 +1,8 @@
 // A rule on one unknown word, and whether a word meets it.
 #![tactic(auto)]
 
+pub mod rank;
+
 ghost use Rattle.std.specs.Prelude.{◌≡◌, ◌≤◌};
 ghost use Rattle.word.specs.Word.{IsWidth, top};
 ghost use Rattle.rule.specs.Meaning.{meets, settled, written};

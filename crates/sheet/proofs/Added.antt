@@ -7,20 +7,20 @@ use lib.ListN.{set, take}
 use Rattle.word.specs.declared.Edition.{Edition}
 use Rattle.rule.specs.declared.Rule.{Rule}
 use Rattle.rule.specs.declared.bits.Fixed.{Fixed}
-use Rattle.verdict.specs.declared.Kept.{Kept}
-use Rattle.verdict.specs.Kept.{kept}
+use Rattle.search.specs.declared.verdict.Kept.{Kept}
+use Rattle.search.specs.verdict.Kept.{kept}
 use Rattle.page.specs.Calls.{add, changed, refusal, written}
 use Rattle.page.specs.Page.{page}
 use Rattle.page.proofs.Lawful.{reached_page}
 use Rattle.page.proofs.Refusals.{added_rule}
-use Rattle.rows.specs.route.Rows.{rules_in}
-use Rattle.slate.specs.declared.Head.{Head}
-use Rattle.slate.specs.route.Held.{Beside, Held, bare_marks}
-use Rattle.slate.specs.route.Numbers.{rule_number}
-use Rattle.slate.proofs.Numbers.{number_zero}
-use Rattle.slate.specs.slate_calls.route.Done.{Adds, bare_rules, with_one}
-use Rattle.slate.specs.slate_calls.route.Done.Adds.{added, refused}
-use Rattle.slate.proofs.slate_calls.Bare.{room_added}
+use Rattle.search.specs.rows.route.Rows.{rules_in}
+use Rattle.sheet.specs.declared.slate.Head.{Head}
+use Rattle.sheet.specs.slate.route.Held.{Beside, Held, bare_marks}
+use Rattle.sheet.specs.slate.route.Numbers.{rule_number}
+use Rattle.sheet.proofs.slate.Numbers.{number_zero}
+use Rattle.sheet.specs.slate.slate_calls.route.Done.{Adds, bare_rules, with_one}
+use Rattle.sheet.specs.slate.slate_calls.route.Done.Adds.{added, refused}
+use Rattle.sheet.proofs.slate.slate_calls.Bare.{room_added}
 use Rattle.sheet.specs.route.Held.{packed}
 use Rattle.sheet.specs.route.Laid.{After}
 use Rattle.sheet.specs.route.Stands.{RuleSeen, Standing}

@@ -2,9 +2,9 @@
 use mathlib.Core.Path.{sym, subst}
 use mathlib.Core.List.{List}
 use Prim.Native.Nat.{ℕ}
-use Rattle.slate.specs.declared.Head.{Head}
-use Rattle.slate.specs.route.Held.{Held}
-use Rattle.slate.specs.stepping.route.Steps.Refused.{before_first, own_ground}
+use Rattle.sheet.specs.declared.slate.Head.{Head}
+use Rattle.sheet.specs.slate.route.Held.{Held}
+use Rattle.sheet.specs.slate.stepping.route.Steps.Refused.{before_first, own_ground}
 use Rattle.sheet.specs.declared.slate_ask.Reply.{Reply}
 use Rattle.sheet.specs.slate_ask.route.Asks.{Asks}
 use Rattle.sheet.specs.slate_ask.route.Asks.Asks.{none_fits, some_fit, unasked}

@@ -5,7 +5,7 @@ use Prim.Native.Nat.{ℕ}
 use Rattle.page.specs.Calls.{open_at, refusal}
 use Rattle.page.specs.declared.Opening.{Opening}
 use Rattle.page.specs.Page.{no_page}
-use Rattle.slate.specs.declared.Head.{Head}
+use Rattle.sheet.specs.declared.slate.Head.{Head}
 use Rattle.sheet.specs.declared.slate_make.Call.{Call as Made}
 use Rattle.sheet.specs.declared.slate_ask.Reply.{Reply}
 use Rattle.sheet.specs.declared.slate_whole.Whole.{Whole}

@@ -10,12 +10,12 @@ use lib.Seq.{append_snoc, get_or-append_seam, get_or-take, set-append_seam, take
 use Rattle.rule.specs.declared.Rule.{Rule}
 use Rattle.rule.specs.Meaning.{RULES}
 use Rattle.rule.specs.accept.Accept.{no_rule}
-use Rattle.verdict.specs.Kept.{kept}
+use Rattle.search.specs.verdict.Kept.{kept}
 use Rattle.sheet.specs.declared.Sheet.{Sheet}
 use Rattle.page.specs.Page.{Entry, MARKS, OpenPage, a_mark, a_rule, laid_aside, marks_on, padded, page, restored, rules_on, stretch, struck, taken_up, with_entries, with_pile}
 use Rattle.sheet.specs.Record.{fresh}
-use Rattle.slate.specs.route.Shape.{in_force}
-use Rattle.slate.proofs.Shaped.{none_waits, some_wait}
+use Rattle.sheet.specs.slate.route.Shape.{in_force}
+use Rattle.sheet.proofs.slate.Shaped.{none_waits, some_wait}
 use Rattle.page.proofs.Lawful.{LawfulPile}
 use Rattle.page.proofs.Stretches.{Stretches, marks_more, restored_marked, restored_marks, restored_rules, stretch-struck, waiting_marks, waiting_rules}
 use Rattle.page.proofs.Struck.{count_left, marks_left_length, newest}

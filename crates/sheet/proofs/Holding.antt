@@ -14,19 +14,19 @@ use Rattle.rule.specs.declared.Rule.{Rule}
 use Rattle.rule.specs.Meaning.{RULES}
 use Rattle.rule.specs.accept.Accept.{refusal_of}
 use Rattle.rule.specs.declared.bits.Fixed.TheVariants.{Bits}
-use Rattle.rows.specs.route.Rows.{rules_in}
+use Rattle.search.specs.rows.route.Rows.{rules_in}
 use Rattle.page.specs.Calls.{Call, add, refusal}
 use Rattle.page.specs.Page.{MARKS, OpenPage, no_page, page, rules_on}
 use Rattle.page.proofs.Refusals.{add_bad, add_fits, add_full, add_other}
-use Rattle.slate.specs.declared.Head.{Head}
-use Rattle.slate.specs.route.Held.{Beside, Held, Room}
-use Rattle.slate.specs.route.Numbers.{before, rule_number}
-use Rattle.slate.specs.route.Shape.{stands_so}
-use Rattle.slate.proofs.Holding.{rules_places}
-use Rattle.slate.proofs.Numbers.{number_before, number_full, number_none, number_other, number_own}
-use Rattle.slate.proofs.Told.{unread}
-use Rattle.slate.specs.stepping.route.Steps.{Refused}
-use Rattle.slate.specs.stepping.route.Steps.Refused.{before_first, own_ground}
+use Rattle.sheet.specs.declared.slate.Head.{Head}
+use Rattle.sheet.specs.slate.route.Held.{Beside, Held, Room}
+use Rattle.sheet.specs.slate.route.Numbers.{before, rule_number}
+use Rattle.sheet.specs.slate.route.Shape.{stands_so}
+use Rattle.sheet.proofs.slate.Holding.{rules_places}
+use Rattle.sheet.proofs.slate.Numbers.{number_before, number_full, number_none, number_other, number_own}
+use Rattle.sheet.proofs.slate.Told.{unread}
+use Rattle.sheet.specs.slate.stepping.route.Steps.{Refused}
+use Rattle.sheet.specs.slate.stepping.route.Steps.Refused.{before_first, own_ground}
 use Rattle.sheet.specs.declared.Sheet.{Sheet}
 use Rattle.sheet.specs.route.Held.{packed}
 use Rattle.sheet.specs.route.Shape.{is_sheet}

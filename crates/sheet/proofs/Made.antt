@@ -1,8 +1,8 @@
 -- A call made on a slate is the call on its record, whichever it is. Assumes nothing.
 use mathlib.Core.List.{List}
 use Prim.Native.Nat.{ℕ}
-use Rattle.slate.specs.declared.Head.{Head}
-use Rattle.slate.specs.route.Held.{Held}
+use Rattle.sheet.specs.declared.slate.Head.{Head}
+use Rattle.sheet.specs.slate.route.Held.{Held}
 use Rattle.sheet.specs.declared.slate_make.Call.{Call as Made}
 use Rattle.sheet.specs.slate_make.route.Makes.{Makes}
 use Rattle.sheet.specs.slate_make.route.Makes.Makes.{adds, opens, sets_mark, steps_back, steps_forward}

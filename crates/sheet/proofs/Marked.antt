@@ -10,13 +10,13 @@ use Rattle.page.specs.Page.{MARKS, a_mark, marks_on, with_entries}
 use Rattle.page.specs.Reached.{step}
 use Rattle.page.proofs.Lawful.{reached_page}
 use Rattle.page.proofs.Refusals.{blank_mark, mark_fits, mark_full}
-use Rattle.rows.specs.route.Rows.{rules_in}
-use Rattle.slate.specs.declared.Head.{Head}
-use Rattle.slate.specs.route.Held.{Beside, Held, bare_marks}
-use Rattle.slate.specs.route.Numbers.{before}
-use Rattle.slate.specs.slate_calls.route.Done.{Marks, bare_rules, marked_head}
-use Rattle.slate.specs.slate_calls.route.Done.Marks.{marked, unmarked}
-use Rattle.slate.proofs.slate_calls.Bare.{room_marked}
+use Rattle.search.specs.rows.route.Rows.{rules_in}
+use Rattle.sheet.specs.declared.slate.Head.{Head}
+use Rattle.sheet.specs.slate.route.Held.{Beside, Held, bare_marks}
+use Rattle.sheet.specs.slate.route.Numbers.{before}
+use Rattle.sheet.specs.slate.slate_calls.route.Done.{Marks, bare_rules, marked_head}
+use Rattle.sheet.specs.slate.slate_calls.route.Done.Marks.{marked, unmarked}
+use Rattle.sheet.proofs.slate.slate_calls.Bare.{room_marked}
 use Rattle.sheet.specs.route.Held.{packed}
 use Rattle.sheet.specs.route.Laid.{After}
 use Rattle.sheet.specs.route.Stands.{Standing}

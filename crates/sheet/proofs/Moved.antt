@@ -5,12 +5,12 @@ use mathlib.Core.List.{List}
 use Prim.Native.Nat.{ℕ}
 use lib.ListN.{take}
 use Rattle.rule.specs.declared.bits.Fixed.{Fixed}
-use Rattle.verdict.specs.declared.Kept.{Kept}
-use Rattle.verdict.specs.Kept.{kept}
-use Rattle.rows.specs.route.Rows.{rules_in}
-use Rattle.slate.specs.declared.Head.{Head}
-use Rattle.slate.specs.route.Held.{Beside, Held}
-use Rattle.slate.specs.stepping.route.Steps.{moved_head}
+use Rattle.search.specs.declared.verdict.Kept.{Kept}
+use Rattle.search.specs.verdict.Kept.{kept}
+use Rattle.search.specs.rows.route.Rows.{rules_in}
+use Rattle.sheet.specs.declared.slate.Head.{Head}
+use Rattle.sheet.specs.slate.route.Held.{Beside, Held}
+use Rattle.sheet.specs.slate.stepping.route.Steps.{moved_head}
 use Rattle.sheet.specs.route.Held.{packed}
 use Rattle.sheet.specs.route.Stands.{Standing}
 use Rattle.sheet.proofs.Fresh.{moved}

@@ -7,19 +7,19 @@ use lib.ListN.{replicate}
 use Rattle.word.specs.Edition.{terms}
 use Rattle.rule.specs.Meaning.{RULES}
 use Rattle.rule.specs.accept.Accept.{no_rule}
-use Rattle.verdict.specs.declared.Kept.{Kept}
-use Rattle.verdict.specs.Kept.{kept}
+use Rattle.search.specs.declared.verdict.Kept.{Kept}
+use Rattle.search.specs.verdict.Kept.{kept}
 use Rattle.page.specs.Calls.{changed, open_at, written}
 use Rattle.page.specs.declared.Opening.{Opening}
 use Rattle.page.specs.Page.{MARKS, marks_on, new_page, no_page, page, restored, rules_on}
 use Rattle.page.specs.Reached.{start, step}
 use Rattle.page.proofs.Refusals.{open_fits, open_narrow, open_wide}
-use Rattle.rows.specs.route.Rows.{rules_in}
-use Rattle.slate.specs.declared.Head.{Head}
-use Rattle.slate.specs.route.Held.{Beside, Held}
-use Rattle.slate.specs.slate_calls.route.Done.{Opens, new_head}
-use Rattle.slate.specs.slate_calls.route.Done.Opens.{narrow, opened, wide}
-use Rattle.slate.proofs.slate_calls.Bare.{room_opened}
+use Rattle.search.specs.rows.route.Rows.{rules_in}
+use Rattle.sheet.specs.declared.slate.Head.{Head}
+use Rattle.sheet.specs.slate.route.Held.{Beside, Held}
+use Rattle.sheet.specs.slate.slate_calls.route.Done.{Opens, new_head}
+use Rattle.sheet.specs.slate.slate_calls.route.Done.Opens.{narrow, opened, wide}
+use Rattle.sheet.proofs.slate.slate_calls.Bare.{room_opened}
 use Rattle.sheet.specs.route.Held.{packed}
 use Rattle.sheet.specs.route.Laid.{After}
 use Rattle.sheet.specs.Record.{fresh}

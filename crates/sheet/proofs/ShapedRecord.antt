@@ -14,12 +14,12 @@ use Rattle.word.specs.declared.Edition.{Edition}
 use Rattle.rule.specs.Meaning.{RULES}
 use Rattle.rule.specs.accept.Accept.{acceptable, every, is_no_rule, no_rule}
 use Rattle.rule.proofs.accept.Every.{every_even}
-use Rattle.verdict.specs.declared.Kept.{Kept}
+use Rattle.search.specs.declared.verdict.Kept.{Kept}
 use Rattle.sheet.specs.declared.Sheet.{Sheet}
 use Rattle.page.specs.Page.{MARKS, padded}
 use Rattle.page.specs.route.Shape.{is_zero, marks_shaped, rising, rules_shaped}
-use Rattle.slate.specs.route.Shape.{in_force, well_shaped}
-use Rattle.slate.proofs.Shaped.{shaped_so_lem}
+use Rattle.sheet.specs.slate.route.Shape.{in_force, well_shaped}
+use Rattle.sheet.proofs.slate.Shaped.{shaped_so_lem}
 use Rattle.sheet.specs.route.Shape.{untested}
 
 -- the record with these rules and marks, and zeros in the other places; so many of both are in force, and so many marks wait

@@ -5,18 +5,18 @@ use Prim.Native.Nat.{ℕ, ◌+◌, ◌-◌, ◌<◌}
 use native.Mathlib.Omega.{arith}
 use lib.ListN.{length, take}
 use Rattle.rule.specs.declared.bits.Fixed.{Fixed}
-use Rattle.verdict.specs.declared.Kept.{Kept}
-use Rattle.verdict.specs.Kept.{kept}
+use Rattle.search.specs.declared.verdict.Kept.{Kept}
+use Rattle.search.specs.verdict.Kept.{kept}
 use Rattle.page.specs.Calls.{back, changed, written}
 use Rattle.page.specs.Page.{marks_on}
 use Rattle.page.proofs.Lawful.{reached_page}
 use Rattle.page.proofs.Refusals.{back_fits, back_none, blank_back}
-use Rattle.rows.specs.route.Rows.{rules_in}
-use Rattle.slate.specs.declared.Head.{Head}
-use Rattle.slate.specs.route.Held.{Beside, Held}
-use Rattle.slate.specs.route.Numbers.{before}
-use Rattle.slate.specs.stepping.route.Steps.{Backs, back_head, leaves}
-use Rattle.slate.specs.stepping.route.Steps.Backs.{goes_back, stays}
+use Rattle.search.specs.rows.route.Rows.{rules_in}
+use Rattle.sheet.specs.declared.slate.Head.{Head}
+use Rattle.sheet.specs.slate.route.Held.{Beside, Held}
+use Rattle.sheet.specs.slate.route.Numbers.{before}
+use Rattle.sheet.specs.slate.stepping.route.Steps.{Backs, back_head, leaves}
+use Rattle.sheet.specs.slate.stepping.route.Steps.Backs.{goes_back, stays}
 use Rattle.sheet.specs.route.Held.{packed}
 use Rattle.sheet.specs.route.Laid.{After}
 use Rattle.sheet.specs.route.Stands.{Standing}

@@ -5,17 +5,17 @@ use Prim.Native.Nat.{ℕ, ◌+◌, ◌-◌, ◌<◌}
 use native.Mathlib.Omega.{arith}
 use lib.ListN.{length, take}
 use Rattle.rule.specs.declared.bits.Fixed.{Fixed}
-use Rattle.verdict.specs.declared.Kept.{Kept}
-use Rattle.verdict.specs.Kept.{kept}
+use Rattle.search.specs.declared.verdict.Kept.{Kept}
+use Rattle.search.specs.verdict.Kept.{kept}
 use Rattle.page.specs.Calls.{changed, forward, written}
 use Rattle.page.proofs.Lawful.{reached_page}
 use Rattle.page.proofs.Refusals.{blank_forward, forward_fits, forward_none}
-use Rattle.rows.specs.route.Rows.{rules_in}
-use Rattle.slate.specs.declared.Head.{Head}
-use Rattle.slate.specs.route.Held.{Beside, Held}
-use Rattle.slate.specs.route.Numbers.{before}
-use Rattle.slate.specs.stepping.route.Steps.{Forwards, brings, forward_head}
-use Rattle.slate.specs.stepping.route.Steps.Forwards.{goes_on, remains}
+use Rattle.search.specs.rows.route.Rows.{rules_in}
+use Rattle.sheet.specs.declared.slate.Head.{Head}
+use Rattle.sheet.specs.slate.route.Held.{Beside, Held}
+use Rattle.sheet.specs.slate.route.Numbers.{before}
+use Rattle.sheet.specs.slate.stepping.route.Steps.{Forwards, brings, forward_head}
+use Rattle.sheet.specs.slate.stepping.route.Steps.Forwards.{goes_on, remains}
 use Rattle.sheet.specs.route.Held.{packed}
 use Rattle.sheet.specs.route.Laid.{After}
 use Rattle.sheet.specs.route.Stands.{Standing}

@@ -16,12 +16,12 @@ use Rattle.word.proofs.Editions.{same_told}
 use Rattle.word.proofs.Tests.{both_pass}
 use Rattle.rule.specs.Meaning.{RULES}
 use Rattle.rule.specs.accept.Accept.{every, is_no_rule}
-use Rattle.verdict.specs.Kept.{keeps, kept}
+use Rattle.search.specs.verdict.Kept.{keeps, kept}
 use Rattle.sheet.specs.declared.Sheet.{Sheet}
 use Rattle.page.specs.Page.{Entry, MARKS, OpenPage, Page, at_width, marks_on, new_page, no_page, padded, page, restored, rules_on, with_pile}
 use Rattle.sheet.specs.Record.{fresh}
-use Rattle.slate.specs.route.Shape.{in_force, same_kept, stands_so, well_shaped}
-use Rattle.slate.proofs.Shaped.{none_waits, passes_same, same_passes}
+use Rattle.sheet.specs.slate.route.Shape.{in_force, same_kept, stands_so, well_shaped}
+use Rattle.sheet.proofs.slate.Shaped.{none_waits, passes_same, same_passes}
 use Rattle.sheet.specs.route.Shape.{is_sheet}
 use Rattle.page.specs.route.Shape.{marks_shaped, rising, rules_shaped}
 use Rattle.sheet.specs.Statements.{IsSheet}

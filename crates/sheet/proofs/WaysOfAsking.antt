@@ -9,8 +9,8 @@ use native.Mathlib.Omega.{arith}
 use borrow.Author.Tests.{eq-eqb, ne_eqb}
 use lib.ListN.{drop, length, take}
 use Rattle.rule.specs.declared.Rule.{Rule}
-use Rattle.verdict.specs.declared.Kept.{Kept}
-use Rattle.verdict.specs.Kept.{kept}
+use Rattle.search.specs.declared.verdict.Kept.{Kept}
+use Rattle.search.specs.verdict.Kept.{kept}
 use Rattle.chain.specs.declared.Link.{Link}
 use Rattle.chain.specs.Findings.{findings, chain_for}
 use Rattle.chain.specs.Links.{chain_room, numbers_of, links}

@@ -4,3 +4,7 @@ pub mod route
 pub mod slate_whole
 pub mod slate_make
 pub mod slate_ask
+pub mod slate
+pub mod laid_rows
+pub mod laid_force
+pub mod demands

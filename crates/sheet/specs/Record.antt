@@ -4,7 +4,7 @@ use Rattle.word.specs.declared.Edition.TheVariants.{Old}
 use Rattle.rule.specs.declared.Rule.{Rule}
 use Rattle.rule.specs.Meaning.{RULES}
 use Rattle.rule.specs.accept.Accept.{no_rule}
-use Rattle.verdict.specs.Kept.{keeps, kept}
+use Rattle.search.specs.verdict.Kept.{keeps, kept}
 use Rattle.page.specs.Page.{Entry, MARKS, Page, marks_on, no_page, padded, page, restored, rules_on}
 use Rattle.sheet.specs.declared.Sheet.{Sheet}
 

@@ -10,7 +10,7 @@ use crate::slate_whole::Whole;
 use crate::{Answer, Call, Reply, Sheet};
 use page::Opening;
 use rule::Rule;
-use slate::Counts;
+use crate::slate::Counts;
 use word::Edition;
 
 impl Sheet {

@@ -1,17 +1,17 @@
 // A sheet on a slate: a record laid out there and tested, and the calls, which stand below. That each is the call on the record is shown here.
 ghost use Rattle.std.specs.Prelude.{◌≡◌, true, ◌↔◌};
-ghost use Rattle.slate.specs.route.Held.{Held, Room};
+ghost use Rattle.sheet.specs.slate.route.Held.{Held, Room};
 ghost use Rattle.sheet.specs.route.Held.{packed};
 ghost use Rattle.sheet.specs.route.Shape.{is_sheet};
 ghost use Rattle.sheet.specs.Statements.{IsSheet};
 
 pub use crate::slate_ask::ask;
 use crate::{Sheet, calling};
-use rows::NUMBERS;
+use search::rows::NUMBERS;
 use rule::Rule;
-use slate::Head;
-pub use slate::slate_add::add;
-pub use slate::slate_calls::{back, forward, mark, open};
+use crate::slate::Head;
+pub use crate::slate::slate_add::add;
+pub use crate::slate::slate_calls::{back, forward, mark, open};
 
 impl Sheet {
     // Whether some page of accepted calls gives this record, kept numbers included.

@@ -2,6 +2,16 @@
 // calls work on a slate (`laid`); by value a call lays the record out there, calls, and packs it again.
 #![tactic(auto)]
 
+pub mod demands;
+
+pub mod laid_force;
+
+pub mod laid_rows;
+
+pub mod slate;
+
+pub mod marks;
+
 ghost use Rattle.std.specs.Prelude.{◌≡◌};
 ghost use Rattle.sheet.specs.Record.{blank};
 
@@ -15,8 +25,8 @@ pub use crate::slate_ask::{Reply, refusal};
 pub use crate::slate_make::Call;
 use chain::Link;
 use rule::Rule;
-pub use slate::{Head, Said};
-use verdict::Kept;
+pub use crate::slate::{Head, Said};
+use search::verdict::Kept;
 use word::Edition;
 
 // A rule desk's sheet: the width, the rules in the order added, for each mark how many rules there were when it was set, what is

@@ -1,13 +1,13 @@
 // Asking on a slate: what is kept is said and, where no word fits, the chain is written. No mark is looked at, and nothing on the slate changes.
 ghost use Rattle.std.specs.Prelude.{◌≡◌, List, ℕ};
-ghost use Rattle.slate.specs.route.Held.{Held};
+ghost use Rattle.sheet.specs.slate.route.Held.{Held};
 ghost use Rattle.sheet.specs.slate_ask.Reply.{refuses};
 ghost use Rattle.sheet.specs.slate_ask.route.Asks.{Asks};
 
-use rows::NUMBERS;
+use search::rows::NUMBERS;
 use rule::Rule;
-use slate::Head;
-use verdict::Kept;
+use crate::slate::Head;
+use search::verdict::Kept;
 use word::Width;
 
 // What asking answers: 0 or the number of a refusal, what is kept, and how many links were written.
@@ -23,7 +23,7 @@ pub fn ask(head: Head, rows: &[[u64; NUMBERS]; Rule::LIMIT], out: &mut [u64]) ->
     requires { (marks : List ℕ) × Held head rows.now marks }
     ensures { Asks head rows.now out.old out.new result }
 {
-    let number = slate::refuses(head);
+    let number = crate::slate::refuses(head);
     if number != 0 {
         return refusal(number);
     }
@@ -44,7 +44,7 @@ pub fn ask(head: Head, rows: &[[u64; NUMBERS]; Rule::LIMIT], out: &mut [u64]) ->
     let bits = Width {
         bits: head.opening.width,
     };
-    let links = linking::write(rows, count, fixed, bits, &mut *out);
+    let links = chain::linking::write(rows, count, fixed, bits, &mut *out);
     Reply {
         number: 0,
         kept,

@@ -1,11 +1,11 @@
 // A call that changes a slate, told by a value, and made.
-ghost use Rattle.slate.specs.route.Held.{Held};
+ghost use Rattle.sheet.specs.slate.route.Held.{Held};
 ghost use Rattle.sheet.specs.slate_make.route.Makes.{Makes};
 
 use page::{MARKS, Opening};
-use rows::NUMBERS;
+use search::rows::NUMBERS;
 use rule::Rule;
-use slate::{Head, Said, slate_add};
+use crate::slate::{Head, Said, slate_add};
 use word::Edition;
 
 // A call that changes a sheet. An opening and an add are frames of an edition.
@@ -29,10 +29,10 @@ pub fn make(
     ensures { Makes head rows.old marks.old call result.number result.head rows.new marks.new }
 {
     match call {
-        Call::Open(opening) => slate::slate_calls::open(head, &mut *rows, &mut *marks, opening),
+        Call::Open(opening) => crate::slate::slate_calls::open(head, &mut *rows, &mut *marks, opening),
         Call::Add(edition, rule) => slate_add::add(head, &mut *rows, &mut *marks, edition, rule),
-        Call::Mark => slate::slate_calls::mark(head, &mut *rows, &mut *marks),
-        Call::Back => slate::slate_calls::back(head, &*rows, &*marks),
-        Call::Forward => slate::slate_calls::forward(head, &*rows, &*marks),
+        Call::Mark => crate::slate::slate_calls::mark(head, &mut *rows, &mut *marks),
+        Call::Back => crate::slate::slate_calls::back(head, &*rows, &*marks),
+        Call::Forward => crate::slate::slate_calls::forward(head, &*rows, &*marks),
     }
 }

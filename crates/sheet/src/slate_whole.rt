@@ -1,17 +1,17 @@
 // A slate as one value: laid out in rows and marks and tested, a call made there or asked, and packed again.
 ghost use Rattle.std.specs.Prelude.{◌≡◌, length};
 ghost use Rattle.rule.specs.Meaning.{RULES};
-ghost use Rattle.slate.specs.route.Held.{Held, Room};
+ghost use Rattle.sheet.specs.slate.route.Held.{Held, Room};
 ghost use Rattle.sheet.specs.slate_whole.route.Whole.{AskedWhole, CalledWhole, whole_of};
 
 use crate::slate_ask::Reply;
 use crate::slate_make::Call;
 use page::{MARKS, Opening};
-use rows::NUMBERS;
+use search::rows::NUMBERS;
 use rule::Rule;
 use rule::bits::Fixed;
-use slate::{Counts, Head};
-use verdict::Kept;
+use crate::slate::{Counts, Head};
+use search::verdict::Kept;
 
 // What a slate stands for, whole: its opening, how many rules and marks there are, what is kept, and all its rules and marks.
 #[derive(Clone, Copy)]
@@ -45,11 +45,11 @@ pub fn lay_out(
     let kept = whole.kept;
     let laid = whole.rules;
     let set = whole.marks;
-    laying::lay_out(&mut *rows, laid);
-    slate::set_marks(&mut *marks, set);
+    search::laying::lay_out(&mut *rows, laid);
+    crate::slate::set_marks(&mut *marks, set);
     // the test says whether it stands
     let head = Head::of(opening, counts, kept, Fixed::Bits { mask: 0, value: 0 });
-    slate::slate_test::tested(head, &mut *rows, &*marks)
+    crate::slate::slate_test::tested(head, &mut *rows, &*marks)
 }
 
 // Packs what a slate stands for.
@@ -60,7 +60,7 @@ pub fn pack(head: Head, rows: &[[u64; NUMBERS]; Rule::LIMIT], marks: &[usize; MA
     let opening = head.opening;
     let counts = head.counts;
     let kept = head.kept;
-    let laid = laying::pack(rows);
+    let laid = search::laying::pack(rows);
     let set = *marks;
     Whole {
         opening,

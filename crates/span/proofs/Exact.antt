@@ -5,16 +5,16 @@ use Prim.Native.Nat.{ℕ, ◌^◌, ◌<◌}
 use native.Mathlib.Omega.{arith}
 use Rattle.word.specs.Word.{top}
 use Rattle.word.proofs.Widths.{top-suc}
-use Rattle.interval.specs.declared.Interval.{Interval}
-use Rattle.interval.specs.declared.Op.{Op}
-use Rattle.interval.specs.declared.Op.TheVariants.{And, Not, Or, Xor}
+use Rattle.span.specs.declared.interval.Interval.{Interval}
+use Rattle.span.specs.declared.interval.Op.{Op}
+use Rattle.span.specs.declared.interval.Op.TheVariants.{And, Not, Or, Xor}
 use Rattle.span.specs.Demand.{Exact}
-use Rattle.interval.specs.Interval.{In, Words, interval}
-use Rattle.interval.specs.Op.{result, second}
-use Rattle.extent.specs.Span.{span}
-use Rattle.steps.proofs.Bitwise.{and_bitwise, or_bitwise, xor_bitwise}
-use Rattle.extent.proofs.Ops.{not_turns}
-use Rattle.extent.proofs.Searched.{has_largest, has_smallest}
+use Rattle.span.specs.interval.Interval.{In, Words, interval}
+use Rattle.span.specs.interval.Op.{result, second}
+use Rattle.span.specs.extent.Span.{span}
+use Rattle.span.proofs.steps.Bitwise.{and_bitwise, or_bitwise, xor_bitwise}
+use Rattle.span.proofs.extent.Ops.{not_turns}
+use Rattle.span.proofs.extent.Searched.{has_largest, has_smallest}
 
 result_word : (w : ℕ) (op : Op) (a b : ℕ) → a < 2 ^ w → b < 2 ^ w → result w op a b < 2 ^ w
 unfolding result

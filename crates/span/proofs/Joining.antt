@@ -6,14 +6,14 @@ use native.Mathlib.Omega.{arith}
 use borrow.Author.Tests.{eq-eqb, ne_eqb}
 use Rattle.word.specs.Word.{IsWidth, top}
 use Rattle.word.proofs.Tests.{both_fail, both_pass}
-use Rattle.interval.specs.declared.Interval.{Interval}
+use Rattle.span.specs.declared.interval.Interval.{Interval}
 use Rattle.span.specs.declared.Joined.{Joined}
-use Rattle.interval.specs.declared.Op.{Op}
-use Rattle.interval.specs.declared.Op.TheVariants.{And, Not, Or, Xor}
-use Rattle.interval.specs.Interval.{Words, hollow, within}
-use Rattle.interval.specs.Op.{inverted, second}
+use Rattle.span.specs.declared.interval.Op.{Op}
+use Rattle.span.specs.declared.interval.Op.TheVariants.{And, Not, Or, Xor}
+use Rattle.span.specs.interval.Interval.{Words, hollow, within}
+use Rattle.span.specs.interval.Op.{inverted, second}
 use Rattle.span.specs.Join.{all_cut, all_within, any_hollow, as_given, emptied, is_width, joined, new_h, new_x, new_y, refusal, refused}
-use Rattle.interval.proofs.Intervals.{is_words}
+use Rattle.span.proofs.interval.Intervals.{is_words}
 use Rattle.span.proofs.Widths.{width_passes}
 
 -- what is not refused

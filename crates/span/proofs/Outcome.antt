@@ -9,19 +9,19 @@ use native.Mathlib.Omega.{arith}
 use borrow.Author.Tests.{eq-eqb, ne_eqb}
 use lib.Bits.{bit_xor, xor_comm}
 use Rattle.word.specs.Word.{top}
-use Rattle.interval.specs.declared.Interval.{Interval}
+use Rattle.span.specs.declared.interval.Interval.{Interval}
 use Rattle.span.specs.declared.Joined.{Joined}
-use Rattle.interval.specs.declared.Op.{Op}
-use Rattle.interval.specs.declared.Op.TheVariants.{And, Not, Or, Xor}
+use Rattle.span.specs.declared.interval.Op.{Op}
+use Rattle.span.specs.declared.interval.Op.TheVariants.{And, Not, Or, Xor}
 use Rattle.span.specs.Demand.{CutBy, Cuts, CutsX, CutsY, Exact, GivesX, GivesY, InSecond, Inside, Solves}
-use Rattle.interval.specs.Interval.{In, Words, cut, hollow}
+use Rattle.span.specs.interval.Interval.{In, Words, cut, hollow}
 use Rattle.span.specs.Join.{all_cut, any_hollow, as_given, emptied, joined, new_h, new_x, new_y, refusal}
-use Rattle.interval.specs.Op.{inverted, result, second}
-use Rattle.extent.specs.Span.{span}
+use Rattle.span.specs.interval.Op.{inverted, result, second}
+use Rattle.span.specs.extent.Span.{span}
 use Rattle.span.proofs.Exact.{exact_unique, span_exact}
-use Rattle.interval.proofs.Intervals.{in_cut, not_hollow}
+use Rattle.span.proofs.interval.Intervals.{in_cut, not_hollow}
 use Rattle.span.proofs.Joining.{Accepted, accepted}
-use Rattle.extent.proofs.Ops.{xor_back, xor_back_left}
+use Rattle.span.proofs.extent.Ops.{xor_back, xor_back_left}
 
 same : (i : Interval) → Inside i i
 same i = record { low = omega arith; high = omega arith }

@@ -4,12 +4,12 @@ use mathlib.Core.Path.{◌≡◌, refl}
 use mathlib.Core.List.{map}
 use Rattle.word.specs.Word.{top}
 use Rattle.word.specs.Search.{first, last}
-use Rattle.interval.specs.declared.Op.TheVariants.{And}
+use Rattle.span.specs.declared.interval.Op.TheVariants.{And}
 use Rattle.span.specs.Cases.{Case, cases, ones, prefix_and, trailing, zeros}
-use Rattle.interval.specs.Interval.{cut, hollow, interval, within}
+use Rattle.span.specs.interval.Interval.{cut, hollow, interval, within}
 use Rattle.span.specs.Join.{all_cut, all_within, any_hollow, as_given, emptied, is_width, joined, new_h, new_x, new_y, refusal, refused}
-use Rattle.interval.specs.Op.{inverted, result, second}
-use Rattle.extent.specs.Span.{gives, is_found, largest, smallest, some, span, word_of}
+use Rattle.span.specs.interval.Op.{inverted, result, second}
+use Rattle.span.specs.extent.Span.{gives, is_found, largest, smallest, some, span, word_of}
 
 pub worked : map (λ (c : Case). joined c.width c.op c.h c.x c.y) cases ≡ map (λ (c : Case). c.expected) cases
 unfolding

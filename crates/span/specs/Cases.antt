@@ -2,12 +2,12 @@
 use Rattle.std.specs.Prelude.{Bool, true, false, List, [], ◌∷◌, ℕ, suc, ◌+◌, ◌-◌, ◌*◌, ◌/◌, ◌^◌, eqb}
 use Rattle.std.specs.Int.Bits.{bit_and}
 use Rattle.word.specs.Search.{first}
-use Rattle.interval.specs.declared.Interval.{Interval}
+use Rattle.span.specs.declared.interval.Interval.{Interval}
 use Rattle.span.specs.declared.Joined.{Joined}
-use Rattle.interval.specs.declared.Op.{Op}
-use Rattle.interval.specs.declared.Op.TheVariants.{And, Not, Or, Xor}
-use Rattle.interval.specs.Interval.{interval}
-use Rattle.extent.specs.Span.{word_of}
+use Rattle.span.specs.declared.interval.Op.{Op}
+use Rattle.span.specs.declared.interval.Op.TheVariants.{And, Not, Or, Xor}
+use Rattle.span.specs.interval.Interval.{interval}
+use Rattle.span.specs.extent.Span.{word_of}
 
 -- 000: "it is checked whether the bounds have a common bit-prefix"; how many bits trail it, at width w
 unfoldable pub trailing : ℕ → Interval → ℕ

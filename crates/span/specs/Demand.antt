@@ -1,10 +1,10 @@
 -- What is asked of a join, in the paper's words: statements of any span and of any outcome, for the definitions to be laid beside.
 use Rattle.std.specs.Prelude.{◌≡◌, ℕ, ◌≤◌}
-use Rattle.interval.specs.declared.Interval.{Interval}
-use Rattle.interval.specs.declared.Op.{Op}
-use Rattle.interval.specs.declared.Op.TheVariants.{And, Not, Or, Xor}
-use Rattle.interval.specs.Interval.{Greatest, In, Least, cut}
-use Rattle.interval.specs.Op.{result, second}
+use Rattle.span.specs.declared.interval.Interval.{Interval}
+use Rattle.span.specs.declared.interval.Op.{Op}
+use Rattle.span.specs.declared.interval.Op.TheVariants.{And, Not, Or, Xor}
+use Rattle.span.specs.interval.Interval.{Greatest, In, Least, cut}
+use Rattle.span.specs.interval.Op.{result, second}
 
 -- "the span from the smallest to the largest result that the argument intervals give, exactly": both ends of s are results of
 -- words in the intervals, and every result lies between them

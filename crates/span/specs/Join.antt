@@ -1,12 +1,12 @@
 -- What a join answers: K11 of the paper, a definition for each of its sentences.
 use Rattle.std.specs.Prelude.{Bool, true, false, ◌&&◌, ◌||◌, cond, ℕ, eqb, leb}
 use Rattle.word.specs.Word.{top}
-use Rattle.interval.specs.declared.Interval.{Interval}
+use Rattle.span.specs.declared.interval.Interval.{Interval}
 use Rattle.span.specs.declared.Joined.{Joined}
-use Rattle.interval.specs.declared.Op.{Op}
-use Rattle.interval.specs.Interval.{cut, hollow, within}
-use Rattle.interval.specs.Op.{inverted, second}
-use Rattle.extent.specs.Span.{span}
+use Rattle.span.specs.declared.interval.Op.{Op}
+use Rattle.span.specs.interval.Interval.{cut, hollow, within}
+use Rattle.span.specs.interval.Op.{inverted, second}
+use Rattle.span.specs.extent.Span.{span}
 
 -- a width from 1 to 64
 unfoldable pub is_width : ℕ → Bool

@@ -1,3 +1,6 @@
 pub mod Cases
 pub mod Demand
 pub mod Join
+pub mod interval
+pub mod steps
+pub mod extent

@@ -2,14 +2,20 @@
 // of the others.
 #![tactic(auto)]
 
+pub mod extent;
+
+pub mod steps;
+
+pub mod interval;
+
 ghost use Rattle.std.specs.Prelude.{◌≡◌};
 ghost use Rattle.word.specs.Word.{IsWidth};
-ghost use Rattle.interval.specs.Interval.{Words};
-ghost use Rattle.interval.specs.Op.{second};
+ghost use Rattle.span.specs.interval.Interval.{Words};
+ghost use Rattle.span.specs.interval.Op.{second};
 ghost use Rattle.span.specs.Join.{all_within, any_hollow, as_given, is_width, joined, new_x, new_y, refused};
 
-use extent::span;
-pub use interval::{Interval, Op};
+use crate::extent::span;
+pub use crate::interval::{Interval, Op};
 use word::Width;
 
 // What a join answers: 0 or the number of a refusal, whether a cut is empty, and the three intervals.

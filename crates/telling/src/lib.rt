@@ -1,15 +1,25 @@
 // Answers in words, on standard output. A rule is called by its name, or by its number where it has none.
 #![tactic(auto)]
 
+pub mod outward;
+
+pub mod drawing;
+
+pub mod mistakes;
+
+pub mod objects;
+
+pub mod printing;
+
 use chain::Link;
 use counting::Share;
 use line::Statement;
 use naming::MOST;
-use printing::{Told, WORDS, put, put_number, put_text};
+use crate::printing::{Told, WORDS, put, put_number, put_text};
 use rule::Rule;
 use sheet::{Reply, Sheet};
 use std::io::Result;
-use upshot::Response;
+use dialogue::upshot::Response;
 
 // Tells what a statement is answered.
 pub fn tell(
@@ -30,7 +40,7 @@ pub fn tell(
             tell_cut(rt, sheet.width, statement, listing.written, words)
         }
         Response::Blamed(listing) => {
-            let x = printing::word_of(statement);
+            let x = crate::printing::word_of(statement);
             tell_why(rt, sheet, x, listing.written, names, numbers)
         }
         Response::Shown => show(rt, sheet, names),
@@ -73,9 +83,9 @@ fn tell_one(rt: &impl Print, x: u64, width: u64) -> Result<()> {
     put(rt, b"one word fits: ")?;
     put_number(rt, x)?;
     put(rt, b" (0x")?;
-    printing::put_hexadecimal(rt, x)?;
+    crate::printing::put_hexadecimal(rt, x)?;
     put(rt, b", 0b")?;
-    printing::put_bits(rt, x, width)?;
+    crate::printing::put_bits(rt, x, width)?;
     put(rt, b")\n")
 }
 
@@ -148,8 +158,8 @@ fn tell_rule(
     names: &[[u8; MOST]; Rule::LIMIT],
 ) -> Result<()> {
     put(rt, b"rule ")?;
-    if printing::is_named(names, number) {
-        printing::put_name(rt, names, number)?;
+    if crate::printing::is_named(names, number) {
+        crate::printing::put_name(rt, names, number)?;
     } else {
         put_number(rt, number as u64)?;
     }
@@ -178,7 +188,7 @@ fn tell_cut(
     words: &[u64; WORDS],
 ) -> Result<()> {
     let last = words[WORDS - 1];
-    let left = printing::left_out(width, statement, written, last);
+    let left = crate::printing::left_out(width, statement, written, last);
     if left == 0 {
         return Ok(());
     }
@@ -194,7 +204,7 @@ fn tell_cut(
 // What stands, and its picture in comments.
 fn show(rt: &impl Print, sheet: Sheet, names: &[[u8; MOST]; Rule::LIMIT]) -> Result<()> {
     tell_sheet(rt, sheet, names)?;
-    drawing::draw(rt, sheet)
+    crate::drawing::draw(rt, sheet)
 }
 
 // What stands, so that it can be read again: the width, then rules and marks in their order.
@@ -218,8 +228,8 @@ fn show_rule(
     number: usize,
     names: &[[u8; MOST]; Rule::LIMIT],
 ) -> Result<()> {
-    if printing::is_named(names, number) {
-        printing::put_name(rt, names, number)?;
+    if crate::printing::is_named(names, number) {
+        crate::printing::put_name(rt, names, number)?;
         put(rt, b": ")?;
     }
     put_text(rt, sheet, number)?;
@@ -243,15 +253,15 @@ fn put_marks(rt: &impl Print, sheet: Sheet, number: usize) -> Result<()> {
 
 // `4 of 16`.
 fn put_of(rt: &impl Print, share: Share, width: u64) -> Result<()> {
-    printing::put_count(rt, share)?;
+    crate::printing::put_count(rt, share)?;
     put(rt, b" of ")?;
-    printing::put_words(rt, width)
+    crate::printing::put_words(rt, width)
 }
 
 // `11 (0xb)`.
 fn put_twice(rt: &impl Print, n: u64) -> Result<()> {
-    let mut text = [0; figure::NUMBER];
-    let end = figure::put_number(&mut text, 0, n);
-    let bytes = printing::within(end, &text);
+    let mut text = [0; digits::figure::NUMBER];
+    let end = digits::figure::put_number(&mut text, 0, n);
+    let bytes = crate::printing::within(end, &text);
     put(rt, &text[..bytes])
 }

@@ -2,7 +2,7 @@
 use crate::sheets::{added, case2, gone_back, marked, opened_in, other};
 use rule::Rule;
 use sheet::Sheet;
-use trial_direct::rules::rule;
+use trial::trial_direct::rules::rule;
 use word::Edition;
 
 // Where the numbers of the rules end, those of the marks, and the eight others.

@@ -2,7 +2,7 @@
 use page::Opening;
 use rule::Rule;
 use sheet::Sheet;
-use trial_direct::cases;
+use trial::trial_direct::cases;
 use word::Edition;
 
 // The rules that leave one place free.

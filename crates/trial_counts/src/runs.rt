@@ -5,10 +5,10 @@ ghost use Rattle.std.specs.Prelude.{◌<◌};
 use crate::pieces::{MIXED, WORDS, Words};
 use crate::total::Total;
 use rule::Rule;
-use trial_wheel::bit_rules::FEW;
-use trial_wheel::wheel::Wheel;
-use trial_wide::search;
-use trial_wide::search::STRETCHES;
+use trial::trial_wheel::bit_rules::FEW;
+use trial::trial_wheel::wheel::Wheel;
+use trial_sheets::trial_wide::search;
+use trial_sheets::trial_wide::search::STRETCHES;
 use word::{Found, Width};
 
 // The most bits of a word.

@@ -1,6 +1,6 @@
 // What was compared: counts with the words that they were to give in all, and listings with the words that they were to write.
 use crate::total::Total;
-use trial_tally::Tally;
+use trial::trial_tally::Tally;
 
 #[derive(Clone, Copy)]
 pub struct Seen {

@@ -3,12 +3,12 @@
 ghost use Rattle.std.specs.Prelude.{◌≤◌};
 ghost use Rattle.word.specs.Word.{top};
 ghost use Rattle.rule.specs.Meaning.{RULES};
-ghost use Rattle.trial_direct.specs.Trial.{Narrow};
+ghost use Rattle.trial.specs.trial_direct.Trial.{Narrow};
 
 use rule::Rule;
-use trial_direct::draw::next;
-use trial_direct::rules::rule;
-use trial_direct::{direct, rules};
+use trial::trial_direct::draw::next;
+use trial::trial_direct::rules::rule;
+use trial::trial_direct::{direct, rules};
 use word::Width;
 
 // How many rules a sheet has: up to the limit, and on every other sheet up to 7.

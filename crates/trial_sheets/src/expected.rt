@@ -1,7 +1,7 @@
 // What is to be said of a sheet: the verdict with its words, and the number of links. The links stand in a lent buffer.
 use rule::Rule;
-use trial_direct::cases;
-use trial_direct::cases::Case;
+use trial::trial_direct::cases;
+use trial::trial_direct::cases::Case;
 
 // The most links: 4n + 1 of n rules.
 pub const LINKS: usize = 4 * Rule::LIMIT + 1;

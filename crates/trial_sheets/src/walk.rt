@@ -3,7 +3,7 @@ ghost use Rattle.std.specs.Prelude.{◌<◌, ◌≤◌};
 ghost use Rattle.rule.specs.Meaning.{RULES};
 
 use crate::expected::{Expected, LINKS, NUMBERS};
-use trial_direct::direct;
+use trial::trial_direct::direct;
 
 // Where a link starts, where it ends, one above its last word, and why.
 #[derive(Clone, Copy)]

@@ -11,8 +11,8 @@
 
 mod sheets;
 
-use trial_bits::masks::Way;
-use trial_bits::{masks, wide};
+use trial_sheets::trial_bits::masks::Way;
+use trial_sheets::trial_bits::{masks, wide};
 
 fn main() {
     sheets::over_widths(Way::Next).print(b"next");

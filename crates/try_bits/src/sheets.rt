@@ -1,13 +1,13 @@
 // The bits that form 7 rules fix, at every constant of the widths 1 to 4, against a plain search for a word that meets them.
 ghost use Rattle.std.specs.Prelude.{◌≤◌};
-ghost use Rattle.trial_direct.specs.Trial.{Narrow};
+ghost use Rattle.trial.specs.trial_direct.Trial.{Narrow};
 
 use rule::Rule;
 use rule::bits::Fixed;
-use trial_bits::masks::{Sought, Way, same};
-use trial_bits::{called, masks};
-use trial_direct::{direct, rules};
-use trial_tally::Tally;
+use trial_sheets::trial_bits::masks::{Sought, Way, same};
+use trial_sheets::trial_bits::{called, masks};
+use trial::trial_direct::{direct, rules};
+use trial::trial_tally::Tally;
 use word::{Found, Width};
 
 // The widest words that every rule is tried on by itself.

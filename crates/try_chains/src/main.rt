@@ -11,15 +11,15 @@
 
 ghost use Rattle.std.specs.Prelude.{◌<◌, ◌≤◌};
 ghost use Rattle.rule.specs.Meaning.{RULES};
-ghost use Rattle.trial_direct.specs.Trial.{Narrow, ROWS};
+ghost use Rattle.trial.specs.trial_direct.Trial.{Narrow, ROWS};
 
 use rule::Rule;
-use trial_direct::direct::UNTOUCHED;
-use trial_direct::{cases, direct, draw, rules};
-use trial_editions::asked;
+use trial::trial_direct::direct::UNTOUCHED;
+use trial::trial_direct::{cases, direct, draw, rules};
+use trial_sheets::trial_editions::asked;
 use trial_sheets::expected::{Expected, NUMBERS};
 use trial_sheets::{drawn, expected, walk};
-use trial_tally::Split;
+use trial::trial_tally::Split;
 use word::{Edition, Width};
 
 // The widest words that every rule is tried on by itself, and every two.

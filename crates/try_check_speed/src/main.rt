@@ -22,7 +22,7 @@ fn main() {
 
 // A sheet with no place free, which no word fits: each rule fails a part of the words.
 fn full() -> Sheet {
-    let rules = trial_lists::parts();
+    let rules = trial_calls::trial_lists::parts();
     let mut sheet = sheets::opened(32);
     for i in 0..Rule::LIMIT {
         sheet = sheets::added(sheet, rules[i]);

@@ -13,11 +13,11 @@
 
 ghost use Rattle.std.specs.Prelude.{◌<◌, ◌≤◌};
 ghost use Rattle.rule.specs.Meaning.{RULES};
-ghost use Rattle.trial_direct.specs.Trial.{Narrow, ROWS};
+ghost use Rattle.trial.specs.trial_direct.Trial.{Narrow, ROWS};
 
 use rule::Rule;
-use trial_direct::{cases, direct, draw, rules};
-use trial_links::counts::Counts;
+use trial::trial_direct::{cases, direct, draw, rules};
+use trial_chains::trial_links::counts::Counts;
 use trial_sheets::drawn;
 use word::Width;
 
@@ -69,7 +69,7 @@ fn over_firsts(before: Counts, n: usize, second: Rule, width: Width, from: u64) 
         let mut rules = [second; Rule::LIMIT];
         rules[0] = rules::numbered(i, width);
         let seed = draw::next(std::num::wrapping_add_u64(i, from));
-        counts = trial_checks::sheet(counts, rules, n, width, seed, false, &mut table);
+        counts = trial_chains::trial_checks::sheet(counts, rules, n, width, seed, false, &mut table);
     }
     counts
 }
@@ -89,7 +89,7 @@ fn drawn_sheets(before: Counts) -> Counts {
 fn drawn_sheet(counts: Counts, s: u64, table: &mut [u8; direct::TABLE]) -> Counts {
     let width = Width { bits: 1 + s % 8 };
     let n = drawn::count(s >> 8);
-    trial_checks::sheet(
+    trial_chains::trial_checks::sheet(
         counts,
         drawn::rules(s, n, width),
         n,
@@ -123,7 +123,7 @@ fn at_row(counts: Counts, i: usize, wrong: bool, table: &mut [u8; direct::TABLE]
     if 8 < width.bits {
         return counts;
     }
-    trial_checks::sheet(counts, rules, n, width, draw::SPREAD, wrong, &mut *table)
+    trial_chains::trial_checks::sheet(counts, rules, n, width, draw::SPREAD, wrong, &mut *table)
 }
 
 // Case 8, whose chain has two links, with the wrong answer expected of each list.

@@ -2,7 +2,7 @@
 use rule::Rule;
 use sheet::Sheet;
 use trial_calls::sheets::{added, opened_in};
-use trial_direct::rules::rule;
+use trial::trial_direct::rules::rule;
 use word::Edition;
 
 const WIDTH: u64 = 64;

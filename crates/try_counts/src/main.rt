@@ -11,7 +11,7 @@
 
 ghost use Rattle.std.specs.Prelude.{◌≤◌};
 ghost use Rattle.rule.specs.Meaning.{RULES};
-ghost use Rattle.trial_direct.specs.Trial.{Narrow};
+ghost use Rattle.trial.specs.trial_direct.Trial.{Narrow};
 
 use rule::Rule;
 use trial_calls::sheets::{added, case2, opened_in};
@@ -19,10 +19,10 @@ use trial_counts::pieces;
 use trial_counts::pieces::{WORDS, Words};
 use trial_counts::seen::Seen;
 use trial_counts::total::Total;
-use trial_direct::{direct, draw, rules};
-use trial_editions::asked;
+use trial::trial_direct::{direct, draw, rules};
+use trial_sheets::trial_editions::asked;
 use trial_sheets::drawn as draws;
-use trial_wide::{corners, sheets};
+use trial_sheets::trial_wide::{corners, sheets};
 use word::{Edition, Width};
 
 // The widest words that every rule is tried on.

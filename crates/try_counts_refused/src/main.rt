@@ -14,7 +14,7 @@ use trial_calls::records::{NO_SHEETS, no_sheet};
 use trial_calls::sheets::opened_in;
 use trial_counts::pieces;
 use trial_counts::refused::{count_refused, list_refused};
-use trial_tally::Tally;
+use trial::trial_tally::Tally;
 use word::{Edition, Width};
 
 fn main() {

@@ -5,16 +5,16 @@
 // answer to a sheet, and seven wrong ones.
 #![tactic(auto)]
 
-use trial_direct::{direct, draw, rules};
-use trial_editions::asked::UNTOUCHED;
-use trial_editions::counts::Both;
-use trial_editions::{asked, known};
+use trial::trial_direct::{direct, draw, rules};
+use trial_sheets::trial_editions::asked::UNTOUCHED;
+use trial_sheets::trial_editions::counts::Both;
+use trial_sheets::trial_editions::{asked, known};
 use trial_sheets::expected::NUMBERS;
 use trial_sheets::{drawn as draws, walk};
-use trial_tally::Tally;
-use trial_wheel::bit_rules::FEW;
-use trial_wheel::wheel::Wheel;
-use trial_wide::{search, sheets};
+use trial::trial_tally::Tally;
+use trial::trial_wheel::bit_rules::FEW;
+use trial::trial_wheel::wheel::Wheel;
+use trial_sheets::trial_wide::{search, sheets};
 use word::Width;
 
 // How many sheets are drawn to be asked, and to go both ways on.

@@ -1,5 +1,5 @@
 // The calls of sequences: gates by the number that they get, and the others.
-use trial_tally::{Split, Tally};
+use trial::trial_tally::{Split, Tally};
 
 // Gates that are accepted, and those refused: on the blank sheet, for its width, for a limit, and for want of room; and other calls.
 #[derive(Clone, Copy)]

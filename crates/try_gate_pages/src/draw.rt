@@ -2,8 +2,8 @@
 use gate::Gate;
 use page::Opening;
 use sheet::Call;
-use trial_direct::draw::next;
-use trial_gates::{direct, made};
+use trial::trial_direct::draw::next;
+use trial::trial_gates::{direct, made};
 
 const SIGN: u32 = 0x8000_0000;
 
@@ -49,7 +49,7 @@ pub fn drawn(seed: u64, opening: Opening, waits: bool) -> Next {
     if sets(seed / 0x100_0000_0000, waits) {
         return Next::Set(some_limits(more));
     }
-    Next::Other(trial_draws::draw::drawn(seed, opening, waits))
+    Next::Other(trial_calls::trial_draws::draw::drawn(seed, opening, waits))
 }
 
 fn opens(seed: u64, width: u64) -> bool {
@@ -70,7 +70,7 @@ fn sets(seed: u64, waits: bool) -> bool {
 
 // An opening in either edition, mostly of the width of gates, else of a neighbouring one.
 fn anew(seed: u64) -> Opening {
-    let edition = trial_draws::draw::either(seed);
+    let edition = trial_calls::trial_draws::draw::either(seed);
     let width = if seed % 8 == 0 {
         30 + seed / 8 % 4
     } else {

@@ -9,11 +9,11 @@ use rule::Rule;
 use sheet::{Answer, Call, Sheet};
 use trial_calls::answers::same_sheet;
 use trial_calls::sheets::{gone_back, marked, opened};
-use trial_direct::draw::next;
-use trial_gates::direct;
-use trial_pages::calls::made;
-use trial_pages::clerk::Page;
-use trial_tally::Tally;
+use trial::trial_direct::draw::next;
+use trial::trial_gates::direct;
+use trial_calls::trial_pages::calls::made;
+use trial_calls::trial_pages::clerk::Page;
+use trial::trial_tally::Tally;
 use word::Edition;
 
 // Sequences from the blank sheet on, and sheets that are all but full, half of them in each edition; and the calls of each.
@@ -115,7 +115,7 @@ fn given(work: Work, kind: u64) -> Work {
     let more = next(work.seed);
     match kind {
         3 => {
-            let rule = trial_draws::draw::rule(more, next(more), opening.width);
+            let rule = trial_calls::trial_draws::draw::rule(more, next(more), opening.width);
             other(work, Call::Add(edition, rule))
         }
         7 => other(work, Call::Mark),
@@ -170,7 +170,7 @@ fn other(work: Work, call: Call) -> Work {
 fn after(work: Work, answer: Answer, page: Page, fresh: Sheet, counts: Counts) -> Work {
     let sheet = answer.sheet;
     Work {
-        seed: trial_draws::draw::further(work.seed),
+        seed: trial_calls::trial_draws::draw::further(work.seed),
         sheet,
         page,
         fresh,

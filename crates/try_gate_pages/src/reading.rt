@@ -4,10 +4,10 @@ use crate::draw::Limits;
 use gate::Turned;
 use std::num::wrapping_add_u64;
 use trial_calls::sheets::{added, opened_in};
-use trial_direct::draw::{SPREAD, next};
-use trial_direct::rules::rule;
-use trial_gates::direct;
-use trial_tally::Tally;
+use trial::trial_direct::draw::{SPREAD, next};
+use trial::trial_direct::rules::rule;
+use trial::trial_gates::direct;
+use trial::trial_tally::Tally;
 use word::Edition;
 
 // What is looked at: whether the limits are numbers, the words that fit, those that do not, or a sheet with the gate.
@@ -27,7 +27,7 @@ pub fn over(looked_at: u64) -> Tally {
     let mut tally = Tally::none();
     let mut seed = SPREAD;
     for i in 0..DRAWN {
-        seed = trial_draws::draw::further(seed);
+        seed = trial_calls::trial_draws::draw::further(seed);
         tally = tally.plus(gated(seed, looked_at));
     }
     tally

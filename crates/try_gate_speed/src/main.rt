@@ -7,7 +7,7 @@ use rule::Rule;
 use sheet::Sheet;
 use std::env::Env;
 use trial_calls::sheets;
-use trial_gates::made;
+use trial::trial_gates::made;
 
 const SHEETS: u64 = 200;
 

@@ -9,9 +9,9 @@
 mod made;
 
 use gate::{Four, Turned};
-use trial_gates::direct;
-use trial_gates::made::gate;
-use trial_tally::Tally;
+use trial::trial_gates::direct;
+use trial::trial_gates::made::gate;
+use trial::trial_tally::Tally;
 
 fn main() {
     over_kinds(direct::GATES).print(b"gates");

@@ -10,17 +10,17 @@ mod tiles;
 
 ghost use Rattle.std.specs.Prelude.{◌<◌, ◌≤◌};
 ghost use Rattle.rule.specs.Meaning.{RULES};
-ghost use Rattle.trial_direct.specs.Trial.{Narrow};
+ghost use Rattle.trial.specs.trial_direct.Trial.{Narrow};
 
 use rule::Rule;
 use tiles::Tiles;
-use trial_direct::{direct, draw, rules};
-use trial_editions::asked;
-use trial_editions::asked::UNTOUCHED;
-use trial_editions::counts::Seen;
+use trial::trial_direct::{direct, draw, rules};
+use trial_sheets::trial_editions::asked;
+use trial_sheets::trial_editions::asked::UNTOUCHED;
+use trial_sheets::trial_editions::counts::Seen;
 use trial_sheets::expected::{Expected, LINKS, NUMBERS};
 use trial_sheets::walk;
-use trial_tally::Tally;
+use trial::trial_tally::Tally;
 use word::{Edition, Width};
 
 // How many sheets are drawn at each width.

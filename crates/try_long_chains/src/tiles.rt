@@ -2,12 +2,12 @@
 // words to be odd, and even words may be left to it.
 ghost use Rattle.std.specs.Prelude.{◌<◌, ◌≤◌};
 ghost use Rattle.rule.specs.Meaning.{RULES};
-ghost use Rattle.trial_direct.specs.Trial.{Narrow};
+ghost use Rattle.trial.specs.trial_direct.Trial.{Narrow};
 
 use rule::Rule;
-use trial_direct::direct;
-use trial_direct::draw::next;
-use trial_direct::rules::rule;
+use trial::trial_direct::direct;
+use trial::trial_direct::draw::next;
+use trial::trial_direct::rules::rule;
 use word::Width;
 
 // Some rules, the first n of them.

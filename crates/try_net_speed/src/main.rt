@@ -4,7 +4,7 @@
 
 use net::{Ended, Join, Net};
 use span::{Interval, Op};
-use trial_spans::made;
+use trial_joins::trial_spans::made;
 
 const RUNS: u64 = 400;
 

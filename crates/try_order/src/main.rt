@@ -10,9 +10,9 @@ use sheet::Sheet;
 use trial_calls::answers::{ask_refused, kept, refused, replied, untouched};
 use trial_calls::records::hurt;
 use trial_calls::sheets::{added, all_marks, case2, full, opened_in, other};
-use trial_direct::direct::UNTOUCHED;
-use trial_direct::rules::{NO_FORM, rule};
-use trial_tally::Tally;
+use trial::trial_direct::direct::UNTOUCHED;
+use trial::trial_direct::rules::{NO_FORM, rule};
+use trial::trial_tally::Tally;
 use word::Edition;
 
 fn main() {

@@ -13,13 +13,13 @@ fn main(rt: HostRuntime) -> Result<()> {
     tell(&rt, forms(1, 1, 0))?;
     tell(&rt, forms(64, 0xfedcba9876543210, 0x10))?;
     tell(&rt, forms(33, 0x100000000, 0xffff))?;
-    outward::frames(&rt, Sheet::blank())?;
-    outward::smt(&rt, Sheet::blank())
+    telling::outward::frames(&rt, Sheet::blank())?;
+    telling::outward::smt(&rt, Sheet::blank())
 }
 
 fn tell(rt: &impl Print, sheet: Sheet) -> Result<()> {
-    outward::frames(rt, sheet)?;
-    outward::smt(rt, sheet)
+    telling::outward::frames(rt, sheet)?;
+    telling::outward::smt(rt, sheet)
 }
 
 // A sheet of each form with these constants, as written and then negated. What is refused is left out.

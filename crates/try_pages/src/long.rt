@@ -4,11 +4,11 @@ use page::Opening;
 use sheet::{Call, Sheet};
 use trial_calls::answers::same_sheet;
 use trial_calls::sheets::{added, case2, gone_back, marked, opened, opened_in};
-use trial_direct::draw::next;
-use trial_draws::draw;
-use trial_pages::calls::made;
-use trial_pages::clerk::Page;
-use trial_tally::{Split, Tally};
+use trial::trial_direct::draw::next;
+use trial_calls::trial_draws::draw;
+use trial_calls::trial_pages::calls::made;
+use trial_calls::trial_pages::clerk::Page;
+use trial::trial_tally::{Split, Tally};
 use word::Edition;
 
 const SEQUENCES: u64 = 30;

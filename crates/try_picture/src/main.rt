@@ -2,10 +2,10 @@
 // of each column. The last sheet is the one before it with another rule kept in its first place, which is no sheet, and so nothing is drawn.
 #![tactic(auto)]
 
-use column::COLUMNS;
+use picture::column::COLUMNS;
 use page::Opening;
 use rule::Rule;
-use shade::Cell;
+use picture::shade::Cell;
 use sheet::Sheet;
 use word::Edition;
 
@@ -48,14 +48,14 @@ fn rule_rows(sheet: Sheet) {
 
 fn rule_row(sheet: Sheet, number: usize) {
     for column in 0..PAST {
-        tell(rule_cells::rule_at(sheet, number, column));
+        tell(picture::rule_cells::rule_at(sheet, number, column));
     }
     io::write_all(STDOUT, b"\n");
 }
 
 fn all_row(sheet: Sheet) {
     for column in 0..PAST {
-        tell(all_cells::all_at(sheet, column));
+        tell(picture::all_cells::all_at(sheet, column));
     }
     io::write_all(STDOUT, b"\n");
 }

@@ -11,13 +11,13 @@ mod paper;
 ghost use Rattle.std.specs.Prelude.{◌≤◌};
 ghost use Rattle.word.specs.Word.{top};
 ghost use Rattle.rule.specs.Meaning.{Lawful};
-ghost use Rattle.trial_direct.specs.Trial.{Narrow};
+ghost use Rattle.trial.specs.trial_direct.Trial.{Narrow};
 
 use rule::band::Band;
 use rule::Rule;
-use trial_direct::rules::{negated, rule};
-use trial_direct::{direct, rules};
-use trial_tally::Tally;
+use trial::trial_direct::rules::{negated, rule};
+use trial::trial_direct::{direct, rules};
+use trial::trial_tally::Tally;
 use word::Width;
 
 // The widest words that every rule is tried on.

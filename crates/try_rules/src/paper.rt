@@ -1,11 +1,11 @@
 // The paper's sheets worked by hand, word by word.
 ghost use Rattle.std.specs.Prelude.{◌≤◌, ◌<◌};
-ghost use Rattle.trial_direct.specs.Trial.{ROWS};
+ghost use Rattle.trial.specs.trial_direct.Trial.{ROWS};
 
 use rule::Rule;
-use trial_direct::cases::CASE2;
-use trial_direct::{cases, rules};
-use trial_tally::Tally;
+use trial::trial_direct::cases::CASE2;
+use trial::trial_direct::{cases, rules};
+use trial::trial_tally::Tally;
 use word::Width;
 
 // The sheets of width 4 that have rules: cases 2 to 12, with case 3 as written and negated.

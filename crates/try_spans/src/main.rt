@@ -5,10 +5,10 @@
 #![tactic(auto)]
 
 use span::{Interval, Op};
-use trial_direct::draw::next;
-use trial_spans::expected::Way;
-use trial_spans::{expected, made};
-use trial_tally::Tally;
+use trial::trial_direct::draw::next;
+use trial_joins::trial_spans::expected::Way;
+use trial_joins::trial_spans::{expected, made};
+use trial::trial_tally::Tally;
 
 const OPERATIONS: u64 = 4;
 

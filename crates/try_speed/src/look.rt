@@ -1,6 +1,6 @@
 // The next word that has given bits, again and again.
 use rule::bits::Fixed;
-use trial_direct::draw::next;
+use trial::trial_direct::draw::next;
 use word::{Found, Width};
 
 const LOOKED: u64 = 10_000_000;

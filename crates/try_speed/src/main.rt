@@ -11,7 +11,7 @@ use rule::Rule;
 use sheet::Sheet;
 use std::env::Env;
 use trial_calls::sheets::{added, opened_in};
-use trial_lists::{calls, parts, parts_of};
+use trial_calls::trial_lists::{calls, parts, parts_of};
 use word::Edition;
 
 const ASKED: u64 = 10_000;

@@ -2,7 +2,7 @@
 ghost use Rattle.word.specs.Word.{IsWidth};
 
 use line::{Line, Statement};
-use scan::Amount;
+use line::scan::Amount;
 
 const STDOUT: i32 = 1;
 

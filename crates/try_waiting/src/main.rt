@@ -10,8 +10,8 @@ use trial_calls::answers::{accepted, refused, same_sheet};
 use trial_calls::sheets::{
     added, case2, gone_back, gone_forward, marked, opened, opened_in, other,
 };
-use trial_direct::rules::rule;
-use trial_tally::Tally;
+use trial::trial_direct::rules::rule;
+use trial::trial_tally::Tally;
 use word::Edition;
 
 fn main() {

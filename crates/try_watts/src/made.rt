@@ -1,7 +1,7 @@
 // What is read, and what it is compared with.
 ghost use Rattle.std.specs.Prelude.{◌^◌, ◌<◌, ◌≤◌};
 
-use trial_direct::draw;
+use trial::trial_direct::draw;
 use watts::Limit;
 
 // How many were compared, how many of them differ, and the sum of the bits read.
@@ -40,13 +40,13 @@ impl Seen {
 
     // Two lines of the program's output.
     pub fn print(self, name: &[u8]) {
-        trial_lines::compared(name, self.compared, self.differ);
+        trial::trial_lines::compared(name, self.compared, self.differ);
         self.print_bits(name);
     }
 
     // The same, of numbers by whether they were read.
     pub fn print_read(self, name: &[u8]) {
-        trial_lines::calls(name, self.compared, self.differ);
+        trial::trial_lines::calls(name, self.compared, self.differ);
         self.print_bits(name);
     }
 

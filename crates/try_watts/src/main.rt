@@ -11,7 +11,7 @@ mod made;
 
 use known::corners;
 use made::Seen;
-use trial_direct::draw;
+use trial::trial_direct::draw;
 
 // How many are drawn for each line.
 const ROUNDS: u64 = 2000;

@@ -1,6 +1,6 @@
 -- How many numbers there are for sheets of each kind, and how many sheets are drawn, as the code has it.
 use Rattle.std.proofs.Common.{ℕ, ◌+◌, ◌*◌, ◌/◌}
-use Rattle.trial_wide.proofs.Counts.{CORNERS}
+use Rattle.trial_sheets.proofs.trial_wide.Counts.{CORNERS}
 
 -- after each rule with corners, every eleventh of them
 abbrev pub STEP : ℕ

@@ -10,7 +10,7 @@
 
 mod sheets;
 
-use trial_editions::known;
+use trial_sheets::trial_editions::known;
 
 fn main() {
     sheets::alone(64).print(b"64 alone");

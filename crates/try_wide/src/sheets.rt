@@ -4,14 +4,14 @@ ghost use Rattle.word.specs.Word.{IsWidth};
 ghost use Rattle.rule.specs.Meaning.{RULES};
 
 use rule::Rule;
-use trial_direct::draw;
-use trial_editions::asked;
-use trial_editions::asked::UNTOUCHED;
-use trial_editions::counts::Both;
+use trial::trial_direct::draw;
+use trial_sheets::trial_editions::asked;
+use trial_sheets::trial_editions::asked::UNTOUCHED;
+use trial_sheets::trial_editions::counts::Both;
 use trial_sheets::expected::NUMBERS;
-use trial_wheel::bit_rules::FEW;
-use trial_wheel::wheel::Wheel;
-use trial_wide::{corners, search, sheets};
+use trial::trial_wheel::bit_rules::FEW;
+use trial::trial_wheel::wheel::Wheel;
+use trial_sheets::trial_wide::{corners, search, sheets};
 
 // Of the rules with corners, every so many stand second in a pair. It shares no factor with the numbers of forms, senses and corners.
 const STEP: u64 = 11;

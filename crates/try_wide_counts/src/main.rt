@@ -16,11 +16,11 @@ use trial_counts::pieces::{WORDS, Words};
 use trial_counts::seen::Seen;
 use trial_counts::total::Total;
 use trial_counts::{pieces, runs};
-use trial_direct::draw;
-use trial_editions::asked;
-use trial_wheel::bit_rules::FEW;
-use trial_wheel::wheel::Wheel;
-use trial_wide::{corners, sheets};
+use trial::trial_direct::draw;
+use trial_sheets::trial_editions::asked;
+use trial::trial_wheel::bit_rules::FEW;
+use trial::trial_wheel::wheel::Wheel;
+use trial_sheets::trial_wide::{corners, sheets};
 use word::Edition;
 
 // How many sheets are drawn.

@@ -6,12 +6,12 @@
 #![tactic(auto)]
 
 ghost use Rattle.word.specs.Word.{IsWidth};
-ghost use Rattle.trial_direct.specs.Trial.{Narrow};
+ghost use Rattle.trial.specs.trial_direct.Trial.{Narrow};
 
 use line::Statement;
 use rule::Rule;
-use trial_direct::rules;
-use trial_tally::Tally;
+use trial::trial_direct::rules;
+use trial::trial_tally::Tally;
 use word::Width;
 
 // The widest words that every rule is tried on.

@@ -6,7 +6,7 @@ use crate::manner::Manner;
 use coming::{Answer, EINTR, EPIPE};
 use dialogue::Dialogue;
 use naming::MOST;
-use printing::{Told, WORDS, up_to, within};
+use telling::printing::{Told, WORDS, up_to, within};
 use rule::Rule;
 use sheet::Sheet;
 use std::io::{Read, Result};
@@ -116,7 +116,7 @@ fn check(rt: &(impl Files + Print), run: Run, names: &[[u8; MOST]; Rule::LIMIT])
         run.status = Run::MISTAKE;
         return run;
     }
-    run.status = checking::check(rt, dialogue.sheet, names);
+    run.status = crate::checking::check(rt, dialogue.sheet, names);
     run
 }
 
@@ -239,7 +239,7 @@ fn take_line(rt: &impl Print, run: Run, names: &mut [[u8; MOST]; Rule::LIMIT], t
         sheet,
     };
     let answered = manner::answer(rt, manner, told, &*names, &numbers, &words);
-    if mistakes::say(told, text) {
+    if telling::mistakes::say(told, text) {
         run.status = Run::MISTAKE;
         run.more = false;
     }

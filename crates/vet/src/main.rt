@@ -6,6 +6,12 @@
 // write failed; 2: a mistake. For a chain 0: yes; 1: no; 2: a mistake, or a read or a write failed.
 #![tactic(auto)]
 
+pub mod checking;
+
+pub mod status;
+
+pub mod gathering;
+
 mod feeding;
 mod manner;
 

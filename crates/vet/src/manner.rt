@@ -1,7 +1,7 @@
 // What the program writes, by its argument: answers in words, or as objects of JSON; or, at the end of the input, the rules in force for another
 // tool, and no answers; or what is found of a chain.
 use naming::MOST;
-use printing::{Told, WORDS};
+use telling::printing::{Told, WORDS};
 use rule::Rule;
 use sheet::Sheet;
 use std::io::Result;
@@ -65,7 +65,7 @@ pub fn answer(
 ) -> Result<()> {
     match manner {
         Manner::Words => telling::tell(rt, told, names, numbers, words),
-        Manner::Objects => objects::tell(rt, told, names, numbers, words),
+        Manner::Objects => telling::objects::tell(rt, told, names, numbers, words),
         _ => Ok(()),
     }
 }
@@ -76,8 +76,8 @@ pub fn write_out(rt: &impl Print, manner: Manner, sheet: Sheet) -> Result<()> {
         return Ok(());
     }
     match manner {
-        Manner::Smt => outward::smt(rt, sheet),
-        Manner::Frames => outward::frames(rt, sheet),
+        Manner::Smt => telling::outward::smt(rt, sheet),
+        Manner::Frames => telling::outward::frames(rt, sheet),
         _ => Ok(()),
     }
 }

@@ -4,7 +4,7 @@ use Rattle.std.specs.Prelude.{Bool, true, false, cond, ℕ, ◌+◌, ◌-◌, �
 use Rattle.word.specs.declared.Found.TheVariants.{At, Nothing}
 use Rattle.word.specs.Search.{last}
 use Rattle.gate.specs.Value.{exponent, fraction, magnitude}
-use Rattle.numeral.specs.Numeral.{PLACES}
+use Rattle.digits.specs.numeral.Numeral.{PLACES}
 use Rattle.watts.specs.declared.Limit.{Limit}
 use Rattle.watts.specs.declared.Limit.TheVariants.{Bits, TooFine}
 

@@ -3,11 +3,11 @@
 #![tactic(auto)]
 
 ghost use Rattle.std.specs.Prelude.{◌≡◌, ◌^◌, ◌*◌, ◌≤◌, ◌<◌};
-ghost use Rattle.numeral.specs.Numeral.{PLACES};
+ghost use Rattle.digits.specs.numeral.Numeral.{PLACES};
 ghost use Rattle.watts.specs.Watts.{limit_of, nearer, pattern, with_sign};
 ghost use Rattle.watts.specs.route.Route.{IsGrain, IsParts};
 
-use numeral::Numeral;
+use digits::numeral::Numeral;
 
 // The bits of a limit in watts, or that it has more digits after the point than are read.
 #[derive(Clone, Copy)]

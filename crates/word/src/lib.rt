@@ -1,6 +1,8 @@
 // Words of a width, with the arithmetic that wraps there, and the editions of the exchange, which differ in their words.
 #![tactic(auto)]
 
+pub mod line_width;
+
 ghost use Rattle.std.specs.Prelude.{◌≡◌, ◌≤◌};
 ghost use Rattle.word.specs.Edition.{same, terms};
 ghost use Rattle.word.specs.Word.{IsWidth, top, half, plus, minus, signed};

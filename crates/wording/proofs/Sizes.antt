@@ -6,11 +6,11 @@ use native.Mathlib.Omega.{arith}
 use lib.Dec.{eqb}
 use lib.ListN.{length, length-append}
 use Rattle.rule.specs.declared.Rule.{Rule}
-use Rattle.phrase.proofs.Sizes.{either}
-use Rattle.form_rows.specs.Forms.{form_text}
-use Rattle.forms.proofs.Sizes.{few_text}
-use Rattle.signs.specs.Signs.{at_least, at_most, before}
-use Rattle.signs.proofs.Sizes.{few_at_least, few_at_most, few_before}
+use Rattle.digits.proofs.phrase.Sizes.{either}
+use Rattle.wording.specs.form_rows.Forms.{form_text}
+use Rattle.wording.proofs.forms.Sizes.{few_text}
+use Rattle.wording.specs.signs.Signs.{at_least, at_most, before}
+use Rattle.wording.proofs.signs.Sizes.{few_at_least, few_at_most, few_before}
 use Rattle.wording.specs.Wording.{ROOM, rule_text}
 
 -- the room that is asked for is enough

@@ -7,8 +7,8 @@ use native.Mathlib.Omega.{arith}
 use borrow.Author.Tests.{eq-eqb, ne_eqb}
 use lib.Dec.{eqb}
 use Rattle.rule.specs.declared.Rule.{Rule}
-use Rattle.form_rows.specs.Forms.{form_text}
-use Rattle.signs.specs.Signs.{at_least, at_most, before}
+use Rattle.wording.specs.form_rows.Forms.{form_text}
+use Rattle.wording.specs.signs.Signs.{at_least, at_most, before}
 use Rattle.wording.specs.Wording.{rule_text}
 
 module _ (w : ℕ) (r : Rule) where

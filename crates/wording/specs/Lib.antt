@@ -1,1 +1,4 @@
 pub mod Wording
+pub mod form_rows
+pub mod signs
+pub mod echo

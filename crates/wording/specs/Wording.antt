@@ -1,8 +1,8 @@
 -- A rule as people write it, by the rows of docs/VET.md.
 use Rattle.std.specs.Prelude.{◌&&◌, cond, List, ◌++◌, ℕ, ◌+◌, eqb}
 use Rattle.rule.specs.declared.Rule.{Rule}
-use Rattle.form_rows.specs.Forms.{ROW, form_text}
-use Rattle.signs.specs.Signs.{at_least, at_most, before}
+use Rattle.wording.specs.form_rows.Forms.{ROW, form_text}
+use Rattle.wording.specs.signs.Signs.{at_least, at_most, before}
 
 unfoldable pub rule_text : ℕ → Rule → List ℕ
 rule_text w r =

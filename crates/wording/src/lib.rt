@@ -1,15 +1,23 @@
 // A rule as people write it, so that it reads back as that rule, and a number in decimal and hexadecimal.
 #![tactic(auto)]
 
+pub mod echo;
+
+pub mod signs;
+
+pub mod forms;
+
+pub mod form_rows;
+
 ghost use Rattle.std.specs.Prelude.{◌+◌, ◌≤◌, length};
 ghost use Rattle.word.specs.Word.{IsWidth};
-ghost use Rattle.phrase.specs.Phrase.{Put};
+ghost use Rattle.digits.specs.phrase.Phrase.{Put};
 ghost use Rattle.wording.specs.Wording.{ROOM, rule_text};
 
-pub use figure::{NUMBER, put_number};
-use forms::put_form;
+pub use digits::figure::{NUMBER, put_number};
+use crate::forms::put_form;
 use rule::Rule;
-use signs::{put_at_least, put_at_most, put_before};
+use crate::signs::{put_at_least, put_at_most, put_before};
 use word::Width;
 
 // The most bytes of a rule: `not settled since N for N`, where a number has twenty digits.

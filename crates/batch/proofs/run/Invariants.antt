@@ -1,7 +1,7 @@
 use mathlib.Core.Path.{◌≡◌}
 use Prim.Native.Nat.{◌-◌, ◌≤◌}
 use lib.ListN.{length, take}
-use Rattle.course.specs.Batch.{MOST}
+use Rattle.batch.specs.course.Batch.{MOST}
 use Rattle.batch.proofs.run.Given as goal
 
 -- the list agrees so far with the one that was lent

@@ -6,7 +6,7 @@ use Rattle.rule.specs.declared.band.Band.{Band}
 use Rattle.rule.specs.band.route.Band.{holds}
 use Rattle.rule.specs.declared.bits.Fixed.{Fixed}
 use Rattle.rule.specs.bits.route.Fixed.{has_bits}
-use Rattle.rows.specs.route.Bands.{blank_band}
+use Rattle.search.specs.rows.route.Bands.{blank_band}
 use Rattle.chain.specs.declared.Far.{Far}
 use Rattle.chain.specs.declared.Far.TheVariants.{Nowhere}
 use Rattle.chain.specs.declared.Link.{Link}

@@ -2,8 +2,8 @@
 use mathlib.Core.Path.{◌≡◌, ◌∙◌}
 use mathlib.Core.List.{List}
 use Prim.Native.Nat.{ℕ}
-use Rattle.piece.specs.declared.Piece.{Piece}
-use Rattle.piece.specs.Piece.{word_at}
+use Rattle.line.specs.declared.piece.Piece.{Piece}
+use Rattle.line.specs.piece.Piece.{word_at}
 use Rattle.citing.specs.Citation.{lab_says, said}
 use Rattle.citing.proofs.lab_says.Goals as goal
 

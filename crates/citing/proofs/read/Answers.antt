@@ -3,7 +3,7 @@ use mathlib.Core.Path.{sym, ap, ◌∙◌}
 use native.Mathlib.Omega.{arith}
 use borrow.Author.Tests.{le-ltb, lt-ltb}
 use lib.ListN.{length}
-use Rattle.linked.specs.declared.Linked.{Linked}
+use Rattle.citing.specs.declared.linked.Linked.{Linked}
 use Rattle.citing.specs.Citation.{citation, or_lab}
 use Rattle.citing.proofs.read.Goals as goal
 

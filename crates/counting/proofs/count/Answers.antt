@@ -1,6 +1,6 @@
 -- `count` meets its contract: what passes by the rows is the count of the record that was laid out in them. Assumes nothing.
 use mathlib.Core.Path.{refl}
-use Rattle.laid_force.proofs.Force.{swept_so, width_so}
+use Rattle.sheet.proofs.laid_force.Force.{swept_so, width_so}
 use Rattle.counting.proofs.Held.{counted}
 use Rattle.counting.proofs.count.Goals as goal
 

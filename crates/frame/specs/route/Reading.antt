@@ -4,11 +4,11 @@ use Rattle.std.proofs.Math.Seq.{slice}
 use Rattle.word.specs.declared.Edition.{Edition}
 use Rattle.word.specs.Edition.{terms}
 use Rattle.page.specs.Page.{at_width}
-use Rattle.hexadecimal.specs.Hex.{all_digits, number}
+use Rattle.digits.specs.hexadecimal.Hex.{all_digits, number}
 use Rattle.frame.specs.declared.Frame.{Frame}
 use Rattle.frame.specs.declared.Frame.TheVariants.{Add, Ask, Back, Forward, Mark, NoFrame, Open}
-use Rattle.fields.specs.Fields.{BYTE, DIGITS, WORD}
-use Rattle.frame_numbers.specs.route.Numbers.{C1, OPENING, adding, code_edition, rule_of}
+use Rattle.frame.specs.fields.Fields.{BYTE, DIGITS, WORD}
+use Rattle.frame.specs.frame_numbers.route.Numbers.{C1, OPENING, adding, code_edition, rule_of}
 
 -- no frame has more digits
 abbrev pub LONGEST : ℕ

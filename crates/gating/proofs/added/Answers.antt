@@ -1,7 +1,7 @@
 -- `added` meets its contract: a refusal hands the record back, and the four adds come to the page after the gate. Assumes nothing.
 use mathlib.Core.Path.{subst}
 use Rattle.sheet.specs.Statements.{Outcome}
-use Rattle.gate_refusal.specs.route.Seen.{GateSeen, SeenFor}
+use Rattle.gating.specs.gate_refusal.route.Seen.{GateSeen, SeenFor}
 use Rattle.gating.specs.route.Added.{AddedFor}
 use Rattle.gating.proofs.Gating.{four_added, refused_gate}
 use Rattle.gating.proofs.added.Goals as goal

@@ -8,7 +8,7 @@ use Rattle.gate.specs.declared.Gate.{Gate}
 use Rattle.gate.specs.declared.Turned.TheVariants.{NotANumber, Rules}
 use Rattle.gate.specs.Gate.{four_of, not_numbers, through, turned}
 use Rattle.sheet.specs.Statements.{Outcome}
-use Rattle.gate_refusal.specs.route.Seen.{SeenFor}
+use Rattle.gating.specs.gate_refusal.route.Seen.{SeenFor}
 use Rattle.gating.specs.route.Added.{AddedFor}
 use Rattle.gating.proofs.Gating.{limit_refused, refused_gate}
 use Rattle.gating.proofs.set.Goals as goal

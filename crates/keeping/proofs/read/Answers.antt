@@ -1,8 +1,8 @@
 -- `read` meets its contract: each number is read at its place. Assumes nothing.
 use lib.ListN.{get_or}
 use borrow.Author.Rules.{rules}
-use Rattle.verdict.specs.Kept.{keeps}
-use Rattle.kept_numbers.specs.route.Reading.{sheet_in}
+use Rattle.search.specs.verdict.Kept.{keeps}
+use Rattle.keeping.specs.kept_numbers.route.Reading.{sheet_in}
 use Rattle.keeping.proofs.read.Goals as goal
 
 pub returns : goal.returns

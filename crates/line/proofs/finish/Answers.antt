@@ -2,8 +2,8 @@
 use mathlib.Core.Path.{◌≡◌, ap, sym, ◌∙◌}
 use mathlib.Core.Bool.{true, false}
 use Prim.Native.Nat.{ℕ}
-use Rattle.grammar.specs.Grammar.{is_whole}
-use Rattle.scan.specs.declared.Scan.{Scan}
+use Rattle.line.specs.grammar.Grammar.{is_whole}
+use Rattle.line.specs.declared.scan.Scan.{Scan}
 use Rattle.line.specs.declared.Statement.TheVariants.{Wrong}
 use Rattle.line.specs.Line.{by_row, finished, mistake, nothing_read}
 use Rattle.line.proofs.finish.Goals as goal

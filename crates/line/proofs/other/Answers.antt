@@ -4,7 +4,7 @@ use mathlib.Core.Path.{◌≡◌, ap, sym}
 use Prim.Native.Nat.{ℕ, suc, ◌-◌, ◌≤◌}
 use native.Mathlib.Decide.{dec_le, ℕ_discrete}
 use lib.ListN.{get_or-eq_default}
-use Rattle.scan.specs.declared.Amount.{Amount}
+use Rattle.line.specs.declared.scan.Amount.{Amount}
 use Rattle.line.specs.declared.Statement.TheVariants.{Blank}
 use Rattle.line.specs.Line.{other, others}
 use Rattle.line.proofs.other.Goals as goal

@@ -4,8 +4,8 @@ use mathlib.Core.Path.{ap, ◌∙◌}
 use Prim.Native.Nat.{ℕ}
 use borrow.Author.Tests.{le-ltb, lt-ltb}
 use lib.ListN.{length}
-use Rattle.scan.specs.declared.Scan.{Scan}
-use Rattle.line_end.specs.End.{end_of}
+use Rattle.line.specs.declared.scan.Scan.{Scan}
+use Rattle.line.specs.line_end.End.{end_of}
 use Rattle.line.specs.declared.Line.{Line}
 use Rattle.line.specs.declared.Statement.{Statement}
 use Rattle.line.specs.Line.{finished, read}

@@ -1,6 +1,6 @@
 -- `list` meets its contract: what is written by the rows is the listing of the record that was laid out in them. Assumes nothing.
 use mathlib.Core.Path.{refl}
-use Rattle.laid_force.proofs.Force.{swept_so, width_so}
+use Rattle.sheet.proofs.laid_force.Force.{swept_so, width_so}
 use Rattle.listing.proofs.Held.{listed, passed}
 use Rattle.listing.proofs.list.Goals as goal
 

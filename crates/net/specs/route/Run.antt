@@ -1,13 +1,13 @@
 -- A route to the plain rule (`Plain`): the same steps, with a count of those in a row that changed nothing; and the answer.
 use Rattle.std.specs.Prelude.{Bool, false, cond, List, ℕ, zero, suc, eqb, leb}
-use Rattle.interval.specs.declared.Interval.{Interval}
+use Rattle.span.specs.declared.interval.Interval.{Interval}
 use Rattle.net.specs.declared.Answer.{Answer}
 use Rattle.net.specs.declared.Ended.{Ended}
 use Rattle.net.specs.declared.Ended.TheVariants.{Empty, Spent, Steady}
-use Rattle.net_step.specs.declared.Join.{Join}
+use Rattle.net.specs.declared.net_step.Join.{Join}
 use Rattle.net.specs.declared.Net.{Net}
 use Rattle.net.specs.Net.{refusal, turn, given, turned_down}
-use Rattle.net_step.specs.Step.{stepped}
+use Rattle.net.specs.net_step.Step.{stepped}
 
 -- where a run stands: the words, the steps used, how many steps in a row, up to here, changed nothing, and whether the last one found
 -- an empty cut

@@ -8,9 +8,9 @@ use Rattle.rule.specs.declared.band.Band.{Band}
 use Rattle.rule.specs.band.route.Band.{band_of}
 use Rattle.rule.specs.declared.bits.Fixed.{Fixed}
 use Rattle.rule.specs.bits.route.Fixed.{Tidy}
-use Rattle.rows.specs.route.Bands.{passes}
-use Rattle.rows.specs.route.Rows.{bands_in, no_row, row_of}
-use Rattle.shade.specs.Cell.{cell_of}
+use Rattle.search.specs.rows.route.Bands.{passes}
+use Rattle.search.specs.rows.route.Rows.{bands_in, no_row, row_of}
+use Rattle.picture.specs.shade.Cell.{cell_of}
 use Rattle.picture.proofs.Drawn.{alone_lies, alone_of, alone_tidy, by_fits, by_meets}
 use Rattle.picture.proofs.alone.Goals.{After-put}
 use Rattle.picture.proofs.alone.Goals as goal

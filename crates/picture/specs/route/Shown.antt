@@ -1,6 +1,6 @@
 -- A route: what there is to draw of a column, told by what a slate says of its record. What a picture shows is said of the record.
 use Rattle.std.specs.Prelude.{Bool, not, ◌&&◌, cond, ℕ, eqb, ltb}
-use Rattle.column.specs.Column.{columns, words_of}
+use Rattle.picture.specs.column.Column.{columns, words_of}
 use Rattle.picture.specs.declared.Shown.{Shown}
 use Rattle.picture.specs.declared.Shown.TheVariants.{Nothing, Words}
 

@@ -5,8 +5,8 @@ use Prim.Native.Nat.{ℕ, ◌*◌}
 use native.Mathlib.Omega.{arith}
 use lib.ListN.{drop}
 use Rattle.chain.specs.Links.{numbers_of}
-use Rattle.slate.specs.declared.Head.{Head}
-use Rattle.slate.proofs.stepping.Refusing.{no_refusal, one_number}
+use Rattle.sheet.specs.declared.slate.Head.{Head}
+use Rattle.sheet.proofs.slate.stepping.Refusing.{no_refusal, one_number}
 use Rattle.sheet.specs.declared.slate_ask.Reply.{Reply}
 use Rattle.sheet.specs.slate_ask.Reply.{refuses, replies}
 use Rattle.sheet.specs.slate_ask.route.Asks.{Asks, chain_in}

@@ -2,8 +2,8 @@
 use mathlib.Core.Path.{◌≡◌, refl}
 use mathlib.Core.List.{List}
 use Prim.Native.Nat.{ℕ}
-use Rattle.slate.specs.declared.Head.{Head}
-use Rattle.slate.proofs.slate_calls.OneWay.{Alike, one_add, one_mark, one_opening, one_step_back, one_step_forward}
+use Rattle.sheet.specs.declared.slate.Head.{Head}
+use Rattle.sheet.proofs.slate.slate_calls.OneWay.{Alike, one_add, one_mark, one_opening, one_step_back, one_step_forward}
 use Rattle.sheet.specs.declared.slate_make.Call.{Call}
 use Rattle.sheet.specs.slate_make.route.Makes.{Makes}
 use Rattle.sheet.specs.slate_make.route.Makes.Makes.{adds, opens, sets_mark, steps_back, steps_forward}

@@ -1,13 +1,13 @@
 -- A slate has as many places after a call as before it. Assumes nothing.
 use mathlib.Core.List.{List}
 use Prim.Native.Nat.{ℕ}
-use Rattle.slate.specs.declared.Head.{Head}
-use Rattle.slate.specs.route.Held.{Held, Room}
-use Rattle.slate.proofs.Numbers.{number_zero}
-use Rattle.slate.specs.slate_calls.route.Done.Adds.{added, refused}
-use Rattle.slate.specs.slate_calls.route.Done.Marks.{marked, unmarked}
-use Rattle.slate.specs.slate_calls.route.Done.Opens.{narrow, opened, wide}
-use Rattle.slate.proofs.slate_calls.Bare.{room_added, room_marked, room_opened}
+use Rattle.sheet.specs.declared.slate.Head.{Head}
+use Rattle.sheet.specs.slate.route.Held.{Held, Room}
+use Rattle.sheet.proofs.slate.Numbers.{number_zero}
+use Rattle.sheet.specs.slate.slate_calls.route.Done.Adds.{added, refused}
+use Rattle.sheet.specs.slate.slate_calls.route.Done.Marks.{marked, unmarked}
+use Rattle.sheet.specs.slate.slate_calls.route.Done.Opens.{narrow, opened, wide}
+use Rattle.sheet.proofs.slate.slate_calls.Bare.{room_added, room_marked, room_opened}
 use Rattle.sheet.specs.declared.slate_make.Call.{Call}
 use Rattle.sheet.specs.slate_make.route.Makes.{Makes}
 use Rattle.sheet.specs.slate_make.route.Makes.Makes.{adds, opens, sets_mark, steps_back, steps_forward}

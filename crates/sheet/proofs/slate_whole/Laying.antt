@@ -7,12 +7,12 @@ use lib.ListN.{replicate}
 use Rattle.rule.specs.declared.Rule.{Rule}
 use Rattle.rule.specs.Meaning.{RULES}
 use Rattle.rule.specs.declared.bits.Fixed.TheVariants.{Bits}
-use Rattle.rows.specs.route.Bands.{blank_band}
-use Rattle.rows.specs.route.Rows.{bare_row, no_row, rules_in}
-use Rattle.rows.proofs.Reading.{rule_of}
+use Rattle.search.specs.rows.route.Bands.{blank_band}
+use Rattle.search.specs.rows.route.Rows.{bare_row, no_row, rules_in}
+use Rattle.search.proofs.rows.Reading.{rule_of}
 use Rattle.page.specs.Page.{MARKS}
-use Rattle.slate.specs.declared.Head.{Head}
-use Rattle.slate.specs.route.Held.{Room, found_to, head_of}
+use Rattle.sheet.specs.declared.slate.Head.{Head}
+use Rattle.sheet.specs.slate.route.Held.{Room, found_to, head_of}
 use Rattle.sheet.specs.declared.slate_whole.Whole.{Whole}
 use Rattle.sheet.specs.slate_whole.route.Whole.{whole_of}
 

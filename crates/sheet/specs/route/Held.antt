@@ -1,7 +1,7 @@
 -- The record that a slate stands for. A route: what a call must answer is said of this record.
 use Rattle.std.specs.Prelude.{List, ℕ}
-use Rattle.rows.specs.route.Rows.{rules_in}
-use Rattle.slate.specs.declared.Head.{Head}
+use Rattle.search.specs.rows.route.Rows.{rules_in}
+use Rattle.sheet.specs.declared.slate.Head.{Head}
 use Rattle.sheet.specs.declared.slate_whole.Whole.{Whole}
 use Rattle.sheet.specs.declared.Sheet.{Sheet}
 

@@ -5,8 +5,8 @@ use Rattle.page.specs.Calls.{Call, add, back, forward, mark, open_at}
 use Rattle.sheet.specs.declared.slate_make.Call.{Call as Made}
 use Rattle.sheet.specs.declared.slate_make.Call.TheVariants.{Add, Back, Forward, Mark, Open}
 use Rattle.sheet.specs.Statements.{Outcome, answers}
-use Rattle.slate.specs.declared.Head.{Head}
-use Rattle.slate.specs.route.Held.{Held}
+use Rattle.sheet.specs.declared.slate.Head.{Head}
+use Rattle.sheet.specs.slate.route.Held.{Held}
 use Rattle.sheet.specs.route.Held.{packed}
 
 -- the number n and the record that the slate then stands for are the call's outcome, and all is held again

@@ -3,9 +3,9 @@
 use Rattle.std.specs.Prelude.{Bool, false}
 use Rattle.rule.specs.declared.bits.Fixed.TheVariants.{Bits}
 use Rattle.page.specs.Page.{at_width}
-use Rattle.slate.specs.declared.Head.{Head}
-use Rattle.slate.specs.route.Held.{counted}
-use Rattle.slate.specs.route.Shape.{stands_so}
+use Rattle.sheet.specs.declared.slate.Head.{Head}
+use Rattle.sheet.specs.slate.route.Held.{counted}
+use Rattle.sheet.specs.slate.route.Shape.{stands_so}
 use Rattle.sheet.specs.declared.Sheet.{Sheet}
 
 -- the record's numbers, before it is tested; the test reads neither the head's own word nor the bits

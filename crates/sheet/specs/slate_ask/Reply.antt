@@ -1,7 +1,7 @@
 -- What asking answers.
 use Rattle.std.specs.Prelude.{ℕ}
-use Rattle.verdict.specs.declared.Kept.{Kept}
-use Rattle.verdict.specs.Kept.{keeps}
+use Rattle.search.specs.declared.verdict.Kept.{Kept}
+use Rattle.search.specs.verdict.Kept.{keeps}
 use Rattle.sheet.specs.declared.slate_ask.Reply.{Reply}
 
 abbrev pub replies : ℕ → Kept → ℕ → Reply

@@ -2,8 +2,8 @@
 use mathlib.Core.Path.{ap, ◌∙◌}
 use native.Mathlib.Omega.{arith}
 use borrow.Author.Tests.{le-leb, lt-leb}
-use Rattle.interval.specs.Interval.{cut}
-use Rattle.interval.specs.Op.{inverted}
+use Rattle.span.specs.interval.Interval.{cut}
+use Rattle.span.specs.interval.Op.{inverted}
 use Rattle.span.specs.Join.{new_y}
 use Rattle.span.proofs.Joining.{has_y}
 use Rattle.span.proofs.cut_y.Goals as goal

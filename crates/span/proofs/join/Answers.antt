@@ -1,6 +1,6 @@
 -- `join` meets its contract: each way out is a case of the definition. Assumes nothing.
 use mathlib.Core.Path.{ap, ◌∙◌}
-use Rattle.interval.specs.Interval.{cut}
+use Rattle.span.specs.interval.Interval.{cut}
 use Rattle.span.specs.Join.{new_h}
 use Rattle.span.proofs.Joining.{may_cut, out_cut, out_empty, out_refused}
 use Rattle.span.proofs.join.Goals as goal

@@ -1,6 +1,6 @@
 -- `editions` is safe and ends: the measure is the widths left. Assumes nothing.
 use Prim.Native.Nat.{◌-◌}
-use Rattle.line_width.specs.Width.{WIDEST}
+use Rattle.word.specs.line_width.Width.{WIDEST}
 use Rattle.try_batch.proofs.editions.Given as goal
 
 abbrev pub invariant-loop-below : goal.invariant-loop-below

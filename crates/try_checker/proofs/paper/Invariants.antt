@@ -1,6 +1,6 @@
 -- `paper` is safe and ends: the measure is the rows left. Assumes nothing.
 use Rattle.std.proofs.Common.{◌-◌}
-use Rattle.trial_direct.specs.Trial.{ROWS}
+use Rattle.trial.specs.trial_direct.Trial.{ROWS}
 use Rattle.try_checker.proofs.paper.Given as goal
 
 abbrev pub invariant-loop-i : goal.invariant-loop-i

@@ -1,6 +1,6 @@
 -- `joins` is safe and ends. The measure is the joins left. Assumes nothing.
 use Rattle.std.proofs.Common.{◌-◌, ◌≤◌}
-use Rattle.net_tests.specs.Fits.{JOINS}
+use Rattle.net.specs.net_tests.Fits.{JOINS}
 use Rattle.try_net_speed.proofs.joins.Given as goal
 
 abbrev pub invariant-loop-k : goal.invariant-loop-k

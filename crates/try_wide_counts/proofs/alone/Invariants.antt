@@ -1,6 +1,6 @@
 -- `alone` is safe and ends: the measure is what is left. Assumes nothing.
 use Rattle.std.proofs.Common.{◌-◌}
-use Rattle.trial_wide.proofs.Counts.{CORNERS}
+use Rattle.trial_sheets.proofs.trial_wide.Counts.{CORNERS}
 use Rattle.try_wide_counts.proofs.alone.Given as goal
 
 abbrev pub invariant-loop-i : goal.invariant-loop-i

@@ -1,7 +1,7 @@
 -- `reads_back` is safe: a text is no longer than the room that was lent. Assumes nothing.
 use native.Mathlib.Omega.{arith}
 use lib.ListN.{length-take}
-use Rattle.phrase.proofs.Putting.{put_length}
+use Rattle.digits.proofs.phrase.Putting.{put_length}
 use Rattle.try_wording.proofs.reads_back.Goals as goal
 
 pub slice_bounds-read-end : goal.slice_bounds-read-end

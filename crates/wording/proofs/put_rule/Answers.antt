@@ -5,9 +5,9 @@ use Prim.Native.Nat.{ℕ}
 use native.Mathlib.Omega.{arith}
 use borrow.Author.Tests.{ne_eqb}
 use lib.Dec.{eqb}
-use Rattle.phrase.proofs.Putting.{put_as, put_length, put_then}
-use Rattle.forms.proofs.Sizes.{few_text}
-use Rattle.signs.proofs.Sizes.{few_at_least, few_at_most, few_before}
+use Rattle.digits.proofs.phrase.Putting.{put_as, put_length, put_then}
+use Rattle.wording.proofs.forms.Sizes.{few_text}
+use Rattle.wording.proofs.signs.Sizes.{few_at_least, few_at_most, few_before}
 use Rattle.wording.proofs.Sizes.{few_rule}
 use Rattle.wording.proofs.Texts.{at_least_lem, at_most_lem, by_form}
 use Rattle.wording.proofs.put_rule.Goals.{else-rule-eq2, else-rule-eq3, then-rule-eq2+else-rule-eq0, then-rule-eq3+else-rule-eq0-2}

@@ -1,6 +1,6 @@
 -- `decode` meets its contract: the tests pick the row. Assumes nothing.
 use mathlib.Core.Path.{sym, ap, ◌∙◌}
-use Rattle.frame_numbers.specs.route.Numbers.{code_edition}
+use Rattle.frame.specs.frame_numbers.route.Numbers.{code_edition}
 use Rattle.frame.specs.route.Reading.{numbered}
 use Rattle.frame.proofs.Rows.{no_digits, numbers_row, too_short}
 use Rattle.frame.proofs.reading.decode.Goals as goal

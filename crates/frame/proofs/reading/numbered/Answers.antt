@@ -6,7 +6,7 @@ use borrow.Author.Tests.{eqb-true}
 use lib.ListN.{length}
 use Rattle.word.proofs.Tests.{both_pass}
 use Rattle.page.specs.Page.{at_width}
-use Rattle.frame_numbers.specs.route.Numbers.{OPENING, adding}
+use Rattle.frame.specs.frame_numbers.route.Numbers.{OPENING, adding}
 use Rattle.frame.specs.declared.Frame.TheVariants.{Add, Open}
 use Rattle.frame.specs.route.Reading.{numbered}
 use Rattle.frame.proofs.reading.numbered.Goals as goal

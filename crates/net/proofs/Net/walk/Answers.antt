@@ -4,7 +4,7 @@ use mathlib.Core.Path.{◌≡◌}
 use Prim.Native.Nat.{ℕ, ◌-◌, ◌%◌, ◌≤◌, ◌<◌}
 use native.Mathlib.Nat.{mod-lt}
 use native.Mathlib.Omega.{arith}
-use Rattle.net_tests.specs.Fits.{JOINS}
+use Rattle.net.specs.net_tests.Fits.{JOINS}
 use Rattle.net.specs.Net.{turn}
 use Rattle.net.specs.route.Run.{walked}
 use Rattle.net.proofs.Going.{given_empty, walk_on, walk_start}

@@ -7,13 +7,13 @@ use borrow.Author.Rules.{rules}
 use lib.ListN.{take}
 use Rattle.rule.specs.declared.Rule.{Rule}
 use Rattle.rule.specs.Meaning.{RULES}
-use Rattle.verdict.specs.declared.Kept.{Kept}
-use Rattle.verdict.specs.Kept.{kept}
-use Rattle.rows.specs.route.OfRules.{OfLawful}
-use Rattle.rows.specs.route.Rows.{bands_in, rules_in}
-use Rattle.slate.specs.route.Numbers.{before}
-use Rattle.slate.proofs.Holding.{bands_places, drawn_so, kept_so, lawful_so, swept, waits_so, width_so}
-use Rattle.slate.specs.stepping.route.Steps.Refused.{before_first, own_ground}
+use Rattle.search.specs.declared.verdict.Kept.{Kept}
+use Rattle.search.specs.verdict.Kept.{kept}
+use Rattle.search.specs.rows.route.OfRules.{OfLawful}
+use Rattle.search.specs.rows.route.Rows.{bands_in, rules_in}
+use Rattle.sheet.specs.slate.route.Numbers.{before}
+use Rattle.sheet.proofs.slate.Holding.{bands_places, drawn_so, kept_so, lawful_so, swept, waits_so, width_so}
+use Rattle.sheet.specs.slate.stepping.route.Steps.Refused.{before_first, own_ground}
 use Rattle.sheet.specs.slate_ask.route.Asks.{Asks}
 use Rattle.sheet.specs.slate_ask.route.Asks.Asks.{none_fits, some_fit, unasked}
 use Rattle.sheet.proofs.slate_ask.ask.Goals.{Else-number-ne0}

@@ -2,7 +2,7 @@
 use mathlib.Core.Path.{◌≡◌, sym, subst}
 use mathlib.Core.List.{List}
 use Prim.Native.Nat.{ℕ}
-use Rattle.slate.specs.declared.Head.{Head}
+use Rattle.sheet.specs.declared.slate.Head.{Head}
 use Rattle.sheet.specs.declared.slate_make.Call.{Call}
 use Rattle.sheet.specs.slate_make.route.Makes.{Makes}
 use Rattle.sheet.specs.slate_make.route.Makes.Makes.{adds, opens, sets_mark, steps_back, steps_forward}

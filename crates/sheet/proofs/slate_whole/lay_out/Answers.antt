@@ -1,8 +1,8 @@
 -- `lay_out` meets its contract: the rows and marks hold the value's, the head has its numbers, and the test leaves the rules. Assumes nothing.
 use mathlib.Core.Path.{ap, ◌∙◌}
-use Rattle.rows.specs.route.Rows.{rules_in}
-use Rattle.slate.specs.declared.Head.{Head}
-use Rattle.slate.specs.route.Held.{found_to}
+use Rattle.search.specs.rows.route.Rows.{rules_in}
+use Rattle.sheet.specs.declared.slate.Head.{Head}
+use Rattle.sheet.specs.slate.route.Held.{found_to}
 use Rattle.sheet.proofs.slate_whole.Laying.{laid_out, rules_bare}
 use Rattle.sheet.proofs.slate_whole.lay_out.Goals as goal
 

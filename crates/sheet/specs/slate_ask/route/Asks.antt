@@ -1,12 +1,12 @@
 -- What asking on a slate answers and writes, said of head and rows alone: its ways out, each with what is then known. A route: what asking must
 -- answer is said of the record that they stand for, and that this does it is proved where the record stands (sheet: proofs/Asking.antt).
 use Rattle.std.specs.Prelude.{◌≡◌, List, ◌++◌, ℕ, ◌*◌, ◌≤◌, ◌<◌, drop, length, take}
-use Rattle.rows.specs.route.Rows.{rules_in}
+use Rattle.search.specs.rows.route.Rows.{rules_in}
 use Rattle.chain.specs.declared.Link.{Link}
 use Rattle.chain.specs.Links.{chain_room, links, numbers_of}
-use Rattle.slate.specs.declared.Head.{Head}
-use Rattle.slate.specs.route.Numbers.{before}
-use Rattle.slate.specs.stepping.route.Steps.{Refused}
+use Rattle.sheet.specs.declared.slate.Head.{Head}
+use Rattle.sheet.specs.slate.route.Numbers.{before}
+use Rattle.sheet.specs.slate.stepping.route.Steps.{Refused}
 use Rattle.sheet.specs.declared.slate_ask.Reply.{Reply}
 use Rattle.sheet.specs.slate_ask.Reply.{refuses, replies}
 

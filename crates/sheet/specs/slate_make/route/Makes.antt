@@ -3,9 +3,9 @@ use Rattle.std.specs.Prelude.{List, ℕ}
 use Rattle.word.specs.declared.Edition.{Edition}
 use Rattle.rule.specs.declared.Rule.{Rule}
 use Rattle.page.specs.declared.Opening.{Opening}
-use Rattle.slate.specs.declared.Head.{Head}
-use Rattle.slate.specs.stepping.route.Steps.{Backs, Forwards}
-use Rattle.slate.specs.slate_calls.route.Done.{Adds, Marks, Opens}
+use Rattle.sheet.specs.declared.slate.Head.{Head}
+use Rattle.sheet.specs.slate.stepping.route.Steps.{Backs, Forwards}
+use Rattle.sheet.specs.slate.slate_calls.route.Done.{Adds, Marks, Opens}
 use Rattle.sheet.specs.declared.slate_make.Call.{Call}
 use Rattle.sheet.specs.declared.slate_make.Call.TheVariants.{Add, Back, Forward, Mark, Open}
 

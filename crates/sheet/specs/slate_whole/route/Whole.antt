@@ -1,9 +1,9 @@
 -- What a slate stands for, as one value, and what a call and asking on such a value come to. A route: what they must answer is said of the
 -- record that has the same numbers (sheet: specs/Statements.antt).
 use Rattle.std.specs.Prelude.{◌≡◌, List, ℕ}
-use Rattle.rows.specs.route.Rows.{rules_in}
-use Rattle.slate.specs.declared.Head.{Head}
-use Rattle.slate.specs.route.Held.{Held}
+use Rattle.search.specs.rows.route.Rows.{rules_in}
+use Rattle.sheet.specs.declared.slate.Head.{Head}
+use Rattle.sheet.specs.slate.route.Held.{Held}
 use Rattle.sheet.specs.declared.slate_make.Call.{Call}
 use Rattle.sheet.specs.slate_make.route.Makes.{Makes}
 use Rattle.sheet.specs.declared.slate_ask.Reply.{Reply}

@@ -1,6 +1,6 @@
 -- `runs::is_clash` is safe and ends: the measure is what is left. Assumes nothing.
 use Rattle.std.proofs.Common.{◌-◌}
-use Rattle.trial_wheel.specs.Limits.{FEW}
+use Rattle.trial.specs.trial_wheel.Limits.{FEW}
 use Rattle.trial_counts.proofs.runs.is_clash.Given as goal
 
 abbrev pub invariant-loop-i : goal.invariant-loop-i

@@ -1,6 +1,6 @@
 -- `runs::total` is safe and ends: the measure is what is left. Assumes nothing.
 use Rattle.std.proofs.Common.{◌-◌}
-use Rattle.trial_wide.proofs.Counts.{STRETCHES}
+use Rattle.trial_sheets.proofs.trial_wide.Counts.{STRETCHES}
 use Rattle.trial_counts.proofs.runs.total.Given as goal
 
 abbrev pub invariant-loop : goal.invariant-loop

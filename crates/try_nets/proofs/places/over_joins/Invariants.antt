@@ -1,6 +1,6 @@
 -- `over_joins` is safe and ends. The measure is the numbers of joins left. Assumes nothing.
 use Rattle.std.proofs.Common.{◌+◌, ◌-◌, ◌≤◌}
-use Rattle.net_tests.specs.Fits.{JOINS}
+use Rattle.net.specs.net_tests.Fits.{JOINS}
 use Rattle.try_nets.proofs.places.over_joins.Given as goal
 
 abbrev pub invariant-loop-joined : goal.invariant-loop-joined

@@ -1,0 +1,55 @@
+// A batch on its slate: a sheet is opened there, given each rule in order, and asked. What the batch call answers is said here.
+
+ghost use Rattle.std.specs.Prelude.{◌≡◌, length, take};
+ghost use Rattle.batch.specs.adds.route.Few.{few};
+ghost use Rattle.batch.specs.course.Batch.{Gives, batches};
+ghost use Rattle.batch.specs.course.route.Route.{batch_at};
+
+use crate::begun::{Course, begin};
+use page::Opening;
+use search::rows::NUMBERS;
+use rule::Rule;
+use sheet::{Reply, Sheet, laid};
+
+// What a batch answers: what the last call answered, and the place of the rule that was refused, or the list's length.
+#[derive(Clone, Copy)]
+pub struct Batch {
+    pub reply: Reply,
+    pub place: usize,
+}
+
+impl Batch {
+    // One rule more than a sheet takes.
+    pub const MOST: usize = Course::MOST;
+}
+
+// The batch call on a list of so many rules, of which an array has the first: all of them, or as many as are read. A refused opening is said
+// at the list's length.
+pub fn beginning(
+    opening: Opening,
+    rules: [Rule; Batch::MOST],
+    given: usize,
+    out: &mut [u64],
+) -> Batch
+    ensures { Gives (batch_at opening (take (few given) rules) given (length out.old)) out.old out.new result }
+{
+    let mut rows = [[0; NUMBERS]; Rule::LIMIT];
+    let mut marks: [usize; Sheet::MARKS] = [0; Sheet::MARKS];
+    let course = begin(opening, rules, given, &mut rows, &mut marks);
+    let stopped = course.number;
+    let head = course.head;
+    let place = course.place;
+    let is_refused = stopped != 0;
+    if is_refused {
+        return placed(sheet::refusal(stopped), place);
+    }
+    let reply = laid::ask(head, &rows, &mut *out);
+    placed(reply, place)
+}
+
+// What a batch answers, with the place beside it.
+fn placed(reply: Reply, place: usize) -> Batch
+    ensures { result ≡ batches reply place }
+{
+    Batch { reply, place }
+}

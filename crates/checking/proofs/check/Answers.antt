@@ -1,6 +1,0 @@
--- `check` meets its contract: it gives the status of what is found of some numbers, or that of a mistake. Assumes nothing.
-use Rattle.checking.proofs.Checked.{found_so}
-use Rattle.checking.proofs.check.Goals as goal
-
-pub returns-in-Ok : goal.returns-in-Ok
-returns-in-Ok g c = found_so _ _ _ _ c.found_of-found.ensures.result_value c.in-Ok.ensures

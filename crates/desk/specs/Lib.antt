@@ -1,0 +1,9 @@
+pub mod told
+pub mod frame_call
+pub mod answer
+pub mod next_line
+pub mod feed
+pub mod one_read
+pub mod serving
+pub mod one_turn
+pub mod turns

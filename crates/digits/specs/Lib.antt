@@ -1,0 +1,4 @@
+pub mod hexadecimal
+pub mod numeral
+pub mod phrase
+pub mod figure

@@ -1,0 +1,10 @@
+//! digits
+#![tactic(auto)]
+
+pub mod figure;
+
+pub mod phrase;
+
+pub mod numeral;
+
+pub mod hexadecimal;

@@ -1,2 +1,0 @@
-// What is written for a rule reads back as that rule. These are theorems of writing and reading: there is no code here.
-#![tactic(auto)]

@@ -1,4 +1,0 @@
--- The lemmas that the goals of `frame` want, whatever its tests are named. Assumes nothing.
-use Rattle.exchange.proofs.Held.{first_frame}
-
-pub ruleset wanted = (first_frame)

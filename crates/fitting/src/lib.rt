@@ -1,2 +1,0 @@
-// How many words fit a list of rules, and which: definitions and their laws, and no code.
-#![tactic(auto)]

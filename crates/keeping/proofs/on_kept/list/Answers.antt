@@ -1,0 +1,7 @@
+-- `list` meets its contract: the words that fit the record that the numbers are are listed. Assumes nothing.
+use Rattle.keeping.proofs.on_kept.Tells.{lists}
+use Rattle.keeping.proofs.on_kept.list.Goals as goal
+
+pub returns : goal.returns
+returns c =
+    lists c.args.numbers.now c.read-sheet.ensures.numbers_len c.read-sheet.result c.read-sheet.ensures.value c.list-listing.result c.list-listing.ensures

@@ -1,0 +1,3 @@
+pub mod kept_numbers
+pub mod kept_changes
+pub mod on_kept

@@ -1,0 +1,35 @@
+// Where what a line says ends: right after its last letter that is no blank and stands before its comment.
+
+ghost use Rattle.std.specs.Prelude.{◌≡◌};
+ghost use Rattle.line.specs.line_end.End.{end_of};
+ghost use Rattle.line.specs.line_end.route.Course.{past};
+
+use crate::token::Token;
+
+#[tactic(auto, using(crate::line_end::proofs::SearchEndOf::wanted), unfolding(crate::line_end::specs::route::Course::end_from))]
+pub fn end_of(line: &[u8]) -> usize
+    ensures { result ≡ end_of line.now }
+{
+    let mut end: usize = 0;
+    let mut i: usize = 0;
+    while i < line.len() {
+        let class = crate::token::class_of(line[i]);
+        if class == Token::COMMENT {
+            return end;
+        }
+        i += 1;
+        end = past(class, i, end);
+    }
+    end
+}
+
+// The end after a letter of a class that ends before a place: blanks leave it as it is.
+#[tactic(auto, using(crate::line_end::proofs::SearchPast::wanted), unfolding(crate::line_end::specs::route::Course::past))]
+fn past(class: u64, to: usize, end: usize) -> usize
+    ensures { result ≡ past class to end }
+{
+    if class == Token::BLANK {
+        return end;
+    }
+    to
+}

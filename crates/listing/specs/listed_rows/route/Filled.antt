@@ -1,0 +1,17 @@
+-- A route: the words that are written by the rows, and what a buffer then holds. What a listing must answer is said of the record.
+use Rattle.std.specs.Prelude.{◌≡◌, List, ℕ, suc, ◌-◌, length, take}
+use Rattle.word.specs.Search.{passing}
+use Rattle.word.specs.Word.{top}
+use Rattle.search.specs.declared.rows.InForce.{InForce}
+use Rattle.search.specs.rows.route.Bands.{passes}
+use Rattle.search.specs.rows.route.Rows.{bands_in}
+use Rattle.counting.specs.fitting.Words.{at_start}
+
+-- the words from a start on that pass what is in force, as many as there is room for
+abbrev pub words_in : (rows : List (List ℕ)) → InForce → (start room : ℕ) → List ℕ
+words_in rows f start room = take room (passing (passes (take f.count (bands_in rows)) f.fixed) (suc (top f.width.bits) - start) start)
+
+-- a buffer b, with the words written at its start where nothing is refused, and as it was where the number n refuses
+pub record Filled (n : ℕ) (words b b' : List ℕ) (written : ℕ) : Type 0 where
+  pub listed : n ≡ 0 → (written ≡ length words) × (b' ≡ at_start words b)
+  pub refused : (n ≡ 0 → ⊥) → (written ≡ 0) × (b' ≡ b)

@@ -1,0 +1,27 @@
+-- `all_within` meets its contract. The loop's invariant: all that it passed by are within. The measure is what is left. Assumes nothing.
+use mathlib.Core.Path.{sym, ◌∙◌}
+use mathlib.Core.Bool.{true}
+use Prim.Native.Nat.{◌-◌}
+use native.Mathlib.Omega.{arith}
+use borrow.Author.Count.{below_more, below_none}
+use Rattle.span.specs.interval.Interval.{within}
+use Rattle.net.proofs.net_tests.Every.{every_fails, every_if}
+use Rattle.net.proofs.net_tests.all_within.Goals as goal
+
+pub loop-i-init : goal.loop-i-init
+loop-i-init c = (omega arith, below_none _)
+
+pub returns-then-not-within : goal.returns-then-not-within
+returns-then-not-within c =
+    sym (every_fails _ _ c.loop-i.i c.loop-i-test.true (sym c.within.ensures ∙ c.if-not-within.true))
+
+pub loop-i-smaller : goal.loop-i-smaller
+loop-i-smaller c = omega arith
+
+pub loop-i-preserved : goal.loop-i-preserved
+loop-i-preserved c =
+    (omega arith, below_more _ _ c.loop-i.invariant.1 (sym c.within.ensures ∙ c.if-not-within.false))
+
+pub returns : goal.returns
+returns c =
+    sym (every_if _ _ (λ k h. c.loop-i.invariant.1 k (omega arith)))

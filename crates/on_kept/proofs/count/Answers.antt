@@ -1,7 +1,0 @@
--- `count` meets its contract: the words that fit the record that the numbers are are counted. Assumes nothing.
-use Rattle.on_kept.proofs.Tells.{counts}
-use Rattle.on_kept.proofs.count.Goals as goal
-
-pub returns : goal.returns
-returns c =
-    counts c.args.numbers.now c.read-sheet.ensures.numbers_len c.read-sheet.result c.read-sheet.ensures.value c.count-share.result c.count-share.ensures

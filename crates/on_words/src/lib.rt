@@ -1,8 +1,0 @@
-// Gates and joins, in numbers.
-#![tactic(auto)]
-
-mod gates;
-mod joins;
-
-pub use gates::{gate_of, gate_rules};
-pub use joins::{join, op_of};

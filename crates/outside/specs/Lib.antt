@@ -1,0 +1,10 @@
+pub mod handing
+pub mod making
+pub mod vetting
+pub mod on_lists
+pub mod on_counts
+pub mod on_listings
+pub mod on_words
+pub mod on_nets
+pub mod net_words
+pub mod net_joins

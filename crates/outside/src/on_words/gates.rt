@@ -1,0 +1,72 @@
+// The four rules of a gate, from the bits of its limits.
+ghost use Rattle.std.specs.Prelude.{◌≡◌};
+ghost use Rattle.std.specs.Float.{binary32};
+ghost use Rattle.std.specs.Float.Ieee.{of_bits};
+ghost use Rattle.gate.specs.Gate.{turned};
+ghost use Rattle.outside.specs.on_words.Gates.{gate_number, gate_of, gate_rows, row_of, rows_of};
+
+use gate::{Four, Gate, Span, Turned};
+use crate::handing::NUMBERS;
+use rule::Rule;
+
+// Writes the rules of a gate, a row each. A refusal writes nothing.
+#[tactic(auto, unfolding(crate::on_words::specs::Gates::gate_number, crate::on_words::specs::Gates::gate_rows))]
+pub fn gate_rules(kind: u64, low: u32, high: u32, rules: &mut [[u64; NUMBERS]; Gate::RULES]) -> u64
+    ensures value { result ≡ gate_number (turned (gate_of kind low high)) }
+    ensures rules_after { rules.new ≡ gate_rows (turned (gate_of kind low high)) rules.old }
+{
+    let turned = gate_of(kind, low, high).rules();
+    match turned {
+        Turned::Rules(four) => {
+            *rules = rows_of(four);
+            0
+        }
+        Turned::NotANumber => 14,
+    }
+}
+
+// The gate of a kind.
+#[tactic(auto, using(crate::on_words::proofs::SearchGatesGateOf::wanted))]
+pub fn gate_of(kind: u64, low: u32, high: u32) -> Gate
+    ensures { result ≡ gate_of kind low high }
+{
+    let least = watts(low);
+    let most = watts(high);
+    if kind == 0 {
+        return Gate::AtLeast(least);
+    }
+    if kind == 1 {
+        return Gate::AtMost(most);
+    }
+    Gate::Within(Span {
+        low: least,
+        high: most,
+    })
+}
+
+// The float of a pattern: the language makes none of a pattern that is not a number's.
+fn watts(pattern: u32) -> f32
+    ensures { result ≡ of_bits binary32 pattern }
+{
+    if 0x7f80_0000 < pattern % 0x8000_0000 {
+        return 0.0 / 0.0;
+    }
+    f32::from_bits(pattern)
+}
+
+fn rows_of(four: Four) -> [[u64; NUMBERS]; Gate::RULES]
+    ensures { result ≡ rows_of four }
+{
+    [
+        row_of(four.first),
+        row_of(four.second),
+        row_of(four.third),
+        row_of(four.fourth),
+    ]
+}
+
+fn row_of(rule: Rule) -> [u64; NUMBERS]
+    ensures { result ≡ row_of rule }
+{
+    [rule.form, rule.sense, rule.c1, rule.c2]
+}

@@ -1,0 +1,74 @@
+// A stretch of words by what is laid in rows: whether every word of it fails, every word passes, or some do. Exact, and never word by word.
+
+ghost use Rattle.std.specs.Prelude.{◌≡◌, ◌≤◌, take};
+ghost use Rattle.word.specs.Word.{IsWidth, top};
+ghost use Rattle.rule.specs.bits.route.Fixed.{Tidy, has_bits};
+ghost use Rattle.search.specs.rows.route.Bands.{Lie, passes};
+ghost use Rattle.search.specs.rows.route.Rows.{bands_in};
+ghost use Rattle.checker.specs.covering.Check.{every_word};
+ghost use Rattle.picture.specs.shade.Cell.{cell_of};
+
+use search::rows::InForce;
+use rule::band::Run;
+use rule::Rule;
+use rule::bits::Fixed;
+use word::Found;
+
+// A cell of a picture. Where there is no sheet, no such rule or no such column, there is none.
+#[derive(Clone, Copy)]
+pub enum Cell {
+    Fails,
+    Meets,
+    Partly,
+    Nowhere,
+}
+
+// Words in a row, by the bands in force and the bits.
+pub fn stretch(rows: &[[u64; search::rows::NUMBERS]; Rule::LIMIT], force: InForce, words: Run) -> Cell
+    requires width { IsWidth force.width.bits }
+    requires lie { Lie (top force.width.bits) force.count (bands_in rows.now) }
+    requires tidy { Tidy force.fixed × (words.from ≤ words.to) × (words.to ≤ top force.width.bits) }
+    ensures { result ≡ cell_of (passes (take force.count (bands_in rows.now)) force.fixed) words.from words.to }
+{
+    let Found::At(x) = search::sweep::sweep(rows, force, false, words.from) else {
+        return Cell::Fails;
+    };
+    if words.to < x {
+        return Cell::Fails;
+    }
+    if all_pass(rows, force, words) {
+        return Cell::Meets;
+    }
+    Cell::Partly
+}
+
+// Whether every word of a row passes: the section that begins with it is held as far, and all its words have the bits.
+#[tactic(auto, using(crate::shade::proofs::SearchAllPass::wanted))]
+fn all_pass(rows: &[[u64; search::rows::NUMBERS]; Rule::LIMIT], force: InForce, words: Run) -> bool
+    requires width { IsWidth force.width.bits }
+    requires lie { Lie (top force.width.bits) force.count (bands_in rows.now) }
+    requires tidy { Tidy force.fixed × (words.from ≤ words.to) × (words.to ≤ top force.width.bits) }
+    ensures { result ≡ every_word (passes (take force.count (bands_in rows.now)) force.fixed) words.from words.to }
+{
+    let section = search::section::at(rows, force.count, force.width.top(), words.from);
+    if !section.held {
+        return false;
+    }
+    if section.to < words.to {
+        return false;
+    }
+    let fixed = force.fixed;
+    all_have(fixed, words.from, words.to)
+}
+
+// Whether every word from one to another has the bits: as many have them as there are, the last by itself.
+fn all_have(fixed: Fixed, from: u64, to: u64) -> bool
+    requires { Tidy fixed × (from ≤ to) }
+    ensures { result ≡ every_word (has_bits fixed) from to }
+{
+    let having = rule::rank::below(fixed, to) - rule::rank::below(fixed, from);
+    if having != to - from {
+        return false;
+    }
+    fixed.has(to)
+}

@@ -1,4 +1,0 @@
-use Rattle.rank.proofs.+below.Given as goal
-
-abbrev pub decreases-below : goal.decreases-below
-decreases-below l = l.p

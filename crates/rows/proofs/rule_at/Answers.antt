@@ -1,9 +1,0 @@
--- `rule_at` meets its contract: the four numbers read are the rule's. Assumes nothing.
-use Rattle.std.proofs.Common.{sym}
-use Rattle.rows.specs.route.Rows.{rule_in}
-use Rattle.rows.proofs.Reading.{rule_in_lem}
-use Rattle.rows.proofs.rule_at.Goals as goal
-
-pub returns : goal.returns
-unfolding rule_in
-returns c = sym (rule_in_lem c.args.rows.now c.args.i)

@@ -1,0 +1,22 @@
+-- The verdict, by search over all words (01, "What a sheet is").
+use Rattle.std.specs.Prelude.{cond, List, ℕ, ◌^◌, eqb}
+use Rattle.word.specs.declared.Found.{Found}
+use Rattle.word.specs.declared.Found.TheVariants.{At, Nothing}
+use Rattle.word.specs.Search.{first, last}
+use Rattle.rule.specs.declared.Rule.{Rule}
+use Rattle.rule.specs.Meaning.{fits}
+use Rattle.search.specs.declared.verdict.Kept.{Kept}
+
+-- a verdict with its two words
+abbrev pub keeps : (verdict smallest largest : ℕ) → Kept
+keeps verdict smallest largest = record { verdict = verdict; smallest = smallest; largest = largest }
+
+-- "the kept verdict (0 none, 1 one, 2 many)"; "for none both words are 0"
+unfoldable pub verdict_of : (smallest largest : Found) → Kept
+verdict_of Nothing _ = keeps 0 0 0
+verdict_of (At a) Nothing = keeps 0 0 0
+verdict_of (At a) (At b) = keeps (cond (eqb a b) 1 2) a b
+
+-- what is kept of a list of rules: read off the first and the last of all words that fit
+unfoldable pub kept : ℕ → List Rule → Kept
+kept w rs = verdict_of (first (fits w rs) (2 ^ w) 0) (last (fits w rs) (2 ^ w))

@@ -1,8 +1,0 @@
--- A cell of a picture, by search over the words of its column: `#` where every word fails, `.` where every word meets, `+` where some do.
-use Rattle.std.specs.Prelude.{Bool, not, cond, ℕ}
-use Rattle.covering.specs.Check.{every_word}
-use Rattle.shade.specs.declared.Cell.{Cell}
-use Rattle.shade.specs.declared.Cell.TheVariants.{Fails, Meets, Partly}
-
-unfoldable pub cell_of : (ℕ → Bool) → (from to : ℕ) → Cell
-cell_of f from to = cond (every_word (λ (x : ℕ). not (f x)) from to) Fails (cond (every_word f from to) Meets Partly)

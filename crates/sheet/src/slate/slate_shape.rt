@@ -1,0 +1,111 @@
+// Whether head, rows and marks are a sheet at all, what is kept aside.
+ghost use Rattle.std.specs.Prelude.{◌≡◌, ◌&&◌, leb};
+ghost use Rattle.word.specs.Edition.{terms};
+ghost use Rattle.search.specs.rows.route.Rows.{rules_in};
+ghost use Rattle.sheet.specs.slate.route.Held.{Room};
+ghost use Rattle.sheet.specs.slate.route.Shape.{same_kept, stands_so, well_shaped};
+
+use crate::slate::Head;
+use page::MARKS;
+use search::rows::NUMBERS;
+use rule::Rule;
+use search::verdict::Kept;
+use word::{Edition, Width};
+
+// Whether the record is blank, its width being 0.
+#[tactic(auto, using(crate::slate::proofs::SearchSlateShapeBlank::wanted), unfolding(crate::slate::specs::route::Shape::stands_so))]
+pub fn blank(head: Head, rows: &[[u64; NUMBERS]; Rule::LIMIT], marks: &[usize; MARKS]) -> bool
+    requires width_value { head.opening.width ≡ 0 }
+    requires room { Room rows.now marks.now }
+    ensures { result ≡ stands_so head (rules_in rows.now) marks.now }
+{
+    let kept = head.kept;
+    let counts = head.counts;
+    let opening = head.opening;
+    let edition = opening.edition;
+    if !edition.same(Edition::Old) {
+        return false;
+    }
+    if counts.given != 0 {
+        return false;
+    }
+    if counts.marked != 0 {
+        return false;
+    }
+    if counts.waiting != 0 {
+        return false;
+    }
+    if counts.count != 0 {
+        return false;
+    }
+    if !search::laying::none_from(rows, 0) {
+        return false;
+    }
+    if !crate::marks::all_zero(marks, 0) {
+        return false;
+    }
+    same_kept(
+        kept,
+        Kept {
+            verdict: 0,
+            smallest: 0,
+            largest: 0,
+        },
+    )
+}
+
+// Whether a record whose width is not 0 has a width of its edition, rules and marks as a sheet may have them.
+#[tactic(auto, using(crate::slate::proofs::SearchSlateShapeShaped::wanted), unfolding(page::specs::route::Shape::rules_shaped, crate::slate::specs::route::Shape::well_shaped))]
+pub fn shaped(head: Head, rows: &[[u64; NUMBERS]; Rule::LIMIT], marks: &[usize; MARKS]) -> bool
+    requires fact { head.opening.width ≡ 0 → ⊥ }
+    requires room { Room rows.now marks.now }
+    ensures { result ≡ (well_shaped head (rules_in rows.now) marks.now && leb head.opening.width (terms head.opening.edition).widest) }
+{
+    let opening = head.opening;
+    let width = opening.width;
+    let edition = opening.edition;
+    let counts = head.counts;
+    let count = counts.count;
+    let given = counts.given;
+    let marked = counts.marked;
+    let waiting = counts.waiting;
+    if Rule::LIMIT < given {
+        return false;
+    }
+    if MARKS < marked {
+        return false;
+    }
+    if MARKS - marked < waiting {
+        return false;
+    }
+    if count != crate::slate::in_force(given, marks, marked, waiting) {
+        return false;
+    }
+    if edition.terms().widest < width {
+        return false;
+    }
+    if !search::laying::all_acceptable(rows, given, Width { bits: width }) {
+        return false;
+    }
+    if !search::laying::none_from(rows, given) {
+        return false;
+    }
+    crate::marks::marked_so(marks, marked + waiting, given)
+}
+
+// Whether the two agree in all three numbers.
+#[tactic(auto, using(crate::slate::proofs::SearchSlateShapeSameKept::wanted), unfolding(crate::slate::specs::route::Shape::same_kept))]
+pub fn same_kept(a: Kept, b: Kept) -> bool
+    ensures { result ≡ same_kept a b }
+{
+    let verdict = a.verdict;
+    let smallest = a.smallest;
+    let largest = a.largest;
+    if verdict != b.verdict {
+        return false;
+    }
+    if smallest != b.smallest {
+        return false;
+    }
+    largest == b.largest
+}

@@ -1,0 +1,27 @@
+-- AND, OR and XOR work on each bit by itself, which the library has shown of each. Assumes nothing.
+use mathlib.Core.Path.{◌≡◌}
+use Prim.Native.Nat.{ℕ, ◌+◌, ◌*◌, ◌^◌, ◌<◌}
+use lib.Bits.{and_block, and_lt, bit_and, bit_or, bit_xor, or_block, or_lt, xor_block, xor_lt}
+use Rattle.span.specs.declared.steps.Pair.{Pair}
+use Rattle.span.specs.declared.steps.Pair.TheVariants.{And, Or, Xor}
+use Rattle.span.specs.steps.route.Step.{both}
+
+-- the operation works on the k low bits and on those above apart
+pub record Bitwise (f : ℕ → ℕ → ℕ) : Type 0 where
+  pub block : (k a b r s : ℕ) → r < 2 ^ k → s < 2 ^ k → f (a * 2 ^ k + r) (b * 2 ^ k + s) ≡ f a b * 2 ^ k + f r s
+  pub bound : (k a b : ℕ) → a < 2 ^ k → b < 2 ^ k → f a b < 2 ^ k
+
+pub and_bitwise : Bitwise bit_and
+and_bitwise = record { block = and_block; bound = and_lt }
+
+pub or_bitwise : Bitwise bit_or
+or_bitwise = record { block = or_block; bound = or_lt }
+
+pub xor_bitwise : Bitwise bit_xor
+xor_bitwise = record { block = xor_block; bound = xor_lt }
+
+pub pair_bitwise : (p : Pair) → Bitwise (both p)
+unfolding both
+pair_bitwise And = and_bitwise
+pair_bitwise Or = or_bitwise
+pair_bitwise Xor = xor_bitwise

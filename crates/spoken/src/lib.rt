@@ -1,2 +1,0 @@
-// Names on the pages of the clerk: theorems alone, there is no code here.
-#![tactic(auto)]

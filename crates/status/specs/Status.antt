@@ -1,7 +1,0 @@
--- "The status is 0 for yes, 1 for no": of what is found of a chain.
-use Rattle.std.specs.Prelude.{cond, ℕ}
-use Rattle.finding.specs.declared.Finding.{Finding}
-use Rattle.finding.specs.Clauses.{is_yes}
-
-unfoldable pub status_of : Finding → ℕ
-status_of f = cond (is_yes f) 0 1

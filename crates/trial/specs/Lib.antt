@@ -1,0 +1,3 @@
+pub mod trial_tally
+pub mod trial_direct
+pub mod trial_wheel

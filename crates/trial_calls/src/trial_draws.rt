@@ -1,0 +1,3 @@
+// Calls that are drawn for a sheet and a page.
+
+pub mod draw;

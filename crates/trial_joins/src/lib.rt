@@ -1,0 +1,6 @@
+//! trial_joins
+#![tactic(auto)]
+
+pub mod trial_nets;
+
+pub mod trial_spans;

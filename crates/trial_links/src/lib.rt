@@ -1,6 +1,0 @@
-// Lists of links to try: a list changed at one place, a check of it word by word, and counts.
-#![tactic(auto)]
-
-pub mod by_words;
-pub mod changed;
-pub mod counts;

@@ -1,7 +1,0 @@
-// What a program that tries nets needs: nets that are drawn or made, the plain rule written apart, and a search over all assignments.
-// It shares no code with what is tried.
-#![tactic(auto)]
-
-pub mod made;
-pub mod plain;
-pub mod search;

@@ -1,0 +1,193 @@
+// What is to be answered, by a walk from turn to turn. Within a stretch no rule outside form 7 turns, so that a word there fits just where
+// these rules hold and it has the bits.
+use rule::Rule;
+use crate::expected::{Expected, LINKS, NUMBERS};
+use trial::trial_wheel::bit_rules::FEW;
+use trial::trial_wheel::turning::{Stretch, TURNS};
+use trial::trial_wheel::wheel::Wheel;
+use trial::trial_wheel::{bit_rules, meaning, turning};
+use word::Found;
+
+// The most stretches of a sheet.
+pub const STRETCHES: u64 = TURNS * FEW as u64 + 1;
+
+// The reason of a link whose words fail a form 7 rule.
+const BITS: u64 = 255;
+
+// A link.
+#[derive(Clone, Copy)]
+struct Link {
+    pub from: u64,
+    pub to: u64,
+    pub reason: u64,
+}
+
+// The verdict and its words, and for none the chain. Puts its links into the buffer.
+pub fn searched(rules: [Rule; FEW], wheel: Wheel, out: &mut [u64; NUMBERS]) -> Expected {
+    let Found::At(smallest) = next(rules, wheel, 0) else {
+        return Expected::none(chain(rules, wheel, &mut *out));
+    };
+    let Found::At(largest) = largest(rules, wheel) else {
+        return Expected::none(0);
+    };
+    Expected::some(smallest, largest)
+}
+
+// Whether x meets all rules outside form 7.
+pub fn holds(rules: [Rule; FEW], wheel: Wheel, x: u64) -> bool {
+    for i in 0..FEW {
+        if fails(wheel, rules[i], x) {
+            return false;
+        }
+    }
+    true
+}
+
+// Whether the rule is not of form 7, and x fails it.
+fn fails(wheel: Wheel, rule: Rule, x: u64) -> bool {
+    if rule.form == 7 {
+        return false;
+    }
+    !meaning::meets(wheel, rule, x)
+}
+
+// The words around x within which no rule turns.
+pub fn around(rules: [Rule; FEW], wheel: Wheel, x: u64) -> Stretch {
+    let mut from = 0;
+    let mut to = wheel.top;
+    for i in 0..FEW {
+        let one = turning::around(wheel, rules[i], x);
+        if from < one.from {
+            from = one.from;
+        }
+        if one.to < to {
+            to = one.to;
+        }
+    }
+    Stretch { from, to }
+}
+
+// The smallest word from one to another that fits, where no rule turns within.
+fn first(rules: [Rule; FEW], wheel: Wheel, from: u64, to: u64) -> Found {
+    if !holds(rules, wheel, from) {
+        return Found::Nothing;
+    }
+    let Found::At(word) = bit_rules::next(rules, wheel, from) else {
+        return Found::Nothing;
+    };
+    if word <= to {
+        Found::At(word)
+    } else {
+        Found::Nothing
+    }
+}
+
+// The largest, going down.
+fn last(rules: [Rule; FEW], wheel: Wheel, from: u64, to: u64) -> Found {
+    if !holds(rules, wheel, from) {
+        return Found::Nothing;
+    }
+    let Found::At(word) = bit_rules::prev(rules, wheel, from) else {
+        return Found::Nothing;
+    };
+    if to <= word {
+        Found::At(word)
+    } else {
+        Found::Nothing
+    }
+}
+
+// The smallest word at or above p that fits.
+pub fn next(rules: [Rule; FEW], wheel: Wheel, p: u64) -> Found {
+    let top = wheel.top;
+    let mut x = p;
+    for _ in 0..STRETCHES {
+        let end = around(rules, wheel, x).to;
+        if let Found::At(word) = first(rules, wheel, x, end) {
+            return Found::At(word);
+        }
+        if top <= end {
+            break;
+        }
+        x = end + 1;
+    }
+    Found::Nothing
+}
+
+// The largest word that fits.
+fn largest(rules: [Rule; FEW], wheel: Wheel) -> Found {
+    let mut x = wheel.top;
+    for _ in 0..STRETCHES {
+        let start = around(rules, wheel, x).from;
+        if let Found::At(word) = last(rules, wheel, x, start) {
+            return Found::At(word);
+        }
+        if start == 0 {
+            break;
+        }
+        x = start - 1;
+    }
+    Found::Nothing
+}
+
+// "Stop after the link that ends at the top word; else go on with p = q + 1."
+fn chain(rules: [Rule; FEW], wheel: Wheel, out: &mut [u64; NUMBERS]) -> usize {
+    let top = wheel.top;
+    let mut links = 0;
+    let mut p = 0;
+    while links < LINKS {
+        let link = link_at(rules, wheel, p);
+        out[3 * links] = link.from;
+        out[3 * links + 1] = link.to;
+        out[3 * links + 2] = link.reason;
+        links += 1;
+        if top <= link.to {
+            break;
+        }
+        p = link.to + 1;
+    }
+    links
+}
+
+// "Take the rule of furthest reach, the lowest number on a tie." "Otherwise p fails a form 7 rule."
+fn link_at(rules: [Rule; FEW], wheel: Wheel, p: u64) -> Link {
+    let mut link = Link {
+        from: p,
+        to: gap(rules, wheel, p),
+        reason: BITS,
+    };
+    for i in 0..FEW {
+        let rule = rules[i];
+        if fails(wheel, rule, p) {
+            let to = turning::reach(wheel, rule, p);
+            if is_further(link, to) {
+                link = Link {
+                    from: turning::start(wheel, rule, p),
+                    to,
+                    reason: i as u64,
+                };
+            }
+        }
+    }
+    link
+}
+
+// Whether a rule's link takes the place of the one so far. The first that is found does.
+fn is_further(link: Link, to: u64) -> bool {
+    if link.reason == BITS {
+        return true;
+    }
+    link.to < to
+}
+
+// "one less than the smallest word above p that meets all form 7 rules, or the top word if there is none"
+fn gap(rules: [Rule; FEW], wheel: Wheel, p: u64) -> u64 {
+    let top = wheel.top;
+    if top <= p {
+        return top;
+    }
+    let Found::At(word) = bit_rules::next(rules, wheel, p + 1) else {
+        return top;
+    };
+    std::num::wrapping_sub_u64(word, 1)
+}

@@ -1,6 +1,0 @@
-// What is to be answered to a sheet of few rules at any width, apart from the desk's code; and sheets that are drawn, or numbered.
-#![tactic(auto)]
-
-pub mod corners;
-pub mod search;
-pub mod sheets;
