@@ -8,8 +8,8 @@ ghost use Rattle.sheet.specs.Statements.{IsSheet};
 ghost use Rattle.batch.specs.adds.route.Course.{Came};
 ghost use Rattle.batch.specs.adds.route.Few.{few};
 
-use search::rows::NUMBERS;
 use rule::Rule;
+use search::rows::NUMBERS;
 use sheet::{Head, Sheet, laid};
 
 // How far the adds came: 0 or the number of the first refusal, the head as it is then, and the place of the refused rule or how many rules

@@ -9,8 +9,8 @@ ghost use Rattle.batch.specs.begun.route.Begun.{Begun};
 pub use crate::adds::Course;
 use crate::adds::{add_all, few};
 use page::Opening;
-use search::rows::NUMBERS;
 use rule::Rule;
+use search::rows::NUMBERS;
 use sheet::{Sheet, laid};
 
 // Opens the blank sheet and adds the rules that are read, up to the first refusal. A refused opening is said at how many rules were given.

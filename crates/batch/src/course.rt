@@ -7,8 +7,8 @@ ghost use Rattle.batch.specs.course.route.Route.{batch_at};
 
 use crate::begun::{Course, begin};
 use page::Opening;
-use search::rows::NUMBERS;
 use rule::Rule;
+use search::rows::NUMBERS;
 use sheet::{Reply, Sheet, laid};
 
 // What a batch answers: what the last call answered, and the place of the rule that was refused, or the list's length.

@@ -1,13 +1,10 @@
 // The batch call: an opening, a lent list of rules and a chain buffer, answered as the calls one by one would be.
 #![tactic(auto)]
 
-pub mod few_rules;
-
-pub mod course;
-
-pub mod begun;
-
 pub mod adds;
+pub mod begun;
+pub mod course;
+pub mod few_rules;
 
 ghost use Rattle.std.specs.Prelude.{◌≡◌, replicate};
 ghost use Rattle.rule.specs.accept.Accept.{no_rule};

@@ -1,13 +1,10 @@
 // The chain of links from zero to the top word that shows why no word fits.
 #![tactic(auto)]
 
-pub mod linking;
-
-pub mod link_step;
-
-pub mod reach;
-
 pub mod due;
+pub mod link_step;
+pub mod linking;
+pub mod reach;
 
 ghost use Rattle.std.specs.Prelude.{◌≡◌, ◌++◌, ◌∷◌, ◌+◌, ◌≤◌, drop, length, take};
 ghost use Rattle.rule.specs.Meaning.{RULES};

@@ -44,7 +44,12 @@ pub fn find(
 }
 
 // The furthest reach from p of the first n bands, and that band's number, the lowest on a tie.
-pub fn furthest(rows: &[[u64; search::rows::NUMBERS]; Rule::LIMIT], n: usize, width: Width, p: u64) -> Far
+pub fn furthest(
+    rows: &[[u64; search::rows::NUMBERS]; Rule::LIMIT],
+    n: usize,
+    width: Width,
+    p: u64,
+) -> Far
     requires width { IsWidth width.bits }
     requires lie { Lie (top width.bits) n (bands_in rows.now) }
     requires p_bound { p ≤ top width.bits }

@@ -9,13 +9,17 @@ ghost use Rattle.search.specs.rows.route.Rows.{bands_in, rules_in};
 ghost use Rattle.checker.specs.covering.Check.{links_in};
 ghost use Rattle.checker.specs.finding.Clauses.{first_broken, list_clauses};
 
-use chain::Link;
 pub use crate::finding::Finding;
-use search::rows::InForce;
+use chain::Link;
 use rule::Rule;
+use search::rows::InForce;
 
 // The first clause that links do not keep, link by link: where the link lies, then its reason, and at last whether the top word is reached.
-pub fn first(links: &[u64], rows: &[[u64; search::rows::NUMBERS]; Rule::LIMIT], force: InForce) -> Finding
+pub fn first(
+    links: &[u64],
+    rows: &[[u64; search::rows::NUMBERS]; Rule::LIMIT],
+    force: InForce,
+) -> Finding
     requires width { IsWidth force.width.bits }
     requires lie { Lie (top force.width.bits) force.count (bands_in rows.now) }
     requires of_lawful { OfLawful force.width.bits (take force.count (bands_in rows.now)) force.fixed (take force.count (rules_in rows.now)) }

@@ -6,8 +6,8 @@ ghost use Rattle.checker.specs.finding.Clauses.{is_yes};
 ghost use Rattle.checker.specs.clause.Finding.{finding};
 
 pub use crate::breach::Finding;
-use search::rows::{InForce, NUMBERS};
 use rule::Rule;
+use search::rows::{InForce, NUMBERS};
 use sheet::Sheet;
 use word::Width;
 

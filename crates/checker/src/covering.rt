@@ -12,12 +12,16 @@ ghost use Rattle.checker.specs.covering.Check.{shown_by};
 mod link;
 
 use chain::Link;
-use search::rows::InForce;
 use rule::Rule;
+use search::rows::InForce;
 
 // Whether the links go from 0 to the top word with no gap, and each shows that its words fail. A link costs a few comparisons
 // and, for the bits, one look for the next word that has them.
-pub fn covers(links: &[u64], rows: &[[u64; search::rows::NUMBERS]; Rule::LIMIT], force: InForce) -> bool
+pub fn covers(
+    links: &[u64],
+    rows: &[[u64; search::rows::NUMBERS]; Rule::LIMIT],
+    force: InForce,
+) -> bool
     requires width { IsWidth force.width.bits }
     requires lie { Lie (top force.width.bits) force.count (bands_in rows.now) }
     requires tidy { Tidy force.fixed }

@@ -1,24 +1,19 @@
 // A chain that somebody else wrote, checked: whether its links show that no word fits the sheet.
 #![tactic(auto)]
 
-pub mod clause;
-
 pub mod breach;
-
-pub mod reason;
-
-pub mod outset;
-
-pub mod finding;
-
+pub mod clause;
 pub mod covering;
+pub mod finding;
+pub mod outset;
+pub mod reason;
 
 ghost use Rattle.std.specs.Prelude.{true, ◌↔◌, ◌≡◌};
 ghost use Rattle.checker.specs.Accepted.{Accepted};
 ghost use Rattle.checker.specs.Check.{accepts};
 
-use search::rows::{InForce, NUMBERS};
 use rule::Rule;
+use search::rows::{InForce, NUMBERS};
 use sheet::Sheet;
 use word::Width;
 

@@ -4,8 +4,8 @@ ghost use Rattle.std.specs.Prelude.{◌≡◌};
 ghost use Rattle.checker.specs.finding.Clauses.{first_broken};
 ghost use Rattle.checker.specs.outset.route.Outset.{outset_clauses};
 
-use chain::Link;
 use crate::finding::Finding;
+use chain::Link;
 
 // Whether the record is a sheet, whether it is blank, and how many numbers the list has: yes where links are to be looked at.
 #[tactic(auto, using(crate::outset::proofs::SearchFound::wanted), unfolding(crate::finding::specs::Clauses::first_broken, crate::outset::specs::route::Outset::outset_clauses))]

@@ -10,12 +10,12 @@ ghost use Rattle.search.specs.rows.route.OfRules.{OfLawful};
 ghost use Rattle.search.specs.rows.route.Rows.{bands_in, rules_in};
 ghost use Rattle.checker.specs.finding.Clauses.{first_broken, reason_clauses};
 
-use chain::Link;
 use crate::finding::Finding;
-use search::rows::InForce;
-use rule::band::Band;
+use chain::Link;
 use rule::Rule;
+use rule::band::Band;
 use rule::bits::Fixed;
+use search::rows::InForce;
 use word::{Found, Width};
 
 // The smallest word from one to another that a band holds: the first, or the one after the run of failing words around it.

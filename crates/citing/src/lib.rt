@@ -6,9 +6,9 @@ pub mod linked;
 ghost use Rattle.std.specs.Prelude.{◌≡◌};
 ghost use Rattle.citing.specs.Citation.{citation, cited, is_reason, lab_says, said, wrong_at};
 
+use crate::linked::Linked;
 use chain::Link;
 use line::grammar::kind;
-use crate::linked::Linked;
 use line::piece::Piece;
 use line::scan::{Mistake, Name};
 

@@ -8,13 +8,17 @@ ghost use Rattle.search.specs.rows.route.Bands.{Lie, passes};
 ghost use Rattle.search.specs.rows.route.Rows.{bands_in};
 ghost use Rattle.counting.specs.tally.route.Total.{totals};
 
-use search::rows::InForce;
-use rule::Rule;
 use crate::tally::Total;
+use rule::Rule;
+use search::rows::InForce;
 
 // The words that pass what is in force; `number` is that of a refusal, or 0.
 #[tactic(auto)]
-pub fn total(number: u64, rows: &[[u64; search::rows::NUMBERS]; Rule::LIMIT], force: InForce) -> Total
+pub fn total(
+    number: u64,
+    rows: &[[u64; search::rows::NUMBERS]; Rule::LIMIT],
+    force: InForce,
+) -> Total
     requires width { number ≡ 0 → IsWidth force.width.bits }
     requires lie { number ≡ 0 → Lie (top force.width.bits) force.count (bands_in rows.now) }
     requires tidy { number ≡ 0 → Tidy force.fixed }

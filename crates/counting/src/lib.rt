@@ -2,17 +2,14 @@
 #![tactic(auto)]
 
 pub mod audit;
-
 pub mod counted_rows;
-
-pub mod tally;
-
 pub mod fitting;
+pub mod tally;
 
 ghost use Rattle.counting.specs.Counted.{Counted};
 
-use search::rows::NUMBERS;
 use rule::Rule;
+use search::rows::NUMBERS;
 use sheet::Sheet;
 
 // What a count answers: 0 or the number of a refusal, and how many words fit as quotient and remainder by 2^32, since a free word of

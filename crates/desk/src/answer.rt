@@ -10,14 +10,14 @@ ghost use Rattle.sheet.specs.route.Held.{packed};
 ghost use Rattle.desk.specs.frame_call.Chain.{ChainLeft};
 ghost use Rattle.desk.specs.answer.Statements.{FrameAnswered};
 
-use frame::Frame;
 use crate::frame_call::call;
-use search::rows::NUMBERS;
+use crate::told::put;
+use frame::Frame;
 use rule::Rule;
 use rule::bits::Fixed;
+use search::rows::NUMBERS;
 use sheet::Sheet;
 use sheet::slate::Head;
-use crate::told::put;
 
 // The head after a frame, and where its answer ends in the lent buffer.
 #[derive(Clone, Copy)]

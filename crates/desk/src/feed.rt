@@ -6,11 +6,11 @@ ghost use Rattle.chain.specs.Links.{chain_room};
 ghost use Rattle.sheet.specs.slate.route.Held.{Held};
 ghost use Rattle.desk.specs.feed.route.Statements.{FedOn, desk_of};
 
-use frame::exchange::Begun;
-use frame::Frame;
 use crate::next_line::Next;
-use search::rows::NUMBERS;
+use frame::Frame;
+use frame::exchange::Begun;
 use rule::Rule;
+use search::rows::NUMBERS;
 use sheet::Sheet;
 use sheet::slate::Head;
 

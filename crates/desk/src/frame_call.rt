@@ -8,12 +8,12 @@ ghost use Rattle.sheet.specs.slate.route.Held.{Held};
 ghost use Rattle.sheet.specs.route.Held.{packed};
 ghost use Rattle.desk.specs.frame_call.route.Comes.{ComesTo};
 
-use frame::Frame;
-use search::rows::NUMBERS;
-use rule::Rule;
-use sheet::{Sheet, laid};
-use sheet::slate::Head;
 use crate::told::{Called, Told, numbered};
+use frame::Frame;
+use rule::Rule;
+use search::rows::NUMBERS;
+use sheet::slate::Head;
+use sheet::{Sheet, laid};
 
 // The refusal of a line that is no frame.
 const NO_FRAME: u64 = 10;

@@ -10,8 +10,8 @@ ghost use Rattle.desk.specs.feed.route.Statements.{desk_of};
 
 use crate::feed::State;
 use frame::Frame;
-use search::rows::NUMBERS;
 use rule::Rule;
+use search::rows::NUMBERS;
 use sheet::Sheet;
 
 // At the end of the input: a line that is begun ends as with a byte 10. Says how many bytes were written.

@@ -1,31 +1,21 @@
 // The desk: frames on standard input, a line each, and answers on standard output. The sheet is laid out once, and stays so.
 #![tactic(auto)]
 
+pub mod answer;
+pub mod feed;
+pub mod frame_call;
+pub mod input_end;
+pub mod next_line;
+pub mod one_read;
+pub mod one_turn;
+pub mod serving;
+pub mod told;
+pub mod turn;
 pub mod turns;
 
-pub mod one_turn;
-
-pub mod turn;
-
-pub mod serving;
-
-pub mod one_read;
-
-pub mod input_end;
-
-pub mod feed;
-
-pub mod next_line;
-
-pub mod answer;
-
-pub mod frame_call;
-
-pub mod told;
-
 use coming::Came;
-use search::rows::NUMBERS;
 use rule::Rule;
+use search::rows::NUMBERS;
 use sheet::Sheet;
 
 // At the end of the input the last line is answered, which may lack its byte 10. An input that could not be read has no last line.

@@ -3,8 +3,8 @@
 ghost use Rattle.std.specs.Prelude.{◌≡◌, ◌≤◌, length};
 ghost use Rattle.desk.specs.next_line.route.Next.{next_of};
 
-use frame::exchange::Begun;
 use frame::Frame;
+use frame::exchange::Begun;
 
 // A line that ends in the part, with its frame and the place after it; or the rest of the part, where it goes on in the next one.
 #[derive(Clone, Copy)]

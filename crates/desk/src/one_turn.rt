@@ -8,10 +8,10 @@ ghost use Rattle.sheet.specs.slate.route.Held.{Held};
 ghost use Rattle.desk.specs.feed.route.Statements.{desk_of};
 ghost use Rattle.desk.specs.one_turn.Turned.{Turned};
 
-use search::rows::NUMBERS;
-use rule::Rule;
-use sheet::Sheet;
 use crate::turn::Turn;
+use rule::Rule;
+use search::rows::NUMBERS;
+use sheet::Sheet;
 
 // One read after the last turn, and what is read is answered before the next, so that a conversation can be held.
 pub fn take_turn(

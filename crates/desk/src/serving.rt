@@ -9,8 +9,8 @@ ghost use Rattle.desk.specs.feed.route.Statements.{desk_of};
 ghost use Rattle.desk.specs.serving.Passed.{Passed};
 
 use crate::feed::State;
-use search::rows::NUMBERS;
 use rule::Rule;
+use search::rows::NUMBERS;
 use sheet::Sheet;
 use std::io::Print;
 

@@ -8,8 +8,8 @@ ghost use Rattle.frame.specs.fields.Put.{PutAt};
 ghost use Rattle.desk.specs.told.route.Told.{Few, number_told, told_lines};
 
 use frame::{kept_line, put_line, put_links, put_number};
-use sheet::{Reply, Sheet};
 use sheet::slate::{Head, Said};
+use sheet::{Reply, Sheet};
 use word::Edition;
 
 // What a frame's call comes to: a number, or what asking replies.

@@ -3,8 +3,8 @@
 ghost use Rattle.std.specs.Prelude.{◌≡◌};
 ghost use Rattle.coming.specs.Calls.{goes_on};
 
-use coming::Came;
 use crate::feed::State;
+use coming::Came;
 
 // The state after a turn, what its read came to, and whether the answers were taken.
 #[derive(Clone, Copy)]

@@ -7,14 +7,14 @@ ghost use Rattle.frame.specs.fields.Answers.{ROOM};
 ghost use Rattle.sheet.specs.slate.route.Held.{Held, Room};
 ghost use Rattle.desk.specs.turns.Turns.{Stops};
 
-use coming::Came;
-use frame::exchange::Begun;
 use crate::feed::State;
 use crate::one_turn::take_turn;
-use search::rows::NUMBERS;
-use rule::Rule;
-use sheet::{Sheet, laid};
 use crate::turn::Turn;
+use coming::Came;
+use frame::exchange::Begun;
+use rule::Rule;
+use search::rows::NUMBERS;
+use sheet::{Sheet, laid};
 
 // The last turn, and how many turns there were.
 #[derive(Clone, Copy)]

@@ -3,7 +3,6 @@
 #![tactic(auto)]
 
 pub mod saying;
-
 pub mod upshot;
 
 ghost use Rattle.std.specs.Prelude.{◌≡◌, false};
@@ -12,10 +11,10 @@ ghost use Rattle.dialogue.specs.saying.Says.{lent};
 ghost use Rattle.dialogue.specs.Hears.{Hears};
 ghost use Rattle.dialogue.specs.Takes.{Takes, upshot_of};
 
-use line::{Line, Statement};
-use word::line_width::width_of;
-use sheet::Sheet;
 use crate::upshot::{Response, Upshot};
+use line::{Line, Statement};
+use sheet::Sheet;
+use word::line_width::width_of;
 
 // The sheet as it is, and whether a mistake or a refusal came.
 #[derive(Clone, Copy)]

@@ -5,15 +5,15 @@ ghost use Rattle.dialogue.specs.declared.upshot.Response.TheVariants.{Asked, Bla
 ghost use Rattle.dialogue.specs.upshot.Upshot.{by_number, stops};
 ghost use Rattle.dialogue.specs.saying.Says.{Says, SetsGate, Shows, lent, limit_at, too_fine, up_to, wanted};
 
-use listing::blaming::why;
-use counting::Share;
-use line::grammar::kind;
-use line::Statement;
-use listing::Listing;
-use page::Opening;
-use line::scan::{Amount, Mistake};
-use sheet::{Answer, Reply, Sheet};
 use crate::upshot::{Response, Upshot};
+use counting::Share;
+use line::Statement;
+use line::grammar::kind;
+use line::scan::{Amount, Mistake};
+use listing::Listing;
+use listing::blaming::why;
+use page::Opening;
+use sheet::{Answer, Reply, Sheet};
 use watts::Limit;
 use word::Edition;
 

@@ -4,8 +4,8 @@ ghost use Rattle.std.specs.Prelude.{◌≡◌};
 ghost use Rattle.dialogue.specs.upshot.Upshot.{by_number, goes, stops};
 
 use counting::Share;
-use listing::Listing;
 use line::scan::Mistake;
+use listing::Listing;
 use sheet::{Reply, Sheet};
 
 // What a statement is answered: nothing; that it is done; what asking, counting, listing and asking why say; that what stands is to

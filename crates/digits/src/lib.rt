@@ -2,9 +2,6 @@
 #![tactic(auto)]
 
 pub mod figure;
-
-pub mod phrase;
-
-pub mod numeral;
-
 pub mod hexadecimal;
+pub mod numeral;
+pub mod phrase;

@@ -8,8 +8,8 @@ ghost use Rattle.frame.specs.fields.Fields.{byte, word};
 ghost use Rattle.frame.specs.fields.Put.{PutAt};
 
 use chain::Link;
-use sheet::Sheet;
 use search::verdict::Kept;
+use sheet::Sheet;
 use word::Edition;
 
 // A number in a line, in so many digits.

@@ -1,20 +1,15 @@
 // Lines of hexadecimal: which frame a line is. How an answer is written stands in `fields`, and is handed on here.
 #![tactic(auto)]
 
-pub mod parts;
-
 pub mod exchange;
-
-pub mod input_line;
-
-pub mod frame_numbers;
-
 pub mod fields;
-
+pub mod frame_numbers;
+pub mod input_line;
+pub mod parts;
 mod reading;
 
-use chain::Link;
 pub use crate::fields::{Field, kept_line, put_line, put_links, put_number};
+use chain::Link;
 use page::Opening;
 pub use reading::decode;
 use rule::Rule;

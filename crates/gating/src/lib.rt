@@ -7,8 +7,8 @@ ghost use Rattle.page.specs.Calls.{set_gate};
 ghost use Rattle.sheet.specs.Statements.{Outcome};
 ghost use Rattle.gating.specs.route.Added.{AddedFor};
 
-use gate::{Four, Gate, Turned};
 use crate::gate_refusal::refusal_of;
+use gate::{Four, Gate, Turned};
 use sheet::{Answer, Sheet};
 
 // Sets a gate on any record.

@@ -2,28 +2,21 @@
 // memory: any numbers are read, and those that are no sheet's make a record that is none.
 #![tactic(auto)]
 
-pub mod on_kept;
-
-pub mod on_sheets;
-
 pub mod bare_calls;
-
 pub mod kept_changes;
-
-pub mod kept_put;
-
 pub mod kept_head;
-
-pub mod kept_read;
-
 pub mod kept_numbers;
+pub mod kept_put;
+pub mod kept_read;
+pub mod on_kept;
+pub mod on_sheets;
 
 ghost use Rattle.std.specs.Prelude.{◌≡◌, cond, eqb, length};
 ghost use Rattle.keeping.specs.kept_numbers.Numbers.{NUMBERS, numbers_of};
 ghost use Rattle.keeping.specs.kept_numbers.route.Reading.{sheet_in};
 
-use sheet::{Answer, Sheet};
 use search::verdict::Kept;
+use sheet::{Answer, Sheet};
 
 pub const NUMBERS: usize = crate::kept_numbers::NUMBERS;
 

@@ -1,19 +1,13 @@
 // A line as people write it, read into a statement, or into its first mistake.
 #![tactic(auto)]
 
-pub mod piece;
-
-pub mod row_rules;
-
-pub mod line_end;
-
-pub mod scanning;
-
-pub mod scan;
-
-pub mod token;
-
 pub mod grammar;
+pub mod line_end;
+pub mod piece;
+pub mod row_rules;
+pub mod scan;
+pub mod scanning;
+pub mod token;
 
 ghost use Rattle.std.specs.Prelude.{◌≡◌};
 ghost use Rattle.word.specs.Word.{IsWidth};
@@ -22,8 +16,8 @@ ghost use Rattle.line.specs.Line.{by_row, finished, nothing_read, other, read, r
 use crate::grammar::{Place, kind};
 use crate::line_end::end_of;
 use crate::row_rules::{rule_of, signed_word};
-use rule::Rule;
 use crate::scan::{Amount, Mistake, Name, Scan};
+use rule::Rule;
 use word::{Found, Width};
 
 // Words to list: from a word on, and at most so many.

@@ -4,8 +4,8 @@ ghost use Rattle.std.specs.Prelude.{◌≡◌};
 ghost use Rattle.line.specs.piece.Piece.{end_at, ends, fresh, grown, piece_of, word_at};
 
 use crate::grammar::kind;
-use digits::numeral::Numeral;
 use crate::token::Token;
+use digits::numeral::Numeral;
 
 // A word, a number or a sign: its kind, where it begins and ends, the number that it is, and its letters packed 256 to the place. At the
 // end of the line, and before a comment, stands one of the kind of the end.

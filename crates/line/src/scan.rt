@@ -5,8 +5,8 @@ ghost use Rattle.std.specs.Prelude.{◌≡◌};
 ghost use Rattle.line.specs.scan.Scan.{failed, instead_of, is_number, named, negated, numbered, placed, started, takes_number, with_token};
 
 use crate::grammar::{Place, kind};
-use digits::numeral::Numeral;
 use crate::token::Token;
+use digits::numeral::Numeral;
 
 // Where a line is wrong first, in bytes from its start, and the kind that was expected there.
 #[derive(Clone, Copy)]

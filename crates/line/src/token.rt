@@ -5,8 +5,8 @@ mod class;
 ghost use Rattle.std.specs.Prelude.{◌≡◌};
 ghost use Rattle.line.specs.token.Token.{begun, kind, kind_of_number, more, opened, packed, text_kind};
 
-pub use class::class_of;
 use crate::grammar::kind;
+pub use class::class_of;
 use digits::numeral::Numeral;
 
 // A word, a sign, or letters that are neither: the class of its letters, where it begins, its text packed 256 to the place, and the

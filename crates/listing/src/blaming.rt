@@ -4,9 +4,9 @@ ghost use Rattle.std.specs.Prelude.{◌≡◌};
 ghost use Rattle.listing.specs.Listed.{listings};
 ghost use Rattle.listing.specs.blaming.Blamed.{Blamed};
 
+use crate::Listing;
 use crate::blame_refusal::refusal_of;
 use crate::failed_rules::put_failed;
-use crate::Listing;
 use sheet::Sheet;
 use word::Width;
 

@@ -8,8 +8,8 @@ ghost use Rattle.search.specs.rows.route.Bands.{Lie, passes};
 ghost use Rattle.search.specs.rows.route.Rows.{bands_in};
 ghost use Rattle.counting.specs.fitting.Words.{at_start};
 
-use search::rows::InForce;
 use rule::Rule;
+use search::rows::InForce;
 
 // Writes the words from a start on that the bands in force hold and that have the bits, as many as the buffer holds, and says how many.
 // It looks at no more sections than there can be.

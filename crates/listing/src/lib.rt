@@ -1,25 +1,19 @@
 // Which words fit a sheet: from a given word upward, as many as a lent buffer holds.
 #![tactic(auto)]
 
-pub mod blaming;
-
 pub mod blame_refusal;
-
+pub mod blaming;
 pub mod failed_rules;
-
-pub mod list_refusal;
-
-pub mod listed_rows;
-
 pub mod filling;
-
+pub mod list_refusal;
+pub mod listed_rows;
 pub mod putting;
 
 ghost use Rattle.listing.specs.Listed.{Listed};
 
 use crate::list_refusal::refusal_of;
-use search::rows::NUMBERS;
 use rule::Rule;
+use search::rows::NUMBERS;
 use sheet::Sheet;
 
 // What a listing answers: 0 or the number of a refusal, and how many words were written.

@@ -7,8 +7,8 @@ ghost use Rattle.search.specs.rows.route.Bands.{Lie};
 ghost use Rattle.search.specs.rows.route.Rows.{bands_in};
 ghost use Rattle.listing.specs.listed_rows.route.Filled.{Filled, words_in};
 
-use search::rows::InForce;
 use rule::Rule;
+use search::rows::InForce;
 
 // The words from a start on, as many as the buffer holds, and how many; `number` is that of a refusal, or 0.
 #[tactic(auto)]

@@ -5,9 +5,9 @@ ghost use Rattle.word.specs.Word.{IsWidth, top};
 ghost use Rattle.rule.specs.bits.route.Fixed.{Tidy};
 ghost use Rattle.listing.specs.putting.route.Put.{is_free, put_at, run_words, section_words};
 
-use search::rows::InForce;
 use rule::band::Run;
 use rule::bits::Fixed;
+use search::rows::InForce;
 use search::section::Section;
 use word::Found;
 

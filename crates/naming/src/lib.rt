@@ -1,11 +1,9 @@
 // The names of rules, kept beside a sheet in a lent array: a row a rule, its name and then zero bytes. An empty row is no name.
 #![tactic(auto)]
 
-pub mod spoken;
-
-pub mod named;
-
 pub mod by_name;
+pub mod named;
+pub mod spoken;
 
 ghost use Rattle.std.specs.Prelude.{◌≡◌, length};
 ghost use Rattle.naming.specs.Names.{kept, name_in, new_rules, put, row_of};

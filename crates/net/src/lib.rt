@@ -2,9 +2,8 @@
 // other, round and round, for as many steps as the caller will pay for.
 #![tactic(auto)]
 
-pub mod net_tests;
-
 pub mod net_step;
+pub mod net_tests;
 
 ghost use Rattle.std.specs.Prelude.{◌≡◌, cond, suc, ◌<◌};
 ghost use Rattle.net.specs.Net.{AllNamed, given};

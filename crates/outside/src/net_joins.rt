@@ -5,9 +5,9 @@ ghost use Rattle.net.specs.net_tests.Fits.{JOINS};
 ghost use Rattle.outside.specs.net_words.Laid.{laid_over};
 ghost use Rattle.outside.specs.net_joins.Joined.{join_of, no_join};
 
+use crate::net_words::fewer;
 use net::net_step::Join;
 use net::net_tests::JOINS;
-use crate::net_words::fewer;
 use span::Op;
 
 pub fn joins_in(rows: &[[u64; 4]]) -> [Join; JOINS]

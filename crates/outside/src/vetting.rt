@@ -7,8 +7,8 @@ ghost use Rattle.batch.specs.course.Batch.{MOST};
 ghost use Rattle.outside.specs.handing.Handed.{opening_of, rules_in};
 ghost use Rattle.outside.specs.vetting.Vetted.{Vetted};
 
-use batch::Batch;
 use crate::handing::NUMBERS;
+use batch::Batch;
 use rule::Rule;
 
 // Vets a list: the batch call.

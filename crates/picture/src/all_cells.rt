@@ -3,10 +3,10 @@
 ghost use Rattle.std.specs.Prelude.{◌≡◌};
 ghost use Rattle.picture.specs.Picture.{all_cell};
 
-use crate::{Shown, words_of};
-use search::rows::{InForce, NUMBERS};
-use rule::Rule;
 use crate::shade::Cell;
+use crate::{Shown, words_of};
+use rule::Rule;
+use search::rows::{InForce, NUMBERS};
 use sheet::Sheet;
 use word::Width;
 

@@ -2,11 +2,8 @@
 #![tactic(auto)]
 
 pub mod all_cells;
-
-pub mod rule_cells;
-
 pub mod column;
-
+pub mod rule_cells;
 pub mod shade;
 
 ghost use Rattle.std.specs.Prelude.{◌≡◌, true, ◌≤◌};
@@ -15,11 +12,11 @@ ghost use Rattle.rule.specs.Meaning.{Lawful, meets};
 ghost use Rattle.picture.specs.shade.Cell.{cell_of};
 ghost use Rattle.picture.specs.route.Shown.{shown};
 
-use rule::band::{Band, Run};
-use search::rows::{InForce, NUMBERS};
-use rule::Rule;
-use rule::bits::Fixed;
 use crate::shade::Cell;
+use rule::Rule;
+use rule::band::{Band, Run};
+use rule::bits::Fixed;
+use search::rows::{InForce, NUMBERS};
 use word::Width;
 
 // What there is to draw of a column: its words, or nothing.

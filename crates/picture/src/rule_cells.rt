@@ -3,10 +3,10 @@
 ghost use Rattle.std.specs.Prelude.{◌≡◌};
 ghost use Rattle.picture.specs.Picture.{rule_cell};
 
-use crate::{Shown, alone, words_of};
-use search::rows::NUMBERS;
-use rule::Rule;
 use crate::shade::Cell;
+use crate::{Shown, alone, words_of};
+use rule::Rule;
+use search::rows::NUMBERS;
 use sheet::Sheet;
 use word::Width;
 

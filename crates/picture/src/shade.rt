@@ -8,10 +8,10 @@ ghost use Rattle.search.specs.rows.route.Rows.{bands_in};
 ghost use Rattle.checker.specs.covering.Check.{every_word};
 ghost use Rattle.picture.specs.shade.Cell.{cell_of};
 
-use search::rows::InForce;
-use rule::band::Run;
 use rule::Rule;
+use rule::band::Run;
 use rule::bits::Fixed;
+use search::rows::InForce;
 use word::Found;
 
 // A cell of a picture. Where there is no sheet, no such rule or no such column, there is none.
@@ -24,7 +24,11 @@ pub enum Cell {
 }
 
 // Words in a row, by the bands in force and the bits.
-pub fn stretch(rows: &[[u64; search::rows::NUMBERS]; Rule::LIMIT], force: InForce, words: Run) -> Cell
+pub fn stretch(
+    rows: &[[u64; search::rows::NUMBERS]; Rule::LIMIT],
+    force: InForce,
+    words: Run,
+) -> Cell
     requires width { IsWidth force.width.bits }
     requires lie { Lie (top force.width.bits) force.count (bands_in rows.now) }
     requires tidy { Tidy force.fixed × (words.from ≤ words.to) × (words.to ≤ top force.width.bits) }

@@ -1,20 +1,12 @@
 //! search
 #![tactic(auto)]
 
-pub mod section;
-
-pub mod verdict;
-
-pub mod sweep;
-
-pub mod leap;
-
-pub mod order;
-
-pub mod sorting;
-
-pub mod noting;
-
 pub mod laying;
-
+pub mod leap;
+pub mod noting;
+pub mod order;
 pub mod rows;
+pub mod section;
+pub mod sorting;
+pub mod sweep;
+pub mod verdict;

@@ -6,9 +6,9 @@ ghost use Rattle.rule.specs.Meaning.{RULES};
 ghost use Rattle.search.specs.noting.route.Note.{fixed_in, fixed_out, note_at, noting};
 
 use crate::rows::NUMBERS;
+use crate::verdict::Kept;
 use rule::Rule;
 use rule::bits::Fixed;
-use crate::verdict::Kept;
 use word::Width;
 
 // Whether what is kept of the first rules is known and, if so, what is kept and the bits that they fix.

@@ -8,8 +8,8 @@ ghost use Rattle.rule.specs.band.route.Band.{Laid, holds, within};
 ghost use Rattle.search.specs.rows.route.Bands.{blank_band, faced, seen};
 ghost use Rattle.search.specs.rows.route.Rows.{bands_in, onward, row_of, rules_in};
 
-use rule::band::Band;
 use rule::Rule;
+use rule::band::Band;
 use rule::bits::Fixed;
 use word::Width;
 

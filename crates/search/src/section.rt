@@ -10,8 +10,8 @@ ghost use Rattle.search.specs.section.route.Section.{section_at};
 ghost use Rattle.search.specs.section.route.Turns.{most_sections};
 ghost use Rattle.search.specs.section.route.Sides.{fails};
 
-use rule::band::Band;
 use rule::Rule;
+use rule::band::Band;
 
 // Whether the bands hold the words of a section, and its last word.
 #[derive(Clone, Copy)]

@@ -6,11 +6,11 @@ ghost use Rattle.sheet.specs.route.Held.{sheet_of};
 ghost use Rattle.sheet.specs.route.Laid.{call_of};
 ghost use Rattle.sheet.specs.Statements.{Asked, Outcome};
 
+use crate::slate::Counts;
 use crate::slate_whole::Whole;
 use crate::{Answer, Call, Reply, Sheet};
 use page::Opening;
 use rule::Rule;
-use crate::slate::Counts;
 use word::Edition;
 
 impl Sheet {

@@ -5,13 +5,13 @@ ghost use Rattle.sheet.specs.route.Held.{packed};
 ghost use Rattle.sheet.specs.route.Shape.{is_sheet};
 ghost use Rattle.sheet.specs.Statements.{IsSheet};
 
-pub use crate::slate_ask::ask;
-use crate::{Sheet, calling};
-use search::rows::NUMBERS;
-use rule::Rule;
 use crate::slate::Head;
 pub use crate::slate::slate_add::add;
 pub use crate::slate::slate_calls::{back, forward, mark, open};
+pub use crate::slate_ask::ask;
+use crate::{Sheet, calling};
+use rule::Rule;
+use search::rows::NUMBERS;
 
 impl Sheet {
     // Whether some page of accepted calls gives this record, kept numbers included.

@@ -4,9 +4,9 @@ ghost use Rattle.std.specs.Prelude.{◌≡◌, length};
 ghost use Rattle.rule.specs.Meaning.{RULES};
 ghost use Rattle.sheet.specs.laid_force.route.Found.{FoundIn};
 
-use search::rows::{InForce, NUMBERS};
-use rule::Rule;
 use crate::Sheet;
+use rule::Rule;
+use search::rows::{InForce, NUMBERS};
 use word::Width;
 
 // 17 where the record is no sheet, 1 on the blank sheet, else 0; and what a search over the rows goes by.

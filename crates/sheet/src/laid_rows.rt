@@ -4,10 +4,10 @@ ghost use Rattle.std.specs.Prelude.{◌≡◌, length};
 ghost use Rattle.rule.specs.Meaning.{RULES};
 ghost use Rattle.sheet.specs.laid_rows.route.Laid.{LaidIn};
 
-use search::rows::NUMBERS;
-use rule::Rule;
-use crate::{Sheet, laid};
 use crate::slate::Head;
+use crate::{Sheet, laid};
+use rule::Rule;
+use search::rows::NUMBERS;
 
 // Lays a record out, sheet or not, and tests whether it is one.
 pub fn lay_out(sheet: Sheet, rows: &mut [[u64; NUMBERS]; Rule::LIMIT]) -> Head

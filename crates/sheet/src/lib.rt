@@ -3,14 +3,10 @@
 #![tactic(auto)]
 
 pub mod demands;
-
 pub mod laid_force;
-
 pub mod laid_rows;
-
-pub mod slate;
-
 pub mod marks;
+pub mod slate;
 
 ghost use Rattle.std.specs.Prelude.{◌≡◌};
 ghost use Rattle.sheet.specs.Record.{blank};
@@ -21,11 +17,11 @@ pub mod slate_ask;
 pub mod slate_make;
 pub mod slate_whole;
 
+pub use crate::slate::{Head, Said};
 pub use crate::slate_ask::{Reply, refusal};
 pub use crate::slate_make::Call;
 use chain::Link;
 use rule::Rule;
-pub use crate::slate::{Head, Said};
 use search::verdict::Kept;
 use word::Edition;
 

@@ -11,13 +11,13 @@ pub mod slate_shape;
 pub mod slate_test;
 pub mod stepping;
 
-pub use clearing::{clear_all, clear_waiting};
 pub use crate::marks::set_marks;
-pub use search::noting::{Note, no_rules, note_at, put_note};
+pub use clearing::{clear_all, clear_waiting};
 pub use numbering::in_force;
 use page::Opening;
 pub use refusing::{refuses, refuses_rule};
 use rule::bits::Fixed;
+pub use search::noting::{Note, no_rules, note_at, put_note};
 use search::verdict::Kept;
 
 // How many rules and marks are in force, how many rules were given, in force and waiting, and how many stretches wait.

@@ -4,9 +4,9 @@ ghost use Rattle.sheet.specs.slate.route.Held.{Held};
 ghost use Rattle.sheet.specs.slate_ask.Reply.{refuses};
 ghost use Rattle.sheet.specs.slate_ask.route.Asks.{Asks};
 
-use search::rows::NUMBERS;
-use rule::Rule;
 use crate::slate::Head;
+use rule::Rule;
+use search::rows::NUMBERS;
 use search::verdict::Kept;
 use word::Width;
 

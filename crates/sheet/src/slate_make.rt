@@ -2,10 +2,10 @@
 ghost use Rattle.sheet.specs.slate.route.Held.{Held};
 ghost use Rattle.sheet.specs.slate_make.route.Makes.{Makes};
 
-use page::{MARKS, Opening};
-use search::rows::NUMBERS;
-use rule::Rule;
 use crate::slate::{Head, Said, slate_add};
+use page::{MARKS, Opening};
+use rule::Rule;
+use search::rows::NUMBERS;
 use word::Edition;
 
 // A call that changes a sheet. An opening and an add are frames of an edition.
@@ -29,7 +29,12 @@ pub fn make(
     ensures { Makes head rows.old marks.old call result.number result.head rows.new marks.new }
 {
     match call {
-        Call::Open(opening) => crate::slate::slate_calls::open(head, &mut *rows, &mut *marks, opening),
+        Call::Open(opening) => crate::slate::slate_calls::open(
+            head,
+            &mut *rows,
+            &mut *marks,
+            opening,
+        ),
         Call::Add(edition, rule) => slate_add::add(head, &mut *rows, &mut *marks, edition, rule),
         Call::Mark => crate::slate::slate_calls::mark(head, &mut *rows, &mut *marks),
         Call::Back => crate::slate::slate_calls::back(head, &*rows, &*marks),

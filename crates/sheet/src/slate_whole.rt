@@ -4,13 +4,13 @@ ghost use Rattle.rule.specs.Meaning.{RULES};
 ghost use Rattle.sheet.specs.slate.route.Held.{Held, Room};
 ghost use Rattle.sheet.specs.slate_whole.route.Whole.{AskedWhole, CalledWhole, whole_of};
 
+use crate::slate::{Counts, Head};
 use crate::slate_ask::Reply;
 use crate::slate_make::Call;
 use page::{MARKS, Opening};
-use search::rows::NUMBERS;
 use rule::Rule;
 use rule::bits::Fixed;
-use crate::slate::{Counts, Head};
+use search::rows::NUMBERS;
 use search::verdict::Kept;
 
 // What a slate stands for, whole: its opening, how many rules and marks there are, what is kept, and all its rules and marks.

@@ -3,10 +3,8 @@
 #![tactic(auto)]
 
 pub mod extent;
-
-pub mod steps;
-
 pub mod interval;
+pub mod steps;
 
 ghost use Rattle.std.specs.Prelude.{◌≡◌};
 ghost use Rattle.word.specs.Word.{IsWidth};

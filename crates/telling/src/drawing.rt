@@ -1,9 +1,9 @@
 // The picture of a sheet on standard output, as comment lines of a sheet: a row for each rule in force, and one for all.
 
-use picture::column::COLUMNS;
 use crate::printing::{put, put_number};
-use rule::Rule;
+use picture::column::COLUMNS;
 use picture::shade::Cell;
+use rule::Rule;
 use sheet::Sheet;
 use std::io::Result;
 

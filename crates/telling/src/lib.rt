@@ -1,25 +1,21 @@
 // Answers in words, on standard output. A rule is called by its name, or by its number where it has none.
 #![tactic(auto)]
 
-pub mod outward;
-
 pub mod drawing;
-
 pub mod mistakes;
-
 pub mod objects;
-
+pub mod outward;
 pub mod printing;
 
+use crate::printing::{Told, WORDS, put, put_number, put_text};
 use chain::Link;
 use counting::Share;
+use dialogue::upshot::Response;
 use line::Statement;
 use naming::MOST;
-use crate::printing::{Told, WORDS, put, put_number, put_text};
 use rule::Rule;
 use sheet::{Reply, Sheet};
 use std::io::Result;
-use dialogue::upshot::Response;
 
 // Tells what a statement is answered.
 pub fn tell(

@@ -1,9 +1,9 @@
 // Mistakes, on standard error: where, what was expected or why a call was refused, the line, and a mark under the place.
 
-use line::Statement;
 use crate::printing::Told;
-use line::scan::{Mistake, Name};
 use dialogue::upshot::Response;
+use line::Statement;
+use line::scan::{Mistake, Name};
 
 // Where mistakes are said.
 const STDERR: i32 = 2;

@@ -1,15 +1,15 @@
 // Answers as objects of JSON, one a line, on standard output. Words and counts may be above 2^53, which many readers of JSON round: they are
 // strings of decimal digits. A name has letters, digits, `_`, `.` and `-` alone, and a rule's text no quote, so that none is escaped.
 
+use crate::printing::{Told, WORDS, put, put_number, put_text};
 use chain::Link;
+use dialogue::upshot::Response;
 use line::Statement;
 use listing::Listing;
 use naming::MOST;
-use crate::printing::{Told, WORDS, put, put_number, put_text};
 use rule::Rule;
 use sheet::{Reply, Sheet};
 use std::io::Result;
-use dialogue::upshot::Response;
 
 // Tells what a statement is answered, where it is answered anything.
 pub fn tell(

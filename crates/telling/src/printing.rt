@@ -4,12 +4,12 @@ ghost use Rattle.std.specs.Prelude.{◌≤◌};
 ghost use Rattle.io.specs.Counts.{IsPrefixLen};
 
 use counting::Share;
+use dialogue::upshot::Response;
 use line::Statement;
 use naming::MOST;
 use rule::Rule;
 use sheet::Sheet;
 use std::io::Result;
-use dialogue::upshot::Response;
 use word::Width;
 
 // How many words are listed at most.

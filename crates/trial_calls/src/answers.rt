@@ -1,9 +1,9 @@
 // What calls answer and leave, as the trials look at it.
 use rule::Rule;
+use search::verdict::Kept;
 use sheet::{Answer, Reply, Sheet};
 use trial::trial_direct::direct::UNTOUCHED;
 use trial::trial_direct::rules;
-use search::verdict::Kept;
 
 // How many numbers a trial lends: one fewer than a sheet with one rule needs.
 const LENT: usize = 3 * (4 * 1 + 1) - 1;

@@ -1,10 +1,10 @@
 // Lists of rules for the programs that try the batch call, and the calls one by one.
 
+use crate::sheets::case2;
 use batch::Batch;
 use page::Opening;
 use rule::Rule;
 use sheet::Sheet;
-use crate::sheets::case2;
 use trial::trial_direct::rules::rule;
 
 // The top word of 32 bits.

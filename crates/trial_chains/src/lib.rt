@@ -2,5 +2,4 @@
 #![tactic(auto)]
 
 pub mod trial_checks;
-
 pub mod trial_links;

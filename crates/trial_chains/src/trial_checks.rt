@@ -5,17 +5,17 @@ ghost use Rattle.rule.specs.Meaning.{RULES};
 ghost use Rattle.chain.specs.Links.{most_links};
 ghost use Rattle.trial.specs.trial_direct.Trial.{Narrow};
 
+use crate::trial_links::changed::ROOM;
+use crate::trial_links::counts::Counts;
+use crate::trial_links::{by_words, changed, counts};
 use chain::Link;
 use rule::Rule;
 use sheet::Sheet;
 use trial::trial_direct::{direct, draw, rules};
-use trial_sheets::trial_editions::asked;
-use crate::trial_links::changed::ROOM;
-use crate::trial_links::counts::Counts;
-use crate::trial_links::{by_words, changed, counts};
-use trial_sheets::expected::NUMBERS;
-use trial_sheets::walk;
 use trial::trial_tally::Split;
+use trial_sheets::expected::NUMBERS;
+use trial_sheets::trial_editions::asked;
+use trial_sheets::walk;
 use word::{Edition, Width};
 
 // The numbers of a drawn list, of four links.

@@ -2,5 +2,4 @@
 #![tactic(auto)]
 
 pub mod trial_nets;
-
 pub mod trial_spans;

@@ -3,9 +3,9 @@ use batch::Batch;
 use page::Opening;
 use rule::Rule;
 use sheet::{Reply, Sheet};
+use trial::trial_tally::Tally;
 use trial_calls::answers::kept;
 use trial_calls::trial_lists::{alike, calls};
-use trial::trial_tally::Tally;
 
 // What a lent number is before the call. Every number is a word of 64 bits; at this one no link of these lists begins or ends.
 const UNTOUCHED: u64 = 0x5a5a_5a5a_5a5a_5a5a;

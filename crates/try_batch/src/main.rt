@@ -13,8 +13,8 @@ use batch::Batch;
 use page::Opening;
 use rule::Rule;
 use trial::trial_direct::rules::{NO_FORM, rule};
-use trial_calls::trial_lists::{alike, parts, parts_of, with};
 use trial::trial_tally::Tally;
+use trial_calls::trial_lists::{alike, parts, parts_of, with};
 use word::{Edition, Width};
 
 // The places of a list of which each is tried.

@@ -4,10 +4,10 @@ ghost use Rattle.trial.specs.trial_direct.Trial.{Narrow};
 
 use rule::Rule;
 use rule::bits::Fixed;
-use trial_sheets::trial_bits::masks::{Sought, Way, same};
-use trial_sheets::trial_bits::{called, masks};
 use trial::trial_direct::{direct, rules};
 use trial::trial_tally::Tally;
+use trial_sheets::trial_bits::masks::{Sought, Way, same};
+use trial_sheets::trial_bits::{called, masks};
 use word::{Found, Width};
 
 // The widest words that every rule is tried on by itself.

@@ -9,13 +9,13 @@
 use page::Opening;
 use rule::Rule;
 use sheet::{Answer, Sheet};
+use trial::trial_direct::direct::UNTOUCHED;
+use trial::trial_direct::rules::{NO_FORM, rule};
+use trial::trial_tally::Tally;
 use trial_calls::answers::{accepted, ask_refused, kept, refused, replied};
 use trial_calls::sheets::{
     added, all_but_one, all_marks, case2, gone_back, gone_forward, marked, opened, opened_in,
 };
-use trial::trial_direct::direct::UNTOUCHED;
-use trial::trial_direct::rules::{NO_FORM, rule};
-use trial::trial_tally::Tally;
 use word::{Edition, Width};
 
 fn main() {

@@ -16,10 +16,10 @@ ghost use Rattle.trial.specs.trial_direct.Trial.{Narrow, ROWS};
 use rule::Rule;
 use trial::trial_direct::direct::UNTOUCHED;
 use trial::trial_direct::{cases, direct, draw, rules};
-use trial_sheets::trial_editions::asked;
-use trial_sheets::expected::{Expected, NUMBERS};
-use trial_sheets::{drawn, expected, walk};
 use trial::trial_tally::Split;
+use trial_sheets::expected::{Expected, NUMBERS};
+use trial_sheets::trial_editions::asked;
+use trial_sheets::{drawn, expected, walk};
 use word::{Edition, Width};
 
 // The widest words that every rule is tried on by itself, and every two.

@@ -69,7 +69,9 @@ fn over_firsts(before: Counts, n: usize, second: Rule, width: Width, from: u64) 
         let mut rules = [second; Rule::LIMIT];
         rules[0] = rules::numbered(i, width);
         let seed = draw::next(std::num::wrapping_add_u64(i, from));
-        counts = trial_chains::trial_checks::sheet(counts, rules, n, width, seed, false, &mut table);
+        counts = trial_chains::trial_checks::sheet(
+            counts, rules, n, width, seed, false, &mut table,
+        );
     }
     counts
 }

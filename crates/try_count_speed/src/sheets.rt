@@ -1,8 +1,8 @@
 // The sheets that are counted and listed, in the new edition.
 use rule::Rule;
 use sheet::Sheet;
-use trial_calls::sheets::{added, opened_in};
 use trial::trial_direct::rules::rule;
+use trial_calls::sheets::{added, opened_in};
 use word::Edition;
 
 const WIDTH: u64 = 64;

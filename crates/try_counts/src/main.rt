@@ -14,14 +14,14 @@ ghost use Rattle.rule.specs.Meaning.{RULES};
 ghost use Rattle.trial.specs.trial_direct.Trial.{Narrow};
 
 use rule::Rule;
+use trial::trial_direct::{direct, draw, rules};
 use trial_calls::sheets::{added, case2, opened_in};
 use trial_counts::pieces;
 use trial_counts::pieces::{WORDS, Words};
 use trial_counts::seen::Seen;
 use trial_counts::total::Total;
-use trial::trial_direct::{direct, draw, rules};
-use trial_sheets::trial_editions::asked;
 use trial_sheets::drawn as draws;
+use trial_sheets::trial_editions::asked;
 use trial_sheets::trial_wide::{corners, sheets};
 use word::{Edition, Width};
 

@@ -10,11 +10,11 @@
 ghost use Rattle.std.specs.Prelude.{◌≤◌};
 
 use sheet::Sheet;
+use trial::trial_tally::Tally;
 use trial_calls::records::{NO_SHEETS, no_sheet};
 use trial_calls::sheets::opened_in;
 use trial_counts::pieces;
 use trial_counts::refused::{count_refused, list_refused};
-use trial::trial_tally::Tally;
 use word::{Edition, Width};
 
 fn main() {

@@ -6,15 +6,15 @@
 #![tactic(auto)]
 
 use trial::trial_direct::{direct, draw, rules};
-use trial_sheets::trial_editions::asked::UNTOUCHED;
-use trial_sheets::trial_editions::counts::Both;
-use trial_sheets::trial_editions::{asked, known};
-use trial_sheets::expected::NUMBERS;
-use trial_sheets::{drawn as draws, walk};
 use trial::trial_tally::Tally;
 use trial::trial_wheel::bit_rules::FEW;
 use trial::trial_wheel::wheel::Wheel;
+use trial_sheets::expected::NUMBERS;
+use trial_sheets::trial_editions::asked::UNTOUCHED;
+use trial_sheets::trial_editions::counts::Both;
+use trial_sheets::trial_editions::{asked, known};
 use trial_sheets::trial_wide::{search, sheets};
+use trial_sheets::{drawn as draws, walk};
 use word::Width;
 
 // How many sheets are drawn to be asked, and to go both ways on.

@@ -10,11 +10,11 @@ ghost use Rattle.trial.specs.trial_direct.Trial.{ROWS};
 use page::Opening;
 use rule::Rule;
 use sheet::Sheet;
-use trial_calls::answers::{accepted, kept, refused, replied, untouched};
-use trial_calls::sheets::{added, case2, gone_back, marked, opened, opened_in};
 use trial::trial_direct::cases;
 use trial::trial_direct::direct::UNTOUCHED;
 use trial::trial_tally::Tally;
+use trial_calls::answers::{accepted, kept, refused, replied, untouched};
+use trial_calls::sheets::{added, case2, gone_back, marked, opened, opened_in};
 use word::Edition;
 
 // What asking wants of two rules.

@@ -7,13 +7,13 @@ use gate::{Four, Gate, Turned};
 use page::Opening;
 use rule::Rule;
 use sheet::{Answer, Call, Sheet};
-use trial_calls::answers::same_sheet;
-use trial_calls::sheets::{gone_back, marked, opened};
 use trial::trial_direct::draw::next;
 use trial::trial_gates::direct;
+use trial::trial_tally::Tally;
+use trial_calls::answers::same_sheet;
+use trial_calls::sheets::{gone_back, marked, opened};
 use trial_calls::trial_pages::calls::made;
 use trial_calls::trial_pages::clerk::Page;
-use trial::trial_tally::Tally;
 use word::Edition;
 
 // Sequences from the blank sheet on, and sheets that are all but full, half of them in each edition; and the calls of each.

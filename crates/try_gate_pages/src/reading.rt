@@ -3,11 +3,11 @@ use crate::draw;
 use crate::draw::Limits;
 use gate::Turned;
 use std::num::wrapping_add_u64;
-use trial_calls::sheets::{added, opened_in};
 use trial::trial_direct::draw::{SPREAD, next};
 use trial::trial_direct::rules::rule;
 use trial::trial_gates::direct;
 use trial::trial_tally::Tally;
+use trial_calls::sheets::{added, opened_in};
 use word::Edition;
 
 // What is looked at: whether the limits are numbers, the words that fit, those that do not, or a sheet with the gate.

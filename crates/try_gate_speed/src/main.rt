@@ -6,8 +6,8 @@ use gate::Gate;
 use rule::Rule;
 use sheet::Sheet;
 use std::env::Env;
-use trial_calls::sheets;
 use trial::trial_gates::made;
+use trial_calls::sheets;
 
 const SHEETS: u64 = 200;
 

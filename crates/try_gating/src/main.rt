@@ -12,10 +12,10 @@ mod made;
 use gate::Gate;
 use rule::Rule;
 use sheet::{Answer, Sheet};
+use trial::trial_tally::Tally;
 use trial_calls::answers::{accepted, refused, same_sheet};
 use trial_calls::records::hurt;
 use trial_calls::sheets::{added, case2, gone_back, marked, opened_in};
-use trial::trial_tally::Tally;
 use word::Edition;
 
 fn main() {

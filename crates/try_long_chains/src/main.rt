@@ -15,12 +15,12 @@ ghost use Rattle.trial.specs.trial_direct.Trial.{Narrow};
 use rule::Rule;
 use tiles::Tiles;
 use trial::trial_direct::{direct, draw, rules};
+use trial::trial_tally::Tally;
+use trial_sheets::expected::{Expected, LINKS, NUMBERS};
 use trial_sheets::trial_editions::asked;
 use trial_sheets::trial_editions::asked::UNTOUCHED;
 use trial_sheets::trial_editions::counts::Seen;
-use trial_sheets::expected::{Expected, LINKS, NUMBERS};
 use trial_sheets::walk;
-use trial::trial_tally::Tally;
 use word::{Edition, Width};
 
 // How many sheets are drawn at each width.

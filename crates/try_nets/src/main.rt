@@ -10,8 +10,8 @@ mod refused;
 
 use net::{Ended, Net};
 use places::Way;
-use trial_joins::trial_nets::{made, plain, search};
 use trial::trial_tally::Tally;
+use trial_joins::trial_nets::{made, plain, search};
 
 // The widths 1 to 3, each with 2 to 4 words.
 const CLASSES: u64 = 9;

@@ -2,8 +2,8 @@
 use net::{Answer, Ended, Net};
 use span::Op;
 use std::num::wrapping_add_u64;
-use trial_joins::trial_nets::{made, plain};
 use trial::trial_tally::Tally;
+use trial_joins::trial_nets::{made, plain};
 
 #[derive(Clone, Copy)]
 pub enum Way {

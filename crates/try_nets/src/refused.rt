@@ -1,8 +1,8 @@
 // Nets that are refused, with all that is wrong after what they are refused for.
 use net::{Ended, Net};
 use span::{Interval, Op};
-use trial_joins::trial_nets::{made, plain};
 use trial::trial_tally::Tally;
+use trial_joins::trial_nets::{made, plain};
 
 // Six ways, of which the last is none, each with eight choices of what else is wrong.
 const WAYS: u64 = 48;

@@ -7,12 +7,12 @@
 
 use rule::Rule;
 use sheet::Sheet;
-use trial_calls::answers::{ask_refused, kept, refused, replied, untouched};
-use trial_calls::records::hurt;
-use trial_calls::sheets::{added, all_marks, case2, full, opened_in, other};
 use trial::trial_direct::direct::UNTOUCHED;
 use trial::trial_direct::rules::{NO_FORM, rule};
 use trial::trial_tally::Tally;
+use trial_calls::answers::{ask_refused, kept, refused, replied, untouched};
+use trial_calls::records::hurt;
+use trial_calls::sheets::{added, all_marks, case2, full, opened_in, other};
 use word::Edition;
 
 fn main() {

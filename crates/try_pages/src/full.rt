@@ -5,11 +5,11 @@ use crate::long::Work;
 use page::Opening;
 use rule::Rule;
 use sheet::{Call, Sheet};
+use trial::trial_tally::Split;
 use trial_calls::sheets::opened_in;
 use trial_calls::trial_draws::draw;
 use trial_calls::trial_pages::calls::made;
 use trial_calls::trial_pages::clerk::Page;
-use trial::trial_tally::Split;
 use word::Edition;
 
 const SHEETS: u64 = 10;

@@ -2,13 +2,13 @@
 // that is given what stands on the clerk's page and what waits beside it, and is taken back once for each stretch that waits.
 use page::Opening;
 use sheet::{Call, Sheet};
+use trial::trial_direct::draw::next;
+use trial::trial_tally::{Split, Tally};
 use trial_calls::answers::same_sheet;
 use trial_calls::sheets::{added, case2, gone_back, marked, opened, opened_in};
-use trial::trial_direct::draw::next;
 use trial_calls::trial_draws::draw;
 use trial_calls::trial_pages::calls::made;
 use trial_calls::trial_pages::clerk::Page;
-use trial::trial_tally::{Split, Tally};
 use word::Edition;
 
 const SEQUENCES: u64 = 30;

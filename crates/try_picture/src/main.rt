@@ -2,10 +2,10 @@
 // of each column. The last sheet is the one before it with another rule kept in its first place, which is no sheet, and so nothing is drawn.
 #![tactic(auto)]
 
-use picture::column::COLUMNS;
 use page::Opening;
-use rule::Rule;
+use picture::column::COLUMNS;
 use picture::shade::Cell;
+use rule::Rule;
 use sheet::Sheet;
 use word::Edition;
 

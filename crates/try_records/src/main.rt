@@ -12,11 +12,11 @@
 #![tactic(auto)]
 
 use sheet::Sheet;
+use trial::trial_direct::rules::rule;
+use trial::trial_tally::Tally;
 use trial_calls::answers::{accepted, ask_refused, refused, same_sheet};
 use trial_calls::records::{NO_SHEETS, NUMBERS, RAISED, no_sheet, raised, stands, turned, waited};
 use trial_calls::sheets::{opened, opened_in, other};
-use trial::trial_direct::rules::rule;
-use trial::trial_tally::Tally;
 use word::Edition;
 
 fn main() {

@@ -13,8 +13,8 @@ ghost use Rattle.word.specs.Word.{top};
 ghost use Rattle.rule.specs.Meaning.{Lawful};
 ghost use Rattle.trial.specs.trial_direct.Trial.{Narrow};
 
-use rule::band::Band;
 use rule::Rule;
+use rule::band::Band;
 use trial::trial_direct::rules::{negated, rule};
 use trial::trial_direct::{direct, rules};
 use trial::trial_tally::Tally;

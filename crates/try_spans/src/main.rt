@@ -6,9 +6,9 @@
 
 use span::{Interval, Op};
 use trial::trial_direct::draw::next;
+use trial::trial_tally::Tally;
 use trial_joins::trial_spans::expected::Way;
 use trial_joins::trial_spans::{expected, made};
-use trial::trial_tally::Tally;
 
 const OPERATIONS: u64 = 4;
 

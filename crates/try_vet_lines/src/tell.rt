@@ -1,8 +1,8 @@
 // What a statement is, in numbers.
 ghost use Rattle.word.specs.Word.{IsWidth};
 
-use line::{Line, Statement};
 use line::scan::Amount;
+use line::{Line, Statement};
 
 const STDOUT: i32 = 1;
 

@@ -6,12 +6,12 @@
 
 use page::Opening;
 use sheet::{Answer, Sheet};
+use trial::trial_direct::rules::rule;
+use trial::trial_tally::Tally;
 use trial_calls::answers::{accepted, refused, same_sheet};
 use trial_calls::sheets::{
     added, case2, gone_back, gone_forward, marked, opened, opened_in, other,
 };
-use trial::trial_direct::rules::rule;
-use trial::trial_tally::Tally;
 use word::Edition;
 
 fn main() {

@@ -5,12 +5,12 @@ ghost use Rattle.rule.specs.Meaning.{RULES};
 
 use rule::Rule;
 use trial::trial_direct::draw;
+use trial::trial_wheel::bit_rules::FEW;
+use trial::trial_wheel::wheel::Wheel;
+use trial_sheets::expected::NUMBERS;
 use trial_sheets::trial_editions::asked;
 use trial_sheets::trial_editions::asked::UNTOUCHED;
 use trial_sheets::trial_editions::counts::Both;
-use trial_sheets::expected::NUMBERS;
-use trial::trial_wheel::bit_rules::FEW;
-use trial::trial_wheel::wheel::Wheel;
 use trial_sheets::trial_wide::{corners, search, sheets};
 
 // Of the rules with corners, every so many stand second in a pair. It shares no factor with the numbers of forms, senses and corners.

@@ -11,15 +11,15 @@ ghost use Rattle.word.specs.Word.{IsWidth};
 ghost use Rattle.rule.specs.Meaning.{RULES};
 
 use rule::Rule;
+use trial::trial_direct::draw;
+use trial::trial_wheel::bit_rules::FEW;
+use trial::trial_wheel::wheel::Wheel;
 use trial_calls::sheets::opened_in;
 use trial_counts::pieces::{WORDS, Words};
 use trial_counts::seen::Seen;
 use trial_counts::total::Total;
 use trial_counts::{pieces, runs};
-use trial::trial_direct::draw;
 use trial_sheets::trial_editions::asked;
-use trial::trial_wheel::bit_rules::FEW;
-use trial::trial_wheel::wheel::Wheel;
 use trial_sheets::trial_wide::{corners, sheets};
 use word::Edition;
 

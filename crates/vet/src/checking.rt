@@ -7,12 +7,12 @@ mod words;
 ghost use Rattle.std.specs.Prelude.{◌≡◌};
 ghost use Rattle.vet.specs.checking.Checked.{Checked};
 
-use coming::Answer;
 use crate::gathering::{LENT, Reading};
+use crate::status::MISTAKE;
+use coming::Answer;
 use naming::MOST;
 use rule::Rule;
 use sheet::Sheet;
-use crate::status::MISTAKE;
 use std::io::Error;
 use std::rt::Files;
 use word::Found;

@@ -6,11 +6,11 @@ use crate::manner::Manner;
 use coming::{Answer, EINTR, EPIPE};
 use dialogue::Dialogue;
 use naming::MOST;
-use telling::printing::{Told, WORDS, up_to, within};
 use rule::Rule;
 use sheet::Sheet;
 use std::io::{Read, Result};
 use std::rt::Files;
+use telling::printing::{Told, WORDS, up_to, within};
 
 // What is written; the dialogue; what is held of a line, one byte more than a line may have, so that memory does not grow with a line; the number of lines; the status
 // so far; and whether more is read.

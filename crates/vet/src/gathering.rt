@@ -6,13 +6,13 @@ use chain::Link;
 use citing::Citation;
 use coming::{Answer, EINTR};
 use errors::RULE_NAME;
-use naming::MOST;
-use telling::printing::{up_to, within};
-use rule::Rule;
 use line::scan::{Mistake, Name};
+use naming::MOST;
+use rule::Rule;
 use std::fs;
 use std::io::Read;
 use std::rt::Files;
+use telling::printing::{up_to, within};
 use word::Found;
 
 // The most links of a chain, the numbers that they take, and those with the line of each after them.

@@ -7,13 +7,10 @@
 #![tactic(auto)]
 
 pub mod checking;
-
-pub mod status;
-
-pub mod gathering;
-
 mod feeding;
+pub mod gathering;
 mod manner;
+pub mod status;
 
 use feeding::Run;
 use naming::MOST;

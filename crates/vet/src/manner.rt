@@ -1,11 +1,11 @@
 // What the program writes, by its argument: answers in words, or as objects of JSON; or, at the end of the input, the rules in force for another
 // tool, and no answers; or what is found of a chain.
 use naming::MOST;
-use telling::printing::{Told, WORDS};
 use rule::Rule;
 use sheet::Sheet;
 use std::io::Result;
 use std::rt::Env;
+use telling::printing::{Told, WORDS};
 
 #[derive(Clone, Copy)]
 pub enum Manner {

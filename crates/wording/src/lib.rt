@@ -2,22 +2,19 @@
 #![tactic(auto)]
 
 pub mod echo;
-
-pub mod signs;
-
-pub mod forms;
-
 pub mod form_rows;
+pub mod forms;
+pub mod signs;
 
 ghost use Rattle.std.specs.Prelude.{◌+◌, ◌≤◌, length};
 ghost use Rattle.word.specs.Word.{IsWidth};
 ghost use Rattle.digits.specs.phrase.Phrase.{Put};
 ghost use Rattle.wording.specs.Wording.{ROOM, rule_text};
 
-pub use digits::figure::{NUMBER, put_number};
 use crate::forms::put_form;
-use rule::Rule;
 use crate::signs::{put_at_least, put_at_most, put_before};
+pub use digits::figure::{NUMBER, put_number};
+use rule::Rule;
 use word::Width;
 
 // The most bytes of a rule: `not settled since N for N`, where a number has twenty digits.

@@ -11,10 +11,10 @@ ghost use Rattle.checker.specs.covering.Check.{every_word, right_reason};
 ghost use Rattle.checker.specs.covering.route.Route.{covered};
 
 use chain::Link;
-use search::rows::InForce;
-use rule::band::Band;
 use rule::Rule;
+use rule::band::Band;
 use rule::bits::Fixed;
+use search::rows::InForce;
 use word::{Found, Width};
 
 // Whether a link at place i of the list may start at a word: the first at 0, a later one at most one past the largest end so far.

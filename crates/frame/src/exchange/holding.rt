@@ -3,8 +3,8 @@ ghost use Rattle.std.specs.Prelude.{◌≡◌};
 ghost use Rattle.frame.specs.route.Reading.{frame_of};
 ghost use Rattle.frame.specs.exchange.route.Begun.{begun_line, joined, none};
 
-use crate::exchange::Begun;
 use crate::Frame;
+use crate::exchange::Begun;
 
 impl Begun {
     // No line yet.

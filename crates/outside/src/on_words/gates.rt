@@ -5,8 +5,8 @@ ghost use Rattle.std.specs.Float.Ieee.{of_bits};
 ghost use Rattle.gate.specs.Gate.{turned};
 ghost use Rattle.outside.specs.on_words.Gates.{gate_number, gate_of, gate_rows, row_of, rows_of};
 
-use gate::{Four, Gate, Span, Turned};
 use crate::handing::NUMBERS;
+use gate::{Four, Gate, Span, Turned};
 use rule::Rule;
 
 // Writes the rules of a gate, a row each. A refusal writes nothing.

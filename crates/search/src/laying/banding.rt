@@ -5,8 +5,8 @@ ghost use Rattle.rule.specs.Meaning.{RULES};
 ghost use Rattle.rule.specs.bits.route.Fixed.{fixed_bits};
 ghost use Rattle.search.specs.rows.route.Rows.{drawn, rules_in};
 
-use rule::band::Band;
 use rule::Rule;
+use rule::band::Band;
 use rule::bits::Fixed;
 use word::Width;
 

@@ -3,8 +3,8 @@ ghost use Rattle.std.specs.Prelude.{◌≡◌, map, ◌++◌, ◌-◌, ◌≤◌
 ghost use Rattle.rule.specs.Meaning.{RULES};
 ghost use Rattle.search.specs.rows.route.Rows.{bare_row, no_row, rules_in};
 
-use rule::band::Band;
 use rule::Rule;
+use rule::band::Band;
 
 // Takes the rules from place n up to m away.
 pub fn clear(rows: &mut [[u64; crate::rows::NUMBERS]; Rule::LIMIT], n: usize, m: usize)

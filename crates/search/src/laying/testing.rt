@@ -10,7 +10,11 @@ use word::Width;
 
 // Whether none of the first n rules would be refused.
 #[tactic(auto, using(crate::laying::proofs::SearchTestingAllAcceptable::wanted), unfolding(rule::specs::accept::Accept::acceptable, rule::specs::accept::Accept::every))]
-pub fn all_acceptable(rows: &[[u64; crate::rows::NUMBERS]; Rule::LIMIT], n: usize, width: Width) -> bool
+pub fn all_acceptable(
+    rows: &[[u64; crate::rows::NUMBERS]; Rule::LIMIT],
+    n: usize,
+    width: Width,
+) -> bool
     requires width { IsWidth width.bits }
     requires n_bound { (n ≤ RULES) × (length rows.now ≡ RULES) }
     ensures { result ≡ every (acceptable width.bits) (take n (rules_in rows.now)) }

@@ -7,10 +7,10 @@ ghost use Rattle.search.specs.rows.route.Rows.{bands_in};
 ghost use Rattle.search.specs.verdict.Kept.{keeps};
 ghost use Rattle.search.specs.verdict.route.OnBands.{Bounds, Ends, kept_by};
 
-use crate::verdict::Kept;
 use crate::rows::InForce;
-use rule::band::Run;
+use crate::verdict::Kept;
 use rule::Rule;
+use rule::band::Run;
 use word::Found;
 
 // What is kept where no word passes.
@@ -57,7 +57,11 @@ pub fn solve(rows: &[[u64; crate::rows::NUMBERS]; Rule::LIMIT], force: InForce, 
 }
 
 // What is kept once there are more rules, from what was kept before: none stays none, and the search starts at the old ends.
-pub fn narrowed(rows: &[[u64; crate::rows::NUMBERS]; Rule::LIMIT], force: InForce, before: Kept) -> Kept
+pub fn narrowed(
+    rows: &[[u64; crate::rows::NUMBERS]; Rule::LIMIT],
+    force: InForce,
+    before: Kept,
+) -> Kept
     requires width { IsWidth force.width.bits }
     requires lie { Lie (top force.width.bits) force.count (bands_in rows.now) }
     requires tidy { Tidy force.fixed × Within force.width.bits force.fixed }

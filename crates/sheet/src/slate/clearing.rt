@@ -8,8 +8,8 @@ ghost use Rattle.sheet.specs.slate.route.Held.{Held, Waits, bare_marks, bare_row
 
 use crate::slate::Head;
 use page::MARKS;
-use search::rows::NUMBERS;
 use rule::Rule;
+use search::rows::NUMBERS;
 
 // Puts zeros where rules and marks waited.
 pub fn clear_waiting(

@@ -6,9 +6,9 @@ mod narrowing;
 
 use crate::slate::{Counts, Head, Said};
 use page::MARKS;
+use rule::Rule;
 use rule::band::Band;
 use search::rows::{InForce, NUMBERS};
-use rule::Rule;
 use word::{Edition, Width};
 
 // Adds a rule, from a frame of an edition: what waited is taken away, the rule goes into the next row with its band and a note, and what is

@@ -7,8 +7,8 @@ ghost use Rattle.sheet.specs.slate.route.Shape.{same_kept, stands_so, well_shape
 
 use crate::slate::Head;
 use page::MARKS;
-use search::rows::NUMBERS;
 use rule::Rule;
+use search::rows::NUMBERS;
 use search::verdict::Kept;
 use word::{Edition, Width};
 

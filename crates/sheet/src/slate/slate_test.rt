@@ -5,9 +5,9 @@ ghost use Rattle.sheet.specs.slate.route.Held.{Held, Room, found_to};
 
 use crate::slate::Head;
 use page::MARKS;
+use rule::Rule;
 use rule::band::Run;
 use search::rows::{InForce, NUMBERS};
-use rule::Rule;
 use word::Width;
 
 // The head with the test whether the record is a sheet and, where it is and is not blank, the bands of its rules drawn, of those that

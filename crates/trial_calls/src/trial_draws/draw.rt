@@ -1,8 +1,8 @@
 // Calls drawn from a fixed seed, so that every run makes the same ones.
+use crate::sheets::other;
 use page::Opening;
 use rule::Rule;
 use sheet::Call;
-use crate::sheets::other;
 use trial::trial_direct::draw::next;
 use word::Edition;
 

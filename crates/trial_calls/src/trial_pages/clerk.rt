@@ -1,8 +1,8 @@
 // The clerk's page: how it was opened, what stands on it, in order, and beside it the pile of what was struck out and waits.
+use crate::sheets::opened_in;
 use crate::trial_pages::lines::{Line, Lines, MARK};
 use page::Opening;
 use sheet::{Call, Sheet};
-use crate::sheets::opened_in;
 use word::Edition;
 
 // What it was opened with; the lines that stand, the newest last; and those of the pile, the one next to come back last. A stretch lies

@@ -1,7 +1,7 @@
 // Lines of the clerk's, one after another.
+use crate::sheets::{added, gone_back, marked};
 use rule::Rule;
 use sheet::Sheet;
-use crate::sheets::{added, gone_back, marked};
 
 // A mark or a rule.
 #[derive(Clone, Copy)]

@@ -1,8 +1,8 @@
 // Nets that are drawn by a fixed rule, so that every run tries the same ones, and nets that are made to end at a given place.
+use crate::trial_spans::{expected, made};
 use net::{Join, Net};
 use span::{Interval, Op};
 use trial::trial_direct::draw::next;
-use crate::trial_spans::{expected, made};
 
 // A net that the seed draws: so many words, and 1 to 6 joins of them.
 pub fn drawn(seed: u64, width: u64, count: usize) -> Net {

@@ -1,8 +1,8 @@
 // The plain rule, place by place: after each step every place is looked at, and each result that the join has for it cuts it.
-use net::{Answer, Ended, Join, Net};
-use span::{Interval, Joined, Op};
 use crate::trial_spans::expected;
 use crate::trial_spans::expected::{Way, common};
+use net::{Answer, Ended, Join, Net};
+use span::{Interval, Joined, Op};
 
 // Where a run stands: the words, the next join, and how many joins in a row left all words alone.
 #[derive(Clone, Copy)]

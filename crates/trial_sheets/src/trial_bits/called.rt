@@ -3,10 +3,10 @@
 ghost use Rattle.std.specs.Prelude.{◌<◌};
 ghost use Rattle.rule.specs.Meaning.{RULES};
 
+use crate::expected::NUMBERS;
+use crate::trial_editions::asked;
 use rule::Rule;
 use trial::trial_direct::rules::rule;
-use crate::trial_editions::asked;
-use crate::expected::NUMBERS;
 use word::{Edition, Found, Width};
 
 // Whether that is what is expected of the first k rules. A refusal is not.

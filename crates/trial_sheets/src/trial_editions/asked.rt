@@ -2,15 +2,15 @@
 ghost use Rattle.std.specs.Prelude.{◌≤◌};
 ghost use Rattle.rule.specs.Meaning.{RULES};
 
+use crate::expected;
+use crate::expected::{Expected, NUMBERS};
 use crate::trial_editions::counts::{Both, Seen};
 use page::Opening;
 use rule::Rule;
+use search::verdict::Kept;
 use sheet::{Answer, Reply, Sheet};
 use trial::trial_direct::rules;
-use crate::expected;
-use crate::expected::{Expected, NUMBERS};
 use trial::trial_tally::Tally;
-use search::verdict::Kept;
 use word::Edition;
 
 // What a lent number is before the call. The top word of 64 bits would not do: a chain has it.

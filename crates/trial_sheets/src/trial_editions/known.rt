@@ -1,9 +1,9 @@
 // Wrong expectations, so that a program shows that it tells a difference.
+use crate::expected::{Expected, NUMBERS};
 use crate::trial_editions::asked;
 use crate::trial_editions::asked::UNTOUCHED;
 use rule::Rule;
 use trial::trial_direct::rules::rule;
-use crate::expected::{Expected, NUMBERS};
 use trial::trial_tally::Tally;
 use word::Edition;
 

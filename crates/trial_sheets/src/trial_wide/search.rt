@@ -1,7 +1,7 @@
 // What is to be answered, by a walk from turn to turn. Within a stretch no rule outside form 7 turns, so that a word there fits just where
 // these rules hold and it has the bits.
-use rule::Rule;
 use crate::expected::{Expected, LINKS, NUMBERS};
+use rule::Rule;
 use trial::trial_wheel::bit_rules::FEW;
 use trial::trial_wheel::turning::{Stretch, TURNS};
 use trial::trial_wheel::wheel::Wheel;

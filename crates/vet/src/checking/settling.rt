@@ -7,9 +7,9 @@ ghost use Rattle.checker.specs.Check.{accepts};
 ghost use Rattle.checker.specs.clause.Finding.{finding};
 ghost use Rattle.vet.specs.checking.route.Room.{chain_of, room_of};
 
+use crate::gathering::{LENT, LINKS, ROOM};
 use chain::Link;
 use checker::clause::Finding;
-use crate::gathering::{LENT, LINKS, ROOM};
 use naming::MOST;
 use rule::Rule;
 use sheet::Sheet;

@@ -2,13 +2,13 @@
 ghost use Rattle.std.specs.Prelude.{◌≡◌, IfOk};
 ghost use Rattle.vet.specs.status.Status.{status_of};
 
+use crate::gathering::{LENT, LINKS, ROOM};
 use chain::Link;
 use checker::clause::Finding;
-use crate::gathering::{LENT, LINKS, ROOM};
 use naming::MOST;
-use telling::printing::{put, put_number};
 use rule::Rule;
 use std::io::Result;
+use telling::printing::{put, put_number};
 
 // Tells it, and gives the status.
 pub fn tell(

@@ -4,10 +4,10 @@ ghost use Rattle.search.specs.rows.route.Rows.{bands_in};
 ghost use Rattle.search.specs.verdict.route.OnBands.{kept_by};
 ghost use Rattle.sheet.specs.slate.slate_add.route.Narrows.{Narrows, stays_so};
 
-use rule::band::Band;
-use search::rows::{InForce, NUMBERS};
 use rule::Rule;
+use rule::band::Band;
 use rule::bits::Fixed;
+use search::rows::{InForce, NUMBERS};
 use search::verdict::Kept;
 
 // What is kept of the rules in force and their bits, the last of which has this band: what was kept before where that rule moves nothing,

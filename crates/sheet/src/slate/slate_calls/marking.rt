@@ -4,8 +4,8 @@ ghost use Rattle.sheet.specs.slate.slate_calls.route.Done.{Marks};
 
 use crate::slate::{Counts, Head, Said};
 use page::MARKS;
-use search::rows::NUMBERS;
 use rule::Rule;
+use search::rows::NUMBERS;
 
 // Sets a mark. What waited is taken away, and what is kept is noted where a step back will look for it.
 #[tactic(auto, using(crate::slate::proofs::SearchGround::no_place))]

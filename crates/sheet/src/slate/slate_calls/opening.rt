@@ -4,8 +4,8 @@ ghost use Rattle.sheet.specs.slate.slate_calls.route.Done.{Opens};
 
 use crate::slate::{Counts, Head, Said};
 use page::{MARKS, Opening};
-use search::rows::NUMBERS;
 use rule::Rule;
+use search::rows::NUMBERS;
 use word::Width;
 
 // Opens a new sheet. What was there is kept where the width is refused, and is not read.

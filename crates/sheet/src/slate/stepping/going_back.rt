@@ -5,8 +5,8 @@ ghost use Rattle.sheet.specs.slate.stepping.route.Steps.{Backs};
 use crate::slate::stepping::seeking;
 use crate::slate::{Counts, Head, Said};
 use page::MARKS;
-use search::rows::NUMBERS;
 use rule::Rule;
+use search::rows::NUMBERS;
 use word::Width;
 
 // Goes back to the newest mark: it and the rules added after it wait from now on, where they are. Only the head changes.

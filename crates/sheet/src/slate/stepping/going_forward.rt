@@ -5,8 +5,8 @@ ghost use Rattle.sheet.specs.slate.stepping.route.Steps.{Forwards};
 use crate::slate::stepping::seeking;
 use crate::slate::{Counts, Head, Said};
 use page::MARKS;
-use search::rows::NUMBERS;
 use rule::Rule;
+use search::rows::NUMBERS;
 use word::Width;
 
 // Brings back what was most recently taken back. Only the head changes; rules come back and none goes, so that the old ends bound what is

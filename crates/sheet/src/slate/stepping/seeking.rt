@@ -4,8 +4,8 @@ ghost use Rattle.sheet.specs.slate.route.Notes.{Noted};
 ghost use Rattle.sheet.specs.slate.stepping.route.Found.{Sought};
 
 use crate::slate::Note;
-use search::rows::{InForce, NUMBERS};
 use rule::Rule;
+use search::rows::{InForce, NUMBERS};
 use search::verdict::Kept;
 use word::Width;
 
