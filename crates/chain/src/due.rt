@@ -58,7 +58,7 @@ pub fn furthest(
 }
 
 // The further of two reaches, the one with the lower number on a tie: by the order numbers do not rise.
-#[tactic(auto, using(crate::due::proofs::SearchBetter::wanted), unfolding(crate::due::specs::route::Due::better))]
+#[tactic(auto, using(crate::proofs::due::SearchBetter::wanted), unfolding(crate::specs::due::route::Due::better))]
 fn better(far: Far, reach: u64, rule: u64) -> Far
     ensures { result ≡ better far reach rule }
 {

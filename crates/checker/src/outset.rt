@@ -8,7 +8,7 @@ use crate::finding::Finding;
 use chain::Link;
 
 // Whether the record is a sheet, whether it is blank, and how many numbers the list has: yes where links are to be looked at.
-#[tactic(auto, using(crate::outset::proofs::SearchFound::wanted), unfolding(crate::finding::specs::Clauses::first_broken, crate::outset::specs::route::Outset::outset_clauses))]
+#[tactic(auto, using(crate::proofs::outset::SearchFound::wanted), unfolding(crate::specs::finding::Clauses::first_broken, crate::specs::outset::route::Outset::outset_clauses))]
 pub fn found(stands: bool, blank: bool, numbers: usize) -> Finding
     ensures { result ≡ first_broken (outset_clauses stands blank numbers) }
 {

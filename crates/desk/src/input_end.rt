@@ -15,7 +15,7 @@ use search::rows::NUMBERS;
 use sheet::Sheet;
 
 // At the end of the input: a line that is begun ends as with a byte 10. Says how many bytes were written.
-#[tactic(auto, using(crate::input_end::proofs::Ends::no_answer))]
+#[tactic(auto, using(crate::proofs::input_end::Ends::no_answer))]
 pub fn finish(
     state: State,
     rows: &mut [[u64; NUMBERS]; Rule::LIMIT],

@@ -14,7 +14,7 @@ pub enum Next {
 }
 
 // What comes next, from a place of the part on, where some of the line may have come before.
-#[tactic(auto, using(crate::next_line::proofs::SearchTake::wanted), unfolding(crate::next_line::specs::route::Next::next_of))]
+#[tactic(auto, using(crate::proofs::next_line::SearchTake::wanted), unfolding(crate::specs::next_line::route::Next::next_of))]
 pub fn take(begun: Begun, part: &[u8], used: usize) -> Next
     requires { used ≤ length part.now }
     ensures { result ≡ next_of begun part.now used }

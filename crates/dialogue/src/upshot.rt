@@ -32,7 +32,7 @@ pub struct Upshot {
 }
 
 // It goes on where nothing is refused, and stops at a refusal.
-#[tactic(auto, using(crate::upshot::proofs::SearchByNumber::wanted), unfolding(crate::upshot::specs::Upshot::by_number))]
+#[tactic(auto, using(crate::proofs::upshot::SearchByNumber::wanted), unfolding(crate::specs::upshot::Upshot::by_number))]
 pub fn by_number(number: u64, sheet: Sheet, response: Response) -> Upshot
     ensures { result ≡ by_number number sheet response }
 {

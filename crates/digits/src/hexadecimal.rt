@@ -5,7 +5,7 @@ ghost use Rattle.std.proofs.Math.Seq.{slice};
 ghost use Rattle.digits.specs.hexadecimal.Hex.{MOST, Written, all_digits, glyph, hex, is_digit, is_letter, is_numeral, number, value};
 
 // Writes the last so many digits of x, the last one first.
-#[tactic(auto, using(crate::hexadecimal::proofs::SearchPut::wanted), unfolding(crate::hexadecimal::specs::Hex::hex))]
+#[tactic(auto, using(crate::proofs::hexadecimal::SearchPut::wanted), unfolding(crate::specs::hexadecimal::Hex::hex))]
 pub fn put(out: &mut [u8], at: usize, digits: usize, x: u64)
     requires { at + digits ≤ length out.old }
     ensures { Written out.old at (hex digits x) out.new }

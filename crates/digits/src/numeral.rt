@@ -138,7 +138,7 @@ impl Numeral {
     }
 
     // A digit more, where the base has it and the number stays within 64 bits.
-    #[tactic(auto, using(crate::numeral::proofs::SearchNumeralDigit::wanted), unfolding(crate::numeral::specs::Numeral::digit))]
+    #[tactic(auto, using(crate::proofs::numeral::SearchNumeralDigit::wanted), unfolding(crate::specs::numeral::Numeral::digit))]
     fn digit(self, d: u64) -> Numeral
         ensures { result ≡ digit self d }
     {

@@ -20,7 +20,7 @@ const SENSE: usize = FORM + Field::BYTE;
 const C1: usize = SENSE + Field::BYTE;
 
 // The edition whose frames have a code; a code that has none is looked for among the old ones.
-#[tactic(auto, using(crate::frame_numbers::proofs::SearchEditionOf::wanted), unfolding(crate::frame_numbers::specs::route::Numbers::code_edition))]
+#[tactic(auto, using(crate::proofs::frame_numbers::SearchEditionOf::wanted), unfolding(crate::specs::frame_numbers::route::Numbers::code_edition))]
 pub fn edition_of(code: u64) -> Edition
     ensures { result ≡ code_edition code }
 {
@@ -35,7 +35,7 @@ pub fn edition_of(code: u64) -> Edition
 }
 
 // Whether a line of so many digits that begins with a code opens a sheet of an edition.
-#[tactic(auto, using(crate::frame_numbers::proofs::SearchOpens::wanted))]
+#[tactic(auto, using(crate::proofs::frame_numbers::SearchOpens::wanted))]
 pub fn opens(edition: Edition, code: u64, digits: usize) -> bool
     ensures { result ≡ (eqb digits OPENING && eqb code (terms edition).opens) }
 {

@@ -49,7 +49,7 @@ fn goes_on(bytes: &[u8], at: usize) -> bool
 }
 
 // The same place, byte by byte.
-#[tactic(auto, using(crate::input_line::proofs::SearchEndNear::wanted), unfolding(crate::input_line::specs::Lines::line_of))]
+#[tactic(auto, using(crate::proofs::input_line::SearchEndNear::wanted), unfolding(crate::specs::input_line::Lines::line_of))]
 fn end_near(bytes: &[u8], start: usize) -> usize
     requires { start ≤ length bytes.now }
     ensures { (result ≡ start + length (line_of (drop start bytes.now))) × (result ≤ length bytes.now) }

@@ -10,7 +10,7 @@ use sheet::Sheet;
 const ROOM: usize = Rule::LIMIT - Gate::RULES;
 
 // The number, or 0; `none` says that a limit is not a number.
-#[tactic(auto, using(crate::gate_refusal::proofs::SearchRefusalOf::wanted), unfolding(crate::gate_refusal::specs::route::Seen::SeenFor))]
+#[tactic(auto, using(crate::proofs::gate_refusal::SearchRefusalOf::wanted), unfolding(crate::specs::gate_refusal::route::Seen::SeenFor))]
 pub fn refusal_of(sheet: Sheet, none: bool) -> u64
     ensures { SeenFor sheet none result }
 {

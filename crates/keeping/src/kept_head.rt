@@ -10,7 +10,7 @@ use sheet::Sheet;
 use word::Edition;
 
 // The width and the edition. Where the edition's number is none, the width is 0: a record of the new edition without a width is no sheet.
-#[tactic(auto, using(crate::kept_head::proofs::SearchOpeningIn::wanted))]
+#[tactic(auto, using(crate::proofs::kept_head::SearchOpeningIn::wanted))]
 pub fn opening_in(width: u64, edition: u64) -> Opening
     ensures { result ≡ opening_in width edition }
 {

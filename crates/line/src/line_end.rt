@@ -6,7 +6,7 @@ ghost use Rattle.line.specs.line_end.route.Course.{past};
 
 use crate::token::Token;
 
-#[tactic(auto, using(crate::line_end::proofs::SearchEndOf::wanted), unfolding(crate::line_end::specs::route::Course::end_from))]
+#[tactic(auto, using(crate::proofs::line_end::SearchEndOf::wanted), unfolding(crate::specs::line_end::route::Course::end_from))]
 pub fn end_of(line: &[u8]) -> usize
     ensures { result ≡ end_of line.now }
 {
@@ -24,7 +24,7 @@ pub fn end_of(line: &[u8]) -> usize
 }
 
 // The end after a letter of a class that ends before a place: blanks leave it as it is.
-#[tactic(auto, using(crate::line_end::proofs::SearchPast::wanted), unfolding(crate::line_end::specs::route::Course::past))]
+#[tactic(auto, using(crate::proofs::line_end::SearchPast::wanted), unfolding(crate::specs::line_end::route::Course::past))]
 fn past(class: u64, to: usize, end: usize) -> usize
     ensures { result ≡ past class to end }
 {

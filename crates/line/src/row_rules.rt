@@ -23,7 +23,7 @@ pub fn rule_of(row: usize, negated: bool, n: u64, m: u64) -> Rule
 }
 
 // The rule of a row.
-#[tactic(auto, using(crate::row_rules::proofs::SearchRuleAt::wanted), unfolding(crate::row_rules::specs::Rules::rule_at))]
+#[tactic(auto, using(crate::proofs::row_rules::SearchRuleAt::wanted), unfolding(crate::specs::row_rules::Rules::rule_at))]
 fn rule_at(row: usize, n: u64, m: u64) -> Rule
     ensures { result ≡ rule_at row n m }
 {
@@ -58,7 +58,7 @@ fn rule(form: u64, sense: u64, c1: u64, c2: u64) -> Rule
 }
 
 // The word whose signed reading is a number, where a word of the width has it.
-#[tactic(auto, using(crate::row_rules::proofs::SearchSignedWord::wanted), unfolding(crate::row_rules::specs::Rules::signed_word))]
+#[tactic(auto, using(crate::proofs::row_rules::SearchSignedWord::wanted), unfolding(crate::specs::row_rules::Rules::signed_word))]
 pub fn signed_word(width: Width, minus: bool, n: u64) -> Found
     requires { IsWidth width.bits }
     ensures { result ≡ signed_word width.bits minus n }

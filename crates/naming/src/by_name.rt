@@ -24,7 +24,7 @@ fn has_name(row: &[u8; MOST], name: &[u8]) -> bool
 }
 
 // The number of the first rule in force that has a name.
-#[tactic(auto, using(crate::by_name::proofs::SearchNumberOf::wanted), unfolding(crate::by_name::specs::Which::number_of))]
+#[tactic(auto, using(crate::proofs::by_name::SearchNumberOf::wanted), unfolding(crate::specs::by_name::Which::number_of))]
 pub fn number_of(names: &[[u8; MOST]; Rule::LIMIT], count: usize, name: &[u8]) -> Found
     ensures { result ≡ number_of names.now count name.now }
 {

@@ -107,7 +107,7 @@ fn unmoved(h: bool, x: bool, y: bool) -> bool
 
 impl Join {
     // The place of y. A NOT has none, and its x stands there.
-    #[tactic(auto, unfolding(crate::net_step::specs::Named::place_of, crate::net_step::specs::Named::third))]
+    #[tactic(auto, unfolding(crate::specs::net_step::Named::place_of, crate::specs::net_step::Named::third))]
     pub fn third(self) -> usize
         ensures { result ≡ third self }
     {

@@ -12,7 +12,7 @@ use span::Interval;
 pub const JOINS: usize = 32;
 
 // Whether there are places for all words and joins, and words for all joins.
-#[tactic(auto, using(crate::net_tests::proofs::SearchFits::wanted), unfolding(crate::net_tests::specs::Fits::fits))]
+#[tactic(auto, using(crate::proofs::net_tests::SearchFits::wanted), unfolding(crate::specs::net_tests::Fits::fits))]
 pub fn fits(count: usize, joins: [Join; JOINS], joined: usize) -> bool
     ensures { result ≡ fits count joins joined }
 {

@@ -55,7 +55,7 @@ fn refusal_of(ended: Ended) -> u64
     }
 }
 
-#[tactic(auto, unfolding(crate::on_nets::specs::Nets::told))]
+#[tactic(auto, unfolding(crate::specs::on_nets::Nets::told))]
 fn told(ended: Ended) -> u64
     ensures { result ≡ told ended }
 {

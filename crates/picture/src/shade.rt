@@ -47,7 +47,7 @@ pub fn stretch(
 }
 
 // Whether every word of a row passes: the section that begins with it is held as far, and all its words have the bits.
-#[tactic(auto, using(crate::shade::proofs::SearchAllPass::wanted))]
+#[tactic(auto, using(crate::proofs::shade::SearchAllPass::wanted))]
 fn all_pass(rows: &[[u64; search::rows::NUMBERS]; Rule::LIMIT], force: InForce, words: Run) -> bool
     requires width { IsWidth force.width.bits }
     requires lie { Lie (top force.width.bits) force.count (bands_in rows.now) }

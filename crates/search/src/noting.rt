@@ -99,7 +99,7 @@ fn fixed_in(clash: u64, mask: u64, value: u64) -> Fixed
 }
 
 // The three numbers.
-#[tactic(auto, unfolding(crate::noting::specs::route::Note::fixed_out))]
+#[tactic(auto, unfolding(crate::specs::noting::route::Note::fixed_out))]
 fn fixed_out(fixed: Fixed) -> [u64; 3]
     ensures { result ≡ fixed_out fixed }
 {

@@ -43,7 +43,7 @@ pub fn rule_at(rows: &[[u64; NUMBERS]; Rule::LIMIT], i: usize) -> Rule
 }
 
 // The band at a place, as it stands or on the wheel of words turned round.
-#[tactic(auto, using(crate::rows::proofs::SearchBandAt::wanted), unfolding(crate::rows::specs::route::Rows::band_in, crate::rows::specs::route::Rows::onward))]
+#[tactic(auto, using(crate::proofs::rows::SearchBandAt::wanted), unfolding(crate::specs::rows::route::Rows::band_in, crate::specs::rows::route::Rows::onward))]
 pub fn band_at(rows: &[[u64; NUMBERS]; Rule::LIMIT], i: usize, turned: bool, top: u64) -> Band
     requires i_bound { i < RULES }
     requires laid { Laid top (slice_index_or (bands_in rows.now) i blank_band) }
@@ -87,7 +87,7 @@ pub fn facing(x: u64, turned: bool, top: u64) -> u64
 
 // Whether the word x fails the band at a place. A band that goes all the way round, as that of a form 7 rule does, is told by how far it
 // goes: no word is looked for in it.
-#[tactic(auto, using(crate::rows::proofs::SearchFailsAt::wanted))]
+#[tactic(auto, using(crate::proofs::rows::SearchFailsAt::wanted))]
 pub fn fails_at(rows: &[[u64; NUMBERS]; Rule::LIMIT], i: usize, width: Width, x: u64) -> bool
     requires i_bound { (i < RULES) × IsWidth width.bits }
     requires laid { Laid (top width.bits) (slice_index_or (bands_in rows.now) i blank_band) × (x ≤ top width.bits) }

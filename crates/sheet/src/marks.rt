@@ -19,7 +19,7 @@ pub fn marked_so(marks: &[usize; MARKS], m: usize, n: usize) -> bool
 }
 
 // Whether the first m marks rise, up to n.
-#[tactic(auto, using(crate::marks::proofs::SearchRising::wanted), unfolding(page::specs::route::Shape::rising))]
+#[tactic(auto, using(crate::proofs::marks::SearchRising::wanted), unfolding(page::specs::route::Shape::rising))]
 fn rising(marks: &[usize; MARKS], m: usize, n: usize) -> bool
     requires { (m ≤ MARKS) × (length marks.now ≡ MARKS) }
     ensures { result ≡ rising 0 (take m marks.now) n }
@@ -35,7 +35,7 @@ fn rising(marks: &[usize; MARKS], m: usize, n: usize) -> bool
 }
 
 // Whether there are zeros from place m on.
-#[tactic(auto, using(crate::marks::proofs::SearchAllZero::wanted), unfolding(rule::specs::accept::Accept::every))]
+#[tactic(auto, using(crate::proofs::marks::SearchAllZero::wanted), unfolding(rule::specs::accept::Accept::every))]
 pub fn all_zero(marks: &[usize; MARKS], m: usize) -> bool
     requires { (m ≤ MARKS) × (length marks.now ≡ MARKS) }
     ensures { result ≡ every is_zero (drop m marks.now) }

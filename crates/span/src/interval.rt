@@ -22,7 +22,7 @@ pub struct Interval {
 
 impl Op {
     // The second argument: a NOT has none, and one word stands in its place.
-    #[tactic(auto, unfolding(crate::interval::specs::Op::second))]
+    #[tactic(auto, unfolding(crate::specs::interval::Op::second))]
     pub fn second(self, y: Interval) -> Interval
         ensures { result ≡ second self y }
     {
@@ -35,7 +35,7 @@ impl Op {
     }
 
     // How many arguments the inverse operation cuts, x first.
-    #[tactic(auto, unfolding(crate::interval::specs::Op::inverted))]
+    #[tactic(auto, unfolding(crate::specs::interval::Op::inverted))]
     pub fn inverted(self) -> u64
         ensures { result ≡ inverted self }
     {
@@ -67,7 +67,7 @@ impl Interval {
     }
 
     // Whether neither end is above the top word.
-    #[tactic(auto, using(crate::interval::proofs::SearchIntervalWithin::wanted), unfolding(crate::interval::specs::Interval::within))]
+    #[tactic(auto, using(crate::proofs::interval::SearchIntervalWithin::wanted), unfolding(crate::specs::interval::Interval::within))]
     pub fn within(self, top: u64) -> bool
         ensures { result ≡ within top self }
     {

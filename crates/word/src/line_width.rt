@@ -7,7 +7,7 @@ ghost use Rattle.word.specs.line_width.Width.{reading_at};
 use crate::Width;
 
 // That of the open sheet; the widest where none is open.
-#[tactic(auto, using(crate::line_width::proofs::SearchWidthOf::wanted), unfolding(crate::line_width::specs::Width::reading_at))]
+#[tactic(auto, using(crate::proofs::line_width::SearchWidthOf::wanted), unfolding(crate::specs::line_width::Width::reading_at))]
 pub fn width_of(width: u64) -> Width
     ensures { (result.bits ≡ reading_at width) × IsWidth result.bits }
 {

@@ -18,7 +18,7 @@ impl Begun {
     }
 
     // With more of the line. Bytes past those that are held change nothing.
-    #[tactic(auto, using(crate::exchange::proofs::SearchBegunWith::wanted), unfolding(crate::exchange::specs::route::Begun::joined))]
+    #[tactic(auto, using(crate::proofs::exchange::SearchBegunWith::wanted), unfolding(crate::specs::exchange::route::Begun::joined))]
     pub fn with(self, more: &[u8]) -> Begun
         ensures { result ≡ joined self more.now }
     {
@@ -35,7 +35,7 @@ impl Begun {
     }
 
     // The frame that the line is, where it ends with these bytes. A line that lies whole in them is read there.
-    #[tactic(auto, using(crate::exchange::proofs::SearchBegunFrame::wanted))]
+    #[tactic(auto, using(crate::proofs::exchange::SearchBegunFrame::wanted))]
     pub fn frame(self, more: &[u8]) -> Frame
         ensures { result ≡ frame_of (begun_line (joined self more.now)) }
     {

@@ -57,7 +57,7 @@ fn is_word(b: u8) -> bool
 }
 
 // `&`, `+`, `:`, `<`, `=` or `>`.
-#[tactic(auto, using(crate::token::proofs::SearchClassIsSign::wanted), unfolding(crate::token::specs::Token::is_sign))]
+#[tactic(auto, using(crate::proofs::token::SearchClassIsSign::wanted), unfolding(crate::specs::token::Token::is_sign))]
 fn is_sign(b: u8) -> bool
     ensures { result ≡ is_sign b }
 {
@@ -77,7 +77,7 @@ fn is_sign(b: u8) -> bool
 }
 
 // A space, a tab, or the byte 13 that ends a line before its byte 10.
-#[tactic(auto, using(crate::token::proofs::SearchClassIsBlank::wanted), unfolding(crate::token::specs::Token::is_blank))]
+#[tactic(auto, using(crate::proofs::token::SearchClassIsBlank::wanted), unfolding(crate::specs::token::Token::is_blank))]
 fn is_blank(b: u8) -> bool
     ensures { result ≡ is_blank b }
 {

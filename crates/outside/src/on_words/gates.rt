@@ -10,7 +10,7 @@ use gate::{Four, Gate, Span, Turned};
 use rule::Rule;
 
 // Writes the rules of a gate, a row each. A refusal writes nothing.
-#[tactic(auto, unfolding(crate::on_words::specs::Gates::gate_number, crate::on_words::specs::Gates::gate_rows))]
+#[tactic(auto, unfolding(crate::specs::on_words::Gates::gate_number, crate::specs::on_words::Gates::gate_rows))]
 pub fn gate_rules(kind: u64, low: u32, high: u32, rules: &mut [[u64; NUMBERS]; Gate::RULES]) -> u64
     ensures value { result ≡ gate_number (turned (gate_of kind low high)) }
     ensures rules_after { rules.new ≡ gate_rows (turned (gate_of kind low high)) rules.old }
@@ -26,7 +26,7 @@ pub fn gate_rules(kind: u64, low: u32, high: u32, rules: &mut [[u64; NUMBERS]; G
 }
 
 // The gate of a kind.
-#[tactic(auto, using(crate::on_words::proofs::SearchGatesGateOf::wanted))]
+#[tactic(auto, using(crate::proofs::on_words::SearchGatesGateOf::wanted))]
 pub fn gate_of(kind: u64, low: u32, high: u32) -> Gate
     ensures { result ≡ gate_of kind low high }
 {

@@ -9,7 +9,7 @@ use rule::Rule;
 use word::Width;
 
 // Whether none of the first n rules would be refused.
-#[tactic(auto, using(crate::laying::proofs::SearchTestingAllAcceptable::wanted), unfolding(rule::specs::accept::Accept::acceptable, rule::specs::accept::Accept::every))]
+#[tactic(auto, using(crate::proofs::laying::SearchTestingAllAcceptable::wanted), unfolding(rule::specs::accept::Accept::acceptable, rule::specs::accept::Accept::every))]
 pub fn all_acceptable(
     rows: &[[u64; crate::rows::NUMBERS]; Rule::LIMIT],
     n: usize,
@@ -28,7 +28,7 @@ pub fn all_acceptable(
 }
 
 // Whether there is no rule from place n on.
-#[tactic(auto, using(crate::laying::proofs::SearchTestingNoneFrom::wanted), unfolding(rule::specs::accept::Accept::every))]
+#[tactic(auto, using(crate::proofs::laying::SearchTestingNoneFrom::wanted), unfolding(rule::specs::accept::Accept::every))]
 pub fn none_from(rows: &[[u64; crate::rows::NUMBERS]; Rule::LIMIT], n: usize) -> bool
     requires { (n ≤ RULES) × (length rows.now ≡ RULES) }
     ensures { result ≡ every is_no_rule (drop n (rules_in rows.now)) }

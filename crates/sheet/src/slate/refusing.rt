@@ -8,7 +8,7 @@ use rule::Rule;
 use word::{Edition, Width};
 
 // What every call but an opening looks at first: 17 where the record is no sheet, 1 on the blank sheet.
-#[tactic(auto, using(crate::slate::proofs::SearchRefusingRefuses::wanted), unfolding(crate::slate::specs::route::Numbers::before))]
+#[tactic(auto, using(crate::proofs::slate::SearchRefusingRefuses::wanted), unfolding(crate::specs::slate::route::Numbers::before))]
 pub fn refuses(head: Head) -> u64
     ensures { result ≡ before head.stands head.opening.width }
 {
@@ -24,7 +24,7 @@ pub fn refuses(head: Head) -> u64
 }
 
 // The number with which a rule is refused, or 0. Another edition's frame is refused whatever its rule.
-#[tactic(auto, using(crate::slate::proofs::SearchRefusingRefusesRule::wanted))]
+#[tactic(auto, using(crate::proofs::slate::SearchRefusingRefusesRule::wanted))]
 pub fn refuses_rule(head: Head, edition: Edition, rule: Rule) -> u64
     requires { before head.stands head.opening.width ≡ 0 → IsWidth head.opening.width }
     ensures { result ≡ rule_number head edition rule }

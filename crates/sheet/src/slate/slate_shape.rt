@@ -13,7 +13,7 @@ use search::verdict::Kept;
 use word::{Edition, Width};
 
 // Whether the record is blank, its width being 0.
-#[tactic(auto, using(crate::slate::proofs::SearchSlateShapeBlank::wanted), unfolding(crate::slate::specs::route::Shape::stands_so))]
+#[tactic(auto, using(crate::proofs::slate::SearchSlateShapeBlank::wanted), unfolding(crate::specs::slate::route::Shape::stands_so))]
 pub fn blank(head: Head, rows: &[[u64; NUMBERS]; Rule::LIMIT], marks: &[usize; MARKS]) -> bool
     requires width_value { head.opening.width ≡ 0 }
     requires room { Room rows.now marks.now }
@@ -55,7 +55,7 @@ pub fn blank(head: Head, rows: &[[u64; NUMBERS]; Rule::LIMIT], marks: &[usize; M
 }
 
 // Whether a record whose width is not 0 has a width of its edition, rules and marks as a sheet may have them.
-#[tactic(auto, using(crate::slate::proofs::SearchSlateShapeShaped::wanted), unfolding(page::specs::route::Shape::rules_shaped, crate::slate::specs::route::Shape::well_shaped))]
+#[tactic(auto, using(crate::proofs::slate::SearchSlateShapeShaped::wanted), unfolding(page::specs::route::Shape::rules_shaped, crate::specs::slate::route::Shape::well_shaped))]
 pub fn shaped(head: Head, rows: &[[u64; NUMBERS]; Rule::LIMIT], marks: &[usize; MARKS]) -> bool
     requires fact { head.opening.width ≡ 0 → ⊥ }
     requires room { Room rows.now marks.now }
@@ -94,7 +94,7 @@ pub fn shaped(head: Head, rows: &[[u64; NUMBERS]; Rule::LIMIT], marks: &[usize; 
 }
 
 // Whether the two agree in all three numbers.
-#[tactic(auto, using(crate::slate::proofs::SearchSlateShapeSameKept::wanted), unfolding(crate::slate::specs::route::Shape::same_kept))]
+#[tactic(auto, using(crate::proofs::slate::SearchSlateShapeSameKept::wanted), unfolding(crate::specs::slate::route::Shape::same_kept))]
 pub fn same_kept(a: Kept, b: Kept) -> bool
     ensures { result ≡ same_kept a b }
 {

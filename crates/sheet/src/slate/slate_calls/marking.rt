@@ -8,7 +8,7 @@ use rule::Rule;
 use search::rows::NUMBERS;
 
 // Sets a mark. What waited is taken away, and what is kept is noted where a step back will look for it.
-#[tactic(auto, using(crate::slate::proofs::SearchGround::no_place))]
+#[tactic(auto, using(crate::proofs::slate::SearchGround::no_place))]
 pub fn mark(
     head: Head,
     rows: &mut [[u64; NUMBERS]; Rule::LIMIT],

@@ -10,7 +10,7 @@ use search::rows::NUMBERS;
 use word::Width;
 
 // Goes back to the newest mark: it and the rules added after it wait from now on, where they are. Only the head changes.
-#[tactic(auto, using(crate::slate::proofs::SearchGround::no_mark))]
+#[tactic(auto, using(crate::proofs::slate::SearchGround::no_mark))]
 pub fn back(head: Head, rows: &[[u64; NUMBERS]; Rule::LIMIT], marks: &[usize; MARKS]) -> Said
     requires { Held head rows.now marks.now }
     ensures { Backs head rows.now marks.now result.number result.head }

@@ -11,7 +11,7 @@ use word::Width;
 
 // Brings back what was most recently taken back. Only the head changes; rules come back and none goes, so that the old ends bound what is
 // kept.
-#[tactic(auto, using(crate::slate::proofs::SearchGround::none_waits))]
+#[tactic(auto, using(crate::proofs::slate::SearchGround::none_waits))]
 pub fn forward(head: Head, rows: &[[u64; NUMBERS]; Rule::LIMIT], marks: &[usize; MARKS]) -> Said
     requires { Held head rows.now marks.now }
     ensures { Forwards head rows.now marks.now result.number result.head }
