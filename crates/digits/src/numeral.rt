@@ -1,11 +1,11 @@
 // Numbers as people write them, taken letter by letter: in decimal, after `0x` and `0b`, below zero, and with a point.
 
-mod digits;
+mod writing;
 
 ghost use Rattle.std.specs.Prelude.{◌≡◌, ◌<◌};
 ghost use Rattle.digits.specs.numeral.Numeral.{PLACES, after_zero, below_zero, digit, in_base, next, past_digit, past_place, pointed, start, stopped, value_of};
 
-pub use digits::put_digits;
+pub use writing::put_digits;
 
 // What is read so far: how far it has come, whether it is below zero, its base, whether its point was read, its digits as one
 // whole number, and how many of them stand after the point.

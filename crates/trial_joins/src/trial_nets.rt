@@ -3,4 +3,4 @@
 
 pub mod made;
 pub mod plain;
-pub mod search;
+pub mod assignments;

@@ -11,7 +11,7 @@ mod refused;
 use net::{Ended, Net};
 use places::Way;
 use trial::trial_tally::Tally;
-use trial_joins::trial_nets::{made, plain, search};
+use trial_joins::trial_nets::{assignments, made, plain};
 
 // The widths 1 to 3, each with 2 to 4 words.
 const CLASSES: u64 = 9;
@@ -94,9 +94,9 @@ fn nothing_lost(class: u64, net: Net) -> bool {
     let ended = answer.ended;
     let left = answer.words;
     if let Ended::Empty = ended {
-        return search::none(net, words(class), assignments(class));
+        return assignments::none(net, words(class), assignments(class));
     }
-    search::all_kept(net, left, words(class), assignments(class))
+    assignments::all_kept(net, left, words(class), assignments(class))
 }
 
 // A difference that is known: spent, where the last step paid for makes the net steady.

@@ -1,7 +1,7 @@
 -- `numbered` is safe and ends. The measure is the places left. Assumes nothing.
 use Rattle.std.proofs.Common.{◌-◌, ◌≤◌}
 use Rattle.net.specs.net_step.Named.{WORDS}
-use Rattle.trial_joins.proofs.trial_nets.search.numbered.Given as goal
+use Rattle.trial_joins.proofs.trial_nets.assignments.numbered.Given as goal
 
 abbrev pub invariant-loop-p : goal.invariant-loop-p
 invariant-loop-p l = l.p ≤ WORDS

@@ -1,4 +1,4 @@
-use Rattle.digits.proofs.numeral.digits.+put_digits.Given as goal
+use Rattle.digits.proofs.numeral.writing.+put_digits.Given as goal
 
 abbrev pub decreases-put_digits : goal.decreases-put_digits
 decreases-put_digits l = l.x

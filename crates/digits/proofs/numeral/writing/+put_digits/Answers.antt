@@ -11,7 +11,7 @@ use Rattle.digits.specs.hexadecimal.Hex.{glyph}
 use Rattle.digits.proofs.hexadecimal.Digits.{and_then}
 use Rattle.digits.specs.numeral.Digits.{digits_in}
 use Rattle.digits.proofs.numeral.Quotients.{digit_more, last_digit, length_more}
-use Rattle.digits.proofs.numeral.digits.+put_digits.Goals as goal
+use Rattle.digits.proofs.numeral.writing.+put_digits.Goals as goal
 
 pub glyph-requires : goal.glyph-requires
 glyph-requires t c = omega arith

@@ -1,6 +1,6 @@
 -- `all_kept` is safe and ends. The measure is the assignments left. Assumes nothing.
 use Rattle.std.proofs.Common.{◌-◌, ◌≤◌}
-use Rattle.trial_joins.proofs.trial_nets.search.all_kept.Given as goal
+use Rattle.trial_joins.proofs.trial_nets.assignments.all_kept.Given as goal
 
 abbrev pub invariant-loop-i : goal.invariant-loop-i
 invariant-loop-i l = l.i ≤ l.count
