@@ -7,8 +7,8 @@ use crate::total::Total;
 use rule::Rule;
 use trial::trial_wheel::bit_rules::FEW;
 use trial::trial_wheel::wheel::Wheel;
-use trial_sheets::trial_wide::walk;
-use trial_sheets::trial_wide::walk::STRETCHES;
+use trial_sheets::trial_wide::stretches;
+use trial_sheets::trial_wide::stretches::STRETCHES;
 use word::{Found, Width};
 
 // The most bits of a word.
@@ -57,8 +57,8 @@ pub fn total(rules: [Rule; FEW], wheel: Wheel) -> Total {
         return total;
     }
     for _ in 0..STRETCHES {
-        let end = walk::around(rules, wheel, x).to;
-        if walk::holds(rules, wheel, x) {
+        let end = stretches::around(rules, wheel, x).to;
+        if stretches::holds(rules, wheel, x) {
             let row = std::num::wrapping_sub_u64(below(wanted, end), below(wanted, x));
             total = total.plus(row).plus(has(wanted, end));
         }
@@ -112,7 +112,7 @@ pub fn words(rules: [Rule; FEW], wheel: Wheel, p: u64) -> Words {
     let mut n = 0;
     let mut from = p;
     for i in 0..MIXED {
-        let Found::At(x) = walk::next(rules, wheel, from) else {
+        let Found::At(x) = stretches::next(rules, wheel, from) else {
             break;
         };
         list[i] = x;

@@ -1,5 +1,5 @@
 // What is to be answered to a sheet of few rules at any width, apart from the desk's code; and sheets that are drawn, or numbered.
 
 pub mod corners;
-pub mod walk;
 pub mod sheets;
+pub mod stretches;

@@ -13,7 +13,7 @@ use trial_sheets::expected::NUMBERS;
 use trial_sheets::trial_editions::asked::UNTOUCHED;
 use trial_sheets::trial_editions::counts::Both;
 use trial_sheets::trial_editions::{asked, known};
-use trial_sheets::trial_wide::{sheets, walk};
+use trial_sheets::trial_wide::{sheets, stretches};
 use trial_sheets::{drawn as draws, walk};
 use word::Width;
 
@@ -78,6 +78,6 @@ fn both_ways(s: u64, table: &mut [u8; direct::TABLE]) -> Tally {
     let mut numbers = [UNTOUCHED; NUMBERS];
     direct::fill(rules, n, width, &mut *table);
     let walked = walk::walked(&*table, n, direct::size(width) as usize, &mut buffer);
-    let searched = walk::searched(sheets::few(rules, n), wheel, &mut numbers);
+    let searched = stretches::searched(sheets::few(rules, n), wheel, &mut numbers);
     Tally::one(asked::same(walked, &buffer, searched, &numbers))
 }

@@ -11,7 +11,7 @@ use trial_sheets::expected::NUMBERS;
 use trial_sheets::trial_editions::asked;
 use trial_sheets::trial_editions::asked::UNTOUCHED;
 use trial_sheets::trial_editions::counts::Both;
-use trial_sheets::trial_wide::{corners, sheets, walk};
+use trial_sheets::trial_wide::{corners, sheets, stretches};
 
 // Of the rules with corners, every so many stand second in a pair. It shares no factor with the numbers of forms, senses and corners.
 const STEP: u64 = 11;
@@ -102,6 +102,6 @@ fn compared(bits: u64, wheel: Wheel, rules: [Rule; Rule::LIMIT], n: usize) -> Bo
     requires { n ≤ RULES }
 {
     let mut buffer = [UNTOUCHED; NUMBERS];
-    let expected = walk::searched(sheets::few(rules, n), wheel, &mut buffer);
+    let expected = stretches::searched(sheets::few(rules, n), wheel, &mut buffer);
     asked::in_editions(bits, wheel.top, rules, n, expected, &buffer)
 }

@@ -1,7 +1,7 @@
 -- `search::around` is safe and ends: the measure is the rules left. Assumes nothing.
 use Rattle.std.proofs.Common.{◌-◌}
 use Rattle.trial.specs.trial_wheel.Limits.{FEW}
-use Rattle.trial_sheets.proofs.trial_wide.walk.around.Given as goal
+use Rattle.trial_sheets.proofs.trial_wide.stretches.around.Given as goal
 
 abbrev pub invariant-loop-i : goal.invariant-loop-i
 invariant-loop-i l = Unit

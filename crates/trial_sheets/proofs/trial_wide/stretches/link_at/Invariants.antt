@@ -1,7 +1,7 @@
 -- `search::link_at` is safe and ends: the measure is the rules left. Assumes nothing.
 use Rattle.std.proofs.Common.{◌-◌}
 use Rattle.trial.specs.trial_wheel.Limits.{FEW}
-use Rattle.trial_sheets.proofs.trial_wide.walk.link_at.Given as goal
+use Rattle.trial_sheets.proofs.trial_wide.stretches.link_at.Given as goal
 
 abbrev pub invariant-loop-i : goal.invariant-loop-i
 invariant-loop-i l = Unit

@@ -1,7 +1,7 @@
 -- `search::largest` is safe and ends: the measure is the stretches left. Assumes nothing.
 use Rattle.std.proofs.Common.{◌-◌}
 use Rattle.trial_sheets.proofs.trial_wide.Counts.{STRETCHES}
-use Rattle.trial_sheets.proofs.trial_wide.walk.largest.Given as goal
+use Rattle.trial_sheets.proofs.trial_wide.stretches.largest.Given as goal
 
 abbrev pub invariant-loop : goal.invariant-loop
 invariant-loop l = Unit

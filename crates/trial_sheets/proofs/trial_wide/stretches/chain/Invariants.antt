@@ -1,7 +1,7 @@
 -- `search::chain` is safe and ends: the measure is the links left. Assumes nothing.
 use Rattle.std.proofs.Common.{◌-◌}
 use Rattle.trial_sheets.proofs.Counts.{LINKS}
-use Rattle.trial_sheets.proofs.trial_wide.walk.chain.Given as goal
+use Rattle.trial_sheets.proofs.trial_wide.stretches.chain.Given as goal
 
 abbrev pub invariant-loop-links : goal.invariant-loop-links
 invariant-loop-links l = Unit
