@@ -12,7 +12,7 @@ use borrow.Author.Tests.{eq-eqb, ne_eqb}
 use lib.Dec.{ltb}
 use lib.ListN.{get_or, length, take}
 use lib.Seq.{length-take-le, take-suc}
-use Rattle.word.specs.declared.Found.{Found}
+use Rattle.std.specs.Prelude.{Option}
 use Rattle.word.specs.Word.{top}
 use Rattle.word.specs.Search.{climb, first, sink}
 use Rattle.word.proofs.Search.{first_same}
@@ -144,7 +144,7 @@ gap_top f t p e =
     let none : 0 ≡ t - p = omega arith in
     ap (λ (k : ℕ). before t (first (has_bits f) k (suc p))) none
 
-pub gap_next : (f : Fixed) (t p : ℕ) (found : Found) → found ≡ first (has_bits f) (suc t - (p + 1)) (p + 1) → before t found ≡ gap_on f t p
+pub gap_next : (f : Fixed) (t p : ℕ) (found : Option ℕ) → found ≡ first (has_bits f) (suc t - (p + 1)) (p + 1) → before t found ≡ gap_on f t p
 unfolding gap_on
 gap_next f t p found d =
     let left : suc t - (p + 1) ≡ t - p = omega arith in

@@ -1,7 +1,7 @@
 -- The chain, step by step (01, "The chain").
 use Rattle.std.specs.Prelude.{Bool, true, false, not, ◌&&◌, cond, List, [], ◌∷◌, ℕ, zero, suc, ◌+◌, ◌-◌, ◌*◌, ◌^◌, eqb, ltb, get_or}
-use Rattle.word.specs.declared.Found.{Found}
-use Rattle.word.specs.declared.Found.TheVariants.{At, Nothing}
+use Rattle.std.specs.Prelude.{Option}
+use Rattle.std.specs.Prelude.{Some, None}
 use Rattle.word.specs.Word.{top}
 use Rattle.word.specs.Search.{first}
 use Rattle.rule.specs.declared.Rule.{Rule}
@@ -42,9 +42,9 @@ unfoldable pub furthest : ℕ → List Rule → ℕ → Far
 furthest w rs p = furthest_of w Nowhere 0 rs p
 
 -- "q is one less than the smallest word above p that meets all form 7 rules, or the top word if there is none"
-unfoldable pub before : (t : ℕ) → Found → ℕ
-before t (At x) = x - 1
-before t Nothing = t
+unfoldable pub before : (t : ℕ) → Option ℕ → ℕ
+before t (Some x) = x - 1
+before t None = t
 
 unfoldable pub gap : ℕ → List Rule → ℕ → ℕ
 gap w rs p = before (top w) (first (meets7 w rs) (top w - p) (suc p))

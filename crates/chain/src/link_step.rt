@@ -10,7 +10,7 @@ ghost use Rattle.chain.specs.link_step.route.Step.{Reached, link_to};
 use crate::{Far, Link};
 use rule::Rule;
 use rule::bits::Fixed;
-use word::{Found, Width};
+use word::Width;
 
 // The link at p by the furthest reach that was found. Where it names a rule it starts where that rule's run of failing words starts.
 pub fn link_at(
@@ -52,7 +52,7 @@ pub fn gap(fixed: Fixed, width: Width, p: u64) -> u64
     if p == top {
         return top;
     }
-    let Found::At(x) = fixed.next(width, p + 1) else {
+    let Some(x) = fixed.next(width, p + 1) else {
         return top;
     };
     x - 1

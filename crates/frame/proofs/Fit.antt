@@ -13,8 +13,8 @@ use lib.ListN.{length}
 use lib.Pow.{pow_mono}
 use Rattle.word.specs.declared.Edition.{Edition}
 use Rattle.word.specs.declared.Edition.TheVariants.{Old}
-use Rattle.word.specs.declared.Found.{Found}
-use Rattle.word.specs.declared.Found.TheVariants.{At, Nothing}
+use Rattle.std.specs.Prelude.{Option}
+use Rattle.std.specs.Prelude.{Some, None}
 use Rattle.word.specs.Edition.{terms}
 use Rattle.word.specs.Search.{first, last}
 use Rattle.word.specs.Word.{top}
@@ -77,10 +77,10 @@ kept_fits d w rs h = go (first (fits w rs) (2 ^ w) 0) refl (last (fits w rs) (2 
     zero : 0 < 16 ^ WORD d
     zero = word_fits d 0 0 (omega arith) (omega arith)
 
-    go : (a : Found) → first (fits w rs) (2 ^ w) 0 ≡ a → (b : Found) → last (fits w rs) (2 ^ w) ≡ b → InDigits (kept_line d (verdict_of a b))
-    go Nothing e b f = (omega arith, (omega arith, (zero, (zero, tt))))
-    go (At x) e Nothing f = (omega arith, (omega arith, (zero, (zero, tt))))
-    go (At x) e (At y) f =
+    go : (a : Option ℕ) → first (fits w rs) (2 ^ w) 0 ≡ a → (b : Option ℕ) → last (fits w rs) (2 ^ w) ≡ b → InDigits (kept_line d (verdict_of a b))
+    go None e b f = (omega arith, (omega arith, (zero, (zero, tt))))
+    go (Some x) e None f = (omega arith, (omega arith, (zero, (zero, tt))))
+    go (Some x) e (Some y) f =
         let low = word_fits d w x h (omega (arith, (first_is (fits w rs) (2 ^ w) 0 x e).high)) in
         let high = word_fits d w y h (omega (arith, (last_is (fits w rs) (2 ^ w) y f).high)) in
         (omega arith, (small (eqb x y), (low, (high, tt))))

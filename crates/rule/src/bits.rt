@@ -5,7 +5,7 @@ ghost use Rattle.word.specs.Search.{first};
 ghost use Rattle.rule.specs.bits.route.Fixed.{has_bits, joined, Tidy, turned_bits};
 
 use crate::Rule;
-use word::{Found, Width};
+use word::Width;
 
 // A word has the bits when its AND with the mask is the value. Where rules clash, no word meets them together.
 #[derive(Clone, Copy)]
@@ -55,51 +55,51 @@ impl Fixed {
     }
 
     // The smallest word at or above p that has the bits.
-    pub fn next(self, width: Width, p: u64) -> Found
+    pub fn next(self, width: Width, p: u64) -> Option<u64>
         requires width { IsWidth width.bits }
         requires p_bound { p ≤ top width.bits }
         requires tidy { Tidy self }
         ensures { result ≡ first (has_bits self) (suc (top width.bits) - p) p }
     {
         let Fixed::Bits { mask, value } = self else {
-            return Found::Nothing;
+            return None;
         };
         // to set the mask's bits adds this gap to every word that has the bits: sought is the first number that has the whole
         // mask from p and the gap on
         let gap = mask - value;
         if u64::MAX - gap < p {
-            return Found::Nothing;
+            return None;
         }
         let from = p + gap;
         let missing = mask & !from;
         if missing == 0 {
-            return Found::At(p);
+            return Some(p);
         }
         // above the highest missing bit it is as before, and from there down it has the mask's bits alone
         let low = u64::MAX >> u64::leading_zeros(missing);
         let x = (from & !low | mask) - gap;
         // the mask may reach past the top word
         if width.top() < x {
-            return Found::Nothing;
+            return None;
         }
-        Found::At(x)
+        Some(x)
     }
 
     // The smallest word above x that has the bits, where x has them: the other bits count up, and the mask's are set to carry over them.
-    pub fn after(self, x: u64) -> Found
+    pub fn after(self, x: u64) -> Option<u64>
         requires { Tidy self × (has_bits self x ≡ true) }
         ensures { result ≡ first (has_bits self) (suc (top 64) - suc x) (suc x) }
     {
         let Fixed::Bits { mask, value } = self else {
-            return Found::Nothing;
+            return None;
         };
         let gap = mask - value;
         let whole = x | mask;
         if whole == u64::MAX {
-            return Found::Nothing;
+            return None;
         }
         let next = (whole + 1 | mask) - gap;
-        Found::At(next)
+        Some(next)
     }
 
     // The same bits on the wheel of words turned round, where x stands at top - x.

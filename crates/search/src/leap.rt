@@ -10,7 +10,6 @@ ghost use Rattle.search.specs.leap.route.Leapt.{Leapt};
 
 use crate::rows::InForce;
 use rule::Rule;
-use word::Found;
 
 // From a word to one before which none passes the bands in force and the bits, here or on the wheel turned round, or to nothing where none
 // does.
@@ -19,7 +18,7 @@ pub fn leap(
     force: InForce,
     turned: bool,
     start: u64,
-) -> Found
+) -> Option<u64>
     requires width { IsWidth force.width.bits }
     requires start_bound { (start ≤ top force.width.bits) × Lie (top force.width.bits) force.count (bands_in rows.now) }
     requires tidy { Tidy force.fixed }
@@ -31,12 +30,12 @@ pub fn leap(
     crate::order::sort(rows, n, turned, width.top(), &mut order);
     let mut p = start;
     for k in 0..n {
-        let Found::At(q) = past(rows, force, turned, order[k], p) else {
-            return Found::Nothing;
+        let Some(q) = past(rows, force, turned, order[k], p) else {
+            return None;
         };
         p = q;
     }
-    Found::At(p)
+    Some(p)
 }
 
 // Past the words before the next one that has the bits and, where the band of a number fails that one, past the run of words that it fails there.
@@ -46,7 +45,7 @@ fn past(
     turned: bool,
     number: usize,
     p: u64,
-) -> Found
+) -> Option<u64>
     requires width { IsWidth force.width.bits }
     requires p_bound { (p ≤ top force.width.bits) × Lie (top force.width.bits) force.count (bands_in rows.now) }
     requires tidy { Tidy force.fixed }
@@ -56,18 +55,18 @@ fn past(
     let width = force.width;
     let top = width.top();
     if force.count <= number {
-        return Found::At(p);
+        return Some(p);
     }
-    let Found::At(x) = fixed.next(width, p) else {
-        return Found::Nothing;
+    let Some(x) = fixed.next(width, p) else {
+        return None;
     };
     let band = crate::rows::band_at(rows, number, turned, top);
     if band.holds(x) {
-        return Found::At(x);
+        return Some(x);
     }
     let reach = band.run(top, x).to;
     if reach == top {
-        return Found::Nothing;
+        return None;
     }
-    Found::At(reach + 1)
+    Some(reach + 1)
 }

@@ -10,7 +10,6 @@ ghost use Rattle.search.specs.sweep.route.Walked.{Walks};
 
 use crate::rows::InForce;
 use rule::Rule;
-use word::Found;
 
 // One more than how often all bands are gone through before a leap, which sorts them.
 const PATIENCE: usize = 9;
@@ -31,15 +30,15 @@ pub fn sweep(
     force: InForce,
     turned: bool,
     start: u64,
-) -> Found
+) -> Option<u64>
     requires width { IsWidth force.width.bits }
     requires start_bound { (start ≤ top force.width.bits) × Lie (top force.width.bits) force.count (bands_in rows.now) }
     requires tidy { Tidy force.fixed }
     ensures { result ≡ first (passes (all_seen turned (top force.width.bits) (take force.count (bands_in rows.now))) force.fixed) (suc (top force.width.bits) - start) start }
 {
     match walk(rows, force, turned, start, PATIENCE) {
-        Walked::At(x) => Found::At(x),
-        Walked::Nothing => Found::Nothing,
+        Walked::At(x) => Some(x),
+        Walked::Nothing => None,
         Walked::Tired(p) => rested(rows, force, turned, p),
     }
 }
@@ -50,19 +49,19 @@ fn rested(
     force: InForce,
     turned: bool,
     start: u64,
-) -> Found
+) -> Option<u64>
     requires width { IsWidth force.width.bits }
     requires start_bound { (start ≤ top force.width.bits) × Lie (top force.width.bits) force.count (bands_in rows.now) }
     requires tidy { Tidy force.fixed }
     ensures { result ≡ first (passes (all_seen turned (top force.width.bits) (take force.count (bands_in rows.now))) force.fixed) (suc (top force.width.bits) - start) start }
 {
-    let Found::At(p) = crate::leap::leap(rows, force, turned, start) else {
-        return Found::Nothing;
+    let Some(p) = crate::leap::leap(rows, force, turned, start) else {
+        return None;
     };
     match walk(rows, force, turned, p, 0) {
-        Walked::At(x) => Found::At(x),
-        Walked::Nothing => Found::Nothing,
-        Walked::Tired(_) => Found::Nothing,
+        Walked::At(x) => Some(x),
+        Walked::Nothing => None,
+        Walked::Tired(_) => None,
     }
 }
 
@@ -90,7 +89,7 @@ fn walk(
     let mut i = fewer(n);
     let mut left = patience;
     'words: loop {
-        let Found::At(x) = fixed.next(width, p) else {
+        let Some(x) = fixed.next(width, p) else {
             break;
         };
         p = x;

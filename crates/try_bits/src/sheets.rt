@@ -8,7 +8,7 @@ use trial::trial_direct::{direct, rules};
 use trial::trial_tally::Tally;
 use trial_sheets::trial_bits::masks::{Sought, Way, same};
 use trial_sheets::trial_bits::{called, masks};
-use word::{Found, Width};
+use word::Width;
 
 // The widest words that every rule is tried on by itself.
 const WIDEST: u64 = 4;
@@ -87,11 +87,11 @@ fn upwards(rules: [Rule; Rule::LIMIT], k: usize, width: Width, table: &[u8; dire
 }
 
 // One answer compared. Where rules clash, no word has their bits.
-fn next(fixed: Fixed, width: Width, p: u64, expected: Found) -> Tally
+fn next(fixed: Fixed, width: Width, p: u64, expected: Option<u64>) -> Tally
     requires { Narrow width.bits }
 {
     let Fixed::Bits { mask, value } = fixed else {
-        return Tally::one(same(Found::Nothing, expected));
+        return Tally::one(same(None, expected));
     };
     masks::compared(Way::Next, width, Sought { mask, value, p }, expected)
 }
@@ -116,17 +116,17 @@ fn downwards(
 }
 
 // Where a walk up stopped, or none where that is at the end.
-fn below(up: usize, end: usize) -> Found {
+fn below(up: usize, end: usize) -> Option<u64> {
     if up < end {
-        return Found::At(up as u64);
+        return Some(up as u64);
     }
-    Found::Nothing
+    None
 }
 
 // One below where a walk down stopped, or none where that is at 0.
-fn one_below(down: usize) -> Found {
+fn one_below(down: usize) -> Option<u64> {
     if down == 0 {
-        return Found::Nothing;
+        return None;
     }
-    Found::At(down as u64 - 1)
+    Some(down as u64 - 1)
 }

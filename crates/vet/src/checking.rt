@@ -15,7 +15,6 @@ use rule::Rule;
 use sheet::Sheet;
 use std::io::Error;
 use std::rt::Files;
-use word::Found;
 
 // Checks the chain against a sheet, whose rules have names, and gives the status.
 pub fn check(rt: &(impl Files + Print), sheet: Sheet, names: &[[u8; MOST]; Rule::LIMIT]) -> u8
@@ -29,7 +28,7 @@ pub fn check(rt: &(impl Files + Print), sheet: Sheet, names: &[[u8; MOST]; Rule:
     // Each turn moves a name on, or settles it; no run uses up the turns, since a loop has to end.
     for turn in 0..u64::MAX {
         let found = settling::found_of(sheet, links, read.links);
-        let Found::At(link) = settling::unshown(found, &links) else {
+        let Some(link) = settling::unshown(found, &links) else {
             return match words::tell(rt, found, names, &links) {
                 Ok(status) => status,
                 Err(error) => unsaid(error),

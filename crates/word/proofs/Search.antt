@@ -3,33 +3,33 @@
 -- left. Assumes nothing.
 use Rattle.std.proofs.Common.{◌≡◌, ℕ, zero, suc, ◌+◌, ◌<◌, ◌≤◌, Bool, true, false, ◌⊎◌, refl, ap, ◌∙◌, inl, inr, ⊎_elim, suc-le-suc, le_refl, arith}
 use native.Mathlib.Decide.{dec_lt}
-use Rattle.word.specs.declared.Found.TheVariants.{At, Nothing}
+use Rattle.std.specs.Prelude.{Some, None}
 use Rattle.word.specs.Search.{first, last, climb, count, sink}
 
 module _ (f : ℕ → Bool) where
   pub first_at : (k p x : ℕ) → p ≤ x → x < p + k → f x ≡ true → ((y : ℕ) → p ≤ y → y < x → f y ≡ false)
-      → first f k p ≡ At x
+      → first f k p ≡ Some x
   unfolding first
   first_at zero p x l h t n = absurd (omega arith)
   first_at (suc k) p x l h t n = go (dec_lt p x) (λ q. first_at k (suc p) x q (omega arith) t (λ y a. n y (omega arith)))
     where
-      go : Dec (p < x) → (p < x → first f k (suc p) ≡ At x) → first f (suc k) p ≡ At x
+      go : Dec (p < x) → (p < x → first f k (suc p) ≡ Some x) → first f (suc k) p ≡ Some x
       go (yes q) later = rw (n p (omega arith) q, first) (later q)
-      go (no q) later = let e : p ≡ x = omega arith in rw (ap f e ∙ t, first) (ap At e)
+      go (no q) later = let e : p ≡ x = omega arith in rw (ap f e ∙ t, first) (ap Some e)
 
-  pub first_none : (k p : ℕ) → ((y : ℕ) → p ≤ y → y < p + k → f y ≡ false) → first f k p ≡ Nothing
+  pub first_none : (k p : ℕ) → ((y : ℕ) → p ≤ y → y < p + k → f y ≡ false) → first f k p ≡ None
   unfolding first
   first_none zero p n = refl
   first_none (suc k) p n = rw (n p (omega arith) (omega arith), first) (first_none k (suc p) (λ y a b. n y (omega arith) (omega arith)))
 
-  pub last_at : (k x : ℕ) → x < k → f x ≡ true → ((y : ℕ) → x < y → y < k → f y ≡ false) → last f k ≡ At x
+  pub last_at : (k x : ℕ) → x < k → f x ≡ true → ((y : ℕ) → x < y → y < k → f y ≡ false) → last f k ≡ Some x
   unfolding last
   last_at zero x h t n = absurd (omega arith)
   last_at (suc k) x h t n = go (dec_lt x k) (λ q. last_at k x q t (λ y a b. n y a (omega arith)))
     where
-      go : Dec (x < k) → (x < k → last f k ≡ At x) → last f (suc k) ≡ At x
+      go : Dec (x < k) → (x < k → last f k ≡ Some x) → last f (suc k) ≡ Some x
       go (yes q) later = rw (n k q (omega arith), last) (later q)
-      go (no q) later = let e : k ≡ x = omega arith in rw (ap f e ∙ t, last) (ap At e)
+      go (no q) later = let e : k ≡ x = omega arith in rw (ap f e ∙ t, last) (ap Some e)
 
   pub climb_to : (k p q : ℕ) → p ≤ q → q ≤ p + k → ((y : ℕ) → p < y → y ≤ q → f y ≡ false) → (q ≡ p + k) ⊎ (f (suc q) ≡ true)
       → climb f k p ≡ q

@@ -2,8 +2,8 @@
 -- passes. By induction on the words left. Assumes nothing.
 use Rattle.std.proofs.Common.{◌≡◌, ℕ, zero, suc, ◌+◌, ◌<◌, ◌≤◌, Bool, true, false, sym, refl, ap, ◌∙◌, arith}
 use native.Mathlib.Decide.{ℕ_discrete}
-use Rattle.word.specs.declared.Found.{Found}
-use Rattle.word.specs.declared.Found.TheVariants.{At, Nothing}
+use Rattle.std.specs.Prelude.{Option}
+use Rattle.std.specs.Prelude.{Some, None}
 use Rattle.word.specs.Search.{first, last}
 
 module _ (f : ℕ → Bool) where
@@ -20,13 +20,13 @@ module _ (f : ℕ → Bool) where
     pub passes : f x ≡ true
     pub none_after : (y : ℕ) → x < y → y < k → f y ≡ false
 
-  pub first_is : (k p x : ℕ) → first f k p ≡ At x → First k p x
+  pub first_is : (k p x : ℕ) → first f k p ≡ Some x → First k p x
   unfolding first
   first_is zero p x e = let z : ◌≡◌ {A = ℕ} 0 1 = cc in absurd (omega arith)
   first_is (suc k) p x e = go (f p) refl e (first_is k (suc p) x)
     where
-      go : (s : Bool) → f p ≡ s → elim s as (λ (b : Bool). Found) [ true ↦ At p | false ↦ first f k (suc p) ] ≡ At x
-          → (first f k (suc p) ≡ At x → First k (suc p) x) → First (suc k) p x
+      go : (s : Bool) → f p ≡ s → elim s as (λ (b : Bool). Option ℕ) [ true ↦ Some p | false ↦ first f k (suc p) ] ≡ Some x
+          → (first f k (suc p) ≡ Some x → First k (suc p) x) → First (suc k) p x
       go true t e later =
           let q : p ≡ x = cc in
           record { low = omega arith; high = omega arith; passes = ap f (sym q) ∙ t; none_before = λ y a b. absurd (omega arith) }
@@ -38,13 +38,13 @@ module _ (f : ℕ → Bool) where
           before y a (yes h) rest = ap f h ∙ t
           before y a (no h) rest = rest (omega arith)
 
-  pub first_nothing : (k p : ℕ) → first f k p ≡ Nothing → (y : ℕ) → p ≤ y → y < p + k → f y ≡ false
+  pub first_nothing : (k p : ℕ) → first f k p ≡ None → (y : ℕ) → p ≤ y → y < p + k → f y ≡ false
   unfolding first
   first_nothing zero p e y a b = absurd (omega arith)
   first_nothing (suc k) p e y a b = go (f p) refl e (first_nothing k (suc p))
     where
-      go : (s : Bool) → f p ≡ s → elim s as (λ (b : Bool). Found) [ true ↦ At p | false ↦ first f k (suc p) ] ≡ Nothing
-          → (first f k (suc p) ≡ Nothing → (z : ℕ) → suc p ≤ z → z < suc p + k → f z ≡ false) → f y ≡ false
+      go : (s : Bool) → f p ≡ s → elim s as (λ (b : Bool). Option ℕ) [ true ↦ Some p | false ↦ first f k (suc p) ] ≡ None
+          → (first f k (suc p) ≡ None → (z : ℕ) → suc p ≤ z → z < suc p + k → f z ≡ false) → f y ≡ false
       go true t e later = let z : ◌≡◌ {A = ℕ} 0 1 = cc in absurd (omega arith)
       go false t e later = here (ℕ_discrete y p)
         where
@@ -52,13 +52,13 @@ module _ (f : ℕ → Bool) where
           here (yes h) = ap f h ∙ t
           here (no h) = later e y (omega arith) (omega arith)
 
-  pub last_is : (k x : ℕ) → last f k ≡ At x → Last k x
+  pub last_is : (k x : ℕ) → last f k ≡ Some x → Last k x
   unfolding last
   last_is zero x e = let z : ◌≡◌ {A = ℕ} 0 1 = cc in absurd (omega arith)
   last_is (suc k) x e = go (f k) refl e (last_is k x)
     where
-      go : (s : Bool) → f k ≡ s → elim s as (λ (b : Bool). Found) [ true ↦ At k | false ↦ last f k ] ≡ At x
-          → (last f k ≡ At x → Last k x) → Last (suc k) x
+      go : (s : Bool) → f k ≡ s → elim s as (λ (b : Bool). Option ℕ) [ true ↦ Some k | false ↦ last f k ] ≡ Some x
+          → (last f k ≡ Some x → Last k x) → Last (suc k) x
       go true t e later =
           let q : k ≡ x = cc in
           record { high = omega arith; passes = ap f (sym q) ∙ t; none_after = λ y a b. absurd (omega arith) }
@@ -70,13 +70,13 @@ module _ (f : ℕ → Bool) where
           after y b (yes h) rest = ap f h ∙ t
           after y b (no h) rest = rest (omega arith)
 
-  pub last_nothing : (k : ℕ) → last f k ≡ Nothing → (y : ℕ) → y < k → f y ≡ false
+  pub last_nothing : (k : ℕ) → last f k ≡ None → (y : ℕ) → y < k → f y ≡ false
   unfolding last
   last_nothing zero e y b = absurd (omega arith)
   last_nothing (suc k) e y b = go (f k) refl e (last_nothing k)
     where
-      go : (s : Bool) → f k ≡ s → elim s as (λ (b : Bool). Found) [ true ↦ At k | false ↦ last f k ] ≡ Nothing
-          → (last f k ≡ Nothing → (z : ℕ) → z < k → f z ≡ false) → f y ≡ false
+      go : (s : Bool) → f k ≡ s → elim s as (λ (b : Bool). Option ℕ) [ true ↦ Some k | false ↦ last f k ] ≡ None
+          → (last f k ≡ None → (z : ℕ) → z < k → f z ≡ false) → f y ≡ false
       go true t e later = let z : ◌≡◌ {A = ℕ} 0 1 = cc in absurd (omega arith)
       go false t e later = here (ℕ_discrete y k)
         where

@@ -1,14 +1,14 @@
 -- The wheel of words turned round, x to the top word less x: the first word that passes there is the last one here.
 -- Assumes nothing.
 use Rattle.std.proofs.Common.{◌≡◌, ℕ, zero, suc, ◌-◌, ◌≤◌, Bool, true, false, sym, refl, ap, ◌∙◌, ap₂, arith}
-use Rattle.word.specs.declared.Found.{Found}
-use Rattle.word.specs.declared.Found.TheVariants.{At, Nothing}
+use Rattle.std.specs.Prelude.{Option}
+use Rattle.std.specs.Prelude.{Some, None}
 use Rattle.word.specs.Search.{first, last}
 
 -- what was found on the wheel turned round, turned back
-abbrev pub back : ℕ → Found → Found
-back t (At x) = At (t - x)
-back t Nothing = Nothing
+abbrev pub back : ℕ → Option ℕ → Option ℕ
+back t (Some x) = Some (t - x)
+back t None = None
 
 module _ (t : ℕ) (f g : ℕ → Bool) (turn : (x : ℕ) → x ≤ t → g x ≡ f (t - x)) where
   mirrored : (k : ℕ) → k ≤ suc t → back t (first g k (suc t - k)) ≡ last f k
@@ -23,7 +23,7 @@ module _ (t : ℕ) (f g : ℕ → Bool) (turn : (x : ℕ) → x ≤ t → g x �
       here = turn (suc t - suc k) (omega arith) ∙ ap f again
 
       go : (s : Bool) → f k ≡ s → back t (first g k (suc t - k)) ≡ last f k → back t (first g (suc k) (suc t - suc k)) ≡ last f (suc k)
-      go true e i = rw (here ∙ e, e, first, last) (ap At again)
+      go true e i = rw (here ∙ e, e, first, last) (ap Some again)
       go false e i = let d : suc (suc t - suc k) ≡ suc t - k = omega arith in rw (here ∙ e, e, first, last) (rw d i)
 
   pub turned_back : (p : ℕ) → p ≤ t → last f (suc p) ≡ back t (first g (suc t - (t - p)) (t - p))

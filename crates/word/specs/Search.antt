@@ -1,17 +1,17 @@
 -- Search, word by word. A test says of each number whether it passes.
 use Rattle.std.specs.Prelude.{ℕ, zero, suc, Bool, true, false, List, [], ◌∷◌}
-use Rattle.word.specs.declared.Found.{Found}
-use Rattle.word.specs.declared.Found.TheVariants.{At, Nothing}
+use Rattle.std.specs.Prelude.{Option}
+use Rattle.std.specs.Prelude.{Some, None}
 
 -- the first of k words from p that passes
-unfoldable pub first : (ℕ → Bool) → ℕ → ℕ → Found
-first f zero p = Nothing
-first f (suc k) p = elim (f p) [ true ↦ At p | false ↦ first f k (suc p) ]
+unfoldable pub first : (ℕ → Bool) → ℕ → ℕ → Option ℕ
+first f zero p = None
+first f (suc k) p = elim (f p) [ true ↦ Some p | false ↦ first f k (suc p) ]
 
 -- the last word below k that passes
-unfoldable pub last : (ℕ → Bool) → ℕ → Found
-last f zero = Nothing
-last f (suc k) = elim (f k) [ true ↦ At k | false ↦ last f k ]
+unfoldable pub last : (ℕ → Bool) → ℕ → Option ℕ
+last f zero = None
+last f (suc k) = elim (f k) [ true ↦ Some k | false ↦ last f k ]
 
 -- how far up from p, by at most k words, one can go before a word passes
 unfoldable pub climb : (ℕ → Bool) → ℕ → ℕ → ℕ

@@ -8,8 +8,8 @@ use Prim.Native.Nat.{ℕ, suc, ◌-◌, ◌≤◌, ◌<◌}
 use native.Mathlib.Omega.{arith}
 use lib.Dec.{eqb, ltb}
 use lib.ListN.{length}
-use Rattle.word.specs.declared.Found.{Found}
-use Rattle.word.specs.declared.Found.TheVariants.{At, Nothing}
+use Rattle.std.specs.Prelude.{Option}
+use Rattle.std.specs.Prelude.{Some, None}
 use Rattle.word.specs.Word.{top}
 use Rattle.word.specs.Search.{first}
 use Rattle.word.proofs.Search.{first_same}
@@ -52,29 +52,29 @@ module _ (w : ℕ) (rs : List Rule) (i : ℕ) (l : Link) where
     unfolding by_reason
     no_rule e = reasons_as other e refl refl refl
 
-    pub bits_missed : eqb l.reason BITS ≡ true → first (meets7 w rs) (suc l.to - l.from) l.from ≡ Nothing → Yes ≡ first_broken (reason_clauses w rs i l)
+    pub bits_missed : eqb l.reason BITS ≡ true → first (meets7 w rs) (suc l.to - l.from) l.from ≡ None → Yes ≡ first_broken (reason_clauses w rs i l)
     unfolding by_reason
     bits_missed e n = reasons_as other e refl refl (none_pass (meets7 w rs) l.from l.to n)
 
-    pub bits_met : (x : ℕ) → eqb l.reason BITS ≡ true → first (meets7 w rs) (suc l.to - l.from) l.from ≡ At x → MeetsBits i x ≡ first_broken (reason_clauses w rs i l)
+    pub bits_met : (x : ℕ) → eqb l.reason BITS ≡ true → first (meets7 w rs) (suc l.to - l.from) l.from ≡ Some x → MeetsBits i x ≡ first_broken (reason_clauses w rs i l)
     unfolding by_reason smallest the_word
     bits_met x e n =
-        ap (λ (o : Found). MeetsBits i (the_word o)) (sym n) ∙ reasons_as other e refl refl (some_pass (meets7 w rs) l.from l.to x n)
+        ap (λ (o : Option ℕ). MeetsBits i (the_word o)) (sym n) ∙ reasons_as other e refl refl (some_pass (meets7 w rs) l.from l.to x n)
 
   module _ (named : ltb l.reason (length rs) ≡ true) where
     pub bit_rule : eqb r.form 7 ≡ true → BitRule i ≡ first_broken (reason_clauses w rs i l)
     unfolding by_reason
     bit_rule e = reasons_as named refl e refl refl
 
-    pub rule_missed : eqb l.reason BITS ≡ false → eqb r.form 7 ≡ false → first (meets w r) (suc l.to - l.from) l.from ≡ Nothing
+    pub rule_missed : eqb l.reason BITS ≡ false → eqb r.form 7 ≡ false → first (meets w r) (suc l.to - l.from) l.from ≡ None
         → Yes ≡ first_broken (reason_clauses w rs i l)
     unfolding by_reason
     rule_missed b e n = reasons_as named b e (none_pass (meets w r) l.from l.to n) refl
 
-    pub rule_met : (x : ℕ) → eqb r.form 7 ≡ false → first (meets w r) (suc l.to - l.from) l.from ≡ At x → MeetsRule i x ≡ first_broken (reason_clauses w rs i l)
+    pub rule_met : (x : ℕ) → eqb r.form 7 ≡ false → first (meets w r) (suc l.to - l.from) l.from ≡ Some x → MeetsRule i x ≡ first_broken (reason_clauses w rs i l)
     unfolding by_reason smallest the_word
     rule_met x e n =
-        ap (λ (o : Found). MeetsRule i (the_word o)) (sym n) ∙ reasons_as named refl e (some_pass (meets w r) l.from l.to x n) refl
+        ap (λ (o : Option ℕ). MeetsRule i (the_word o)) (sym n) ∙ reasons_as named refl e (some_pass (meets w r) l.from l.to x n) refl
 
 -- ---- the words that bands and bits find
 

@@ -15,7 +15,7 @@ use rule::Rule;
 use rule::band::Band;
 use rule::bits::Fixed;
 use search::rows::InForce;
-use word::{Found, Width};
+use word::Width;
 
 // Whether a link at place i of the list may start at a word: the first at 0, a later one at most one past the largest end so far.
 // That end may be the largest number there is, so nothing is added to it.
@@ -48,7 +48,7 @@ fn lacks(fixed: Fixed, width: Width, first: u64, last: u64) -> bool
     requires tidy { Tidy fixed × (first ≤ last) × (last ≤ top width.bits) }
     ensures { result ≡ every_word (λ (x : ℕ). not (has_bits fixed x)) first last }
 {
-    let Found::At(next) = fixed.next(width, first) else {
+    let Some(next) = fixed.next(width, first) else {
         return true;
     };
     last < next

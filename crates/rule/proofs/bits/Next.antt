@@ -8,7 +8,7 @@ use borrow.Author.Tests.{eq-eqb, ne_eqb}
 use lib.Bits.{bit_and, bit_or, and_comm, and_le_l, and_mask, or_lt}
 use lib.Count.{count_leading_zeros, leading_top, leading_length}
 use lib.Pow.{pow_mono, split}
-use Rattle.word.specs.declared.Found.TheVariants.{At, Nothing}
+use Rattle.std.specs.Prelude.{Some, None}
 use Rattle.word.specs.Word.{top}
 use Rattle.word.specs.Search.{first}
 use Rattle.word.proofs.Cut.{top_shifted}
@@ -24,7 +24,7 @@ pub tidy_value : (f : Fixed) (m v : ℕ) → f ≡ Bits m v → Tidy f → bit_a
 unfolding Tidy
 tidy_value f m v e t = subst Tidy e t
 
-pub clash_none : (n p : ℕ) → first (has_bits Clash) n p ≡ Nothing
+pub clash_none : (n p : ℕ) → first (has_bits Clash) n p ≡ None
 unfolding has_bits
 clash_none n p = first_none (has_bits Clash) n p (λ y l h. refl)
 
@@ -64,12 +64,12 @@ pub missing_short : (a m : ℕ) → (missing a m ≡ 0 → ⊥) → m < 2 ^ 64 �
 missing_short a m n h = omega (arith, (leading_top 64 (missing a m) (omega arith) (omega (arith, and_le_l m (2 ^ 64 - 1 - a)))).1)
 
 module _ (w m v p : ℕ) where
-  none : ((y : ℕ) → p ≤ y → y ≤ top w → bit_and y m ≡ v → ⊥) → first (has_bits (Bits m v)) (suc (top w) - p) p ≡ Nothing
+  none : ((y : ℕ) → p ≤ y → y ≤ top w → bit_and y m ≡ v → ⊥) → first (has_bits (Bits m v)) (suc (top w) - p) p ≡ None
   unfolding has_bits
   none n = first_none (has_bits (Bits m v)) _ p (λ y l h. ne_eqb (bit_and y m) v (n y l (omega arith)))
 
   -- with the mask's bits set, a word from p on would no longer fit the machine's
-  pub past : w ≤ 64 → m < 2 ^ 64 → 2 ^ 64 ≤ p + (m - v) → first (has_bits (Bits m v)) (suc (top w) - p) p ≡ Nothing
+  pub past : w ≤ 64 → m < 2 ^ 64 → 2 ^ 64 ≤ p + (m - v) → first (has_bits (Bits m v)) (suc (top w) - p) p ≡ None
   past h l o =
       none
       (λ y b t e. omega (arith, or_adds y m v e, or_lt 64 y m (omega (arith, top-suc w, pow_mono {i = w} {j = 64} h)) l))
@@ -78,24 +78,24 @@ module _ (w m v p : ℕ) where
     least : (y : ℕ) → p ≤ y → bit_and y m ≡ v → g ≤ y + (m - v)
     least y l e = let f = or_adds y m v e in omega (arith, next.least (bit_or y m) (omega arith) (or_twice y m))
 
-    pub none_next : top w < g - (m - v) → first (has_bits (Bits m v)) (suc (top w) - p) p ≡ Nothing
+    pub none_next : top w < g - (m - v) → first (has_bits (Bits m v)) (suc (top w) - p) p ≡ None
     none_next h = none (λ y l t e. omega (arith, least y l e))
 
-    pub found_next : bit_and v m ≡ v → g - (m - v) ≤ top w → first (has_bits (Bits m v)) (suc (top w) - p) p ≡ At (g - (m - v))
+    pub found_next : bit_and v m ≡ v → g - (m - v) ≤ top w → first (has_bits (Bits m v)) (suc (top w) - p) p ≡ Some (g - (m - v))
     unfolding has_bits
     found_next t h =
         first_at (has_bits (Bits m v)) _ p (g - (m - v)) (omega arith) (omega arith) (eq-eqb _ v (or_takes g m v next.whole t))
         (λ y l b. ne_eqb (bit_and y m) v (λ e. omega (arith, least y l e)))
 
-  pub found_here : NextWhole (p + (m - v)) m (p + (m - v)) → bit_and v m ≡ v → p ≤ top w → first (has_bits (Bits m v)) (suc (top w) - p) p ≡ At p
-  found_here n t h = let e : p + (m - v) - (m - v) ≡ p = omega arith in found_next _ n t (omega arith) ∙ ap At e
+  pub found_here : NextWhole (p + (m - v)) m (p + (m - v)) → bit_and v m ≡ v → p ≤ top w → first (has_bits (Bits m v)) (suc (top w) - p) p ≡ Some p
+  found_here n t h = let e : p + (m - v) - (m - v) ≡ p = omega arith in found_next _ n t (omega arith) ∙ ap Some e
 
 -- above a word that has the bits: with the mask's bits set it has the whole mask, and one more is where the next is sought
 module _ (m v x : ℕ) (has : bit_and x m ≡ v) where
   set_mask : suc (bit_or x m) ≡ suc x + (m - v)
   set_mask = omega (arith, or_adds x m v has)
 
-  pub none_after : m < 2 ^ 64 → bit_or x m ≡ 2 ^ 64 - 1 → first (has_bits (Bits m v)) (suc (top 64) - suc x) (suc x) ≡ Nothing
+  pub none_after : m < 2 ^ 64 → bit_or x m ≡ 2 ^ 64 - 1 → first (has_bits (Bits m v)) (suc (top 64) - suc x) (suc x) ≡ None
   none_after h e = past 64 m v (suc x) (omega arith) h (omega (arith, set_mask))
 
   next_after : NextWhole (suc x + (m - v)) m (bit_or (bit_or x m + 1) m)
@@ -107,5 +107,5 @@ module _ (m v x : ℕ) (has : bit_and x m ≡ v) where
   after_gap = omega (arith, next_after.high)
 
   pub found_after : bit_and v m ≡ v → m < 2 ^ 64 → bit_or x m + 1 < 2 ^ 64
-      → first (has_bits (Bits m v)) (suc (top 64) - suc x) (suc x) ≡ At (bit_or (bit_or x m + 1) m - (m - v))
+      → first (has_bits (Bits m v)) (suc (top 64) - suc x) (suc x) ≡ Some (bit_or (bit_or x m + 1) m - (m - v))
   found_after t h l = found_next 64 m v (suc x) _ next_after t (omega (arith, or_lt 64 (bit_or x m + 1) m l h, top-suc 64))

@@ -8,7 +8,7 @@ use native.Mathlib.Decide.{dec_lt}
 use native.Mathlib.Omega.{arith}
 use lib.ListN.{get_or, length, take}
 use lib.Seq.{take-suc}
-use Rattle.word.specs.declared.Found.TheVariants.{At, Nothing}
+use Rattle.std.specs.Prelude.{Some, None}
 use Rattle.word.specs.Search.{climb, first}
 use Rattle.word.proofs.Search.{first_at, first_none}
 use Rattle.word.proofs.Climb.{all_miss, climb_is}
@@ -59,11 +59,11 @@ module _ (bs : List Band) (f : Fixed) (s : ℕ) where
   unfolding passes
   past_bits p q n h = further p q n (λ x a b. ap (λ (t : Bool). all_hold bs x && t) (h x a b) ∙ and-false (all_hold bs x))
 
-  pub found_none : (t : ℕ) → s ≤ t → NoneFrom bs f s (suc t) → Nothing ≡ first (passes bs f) (suc t - s) s
+  pub found_none : (t : ℕ) → s ≤ t → NoneFrom bs f s (suc t) → None ≡ first (passes bs f) (suc t - s) s
   found_none t l n = sym (first_none (passes bs f) (suc t - s) s (λ y a b. n y a (omega arith)))
 
   pub found_at : (t p : ℕ) → s ≤ p → p ≤ t → NoneFrom bs f s p → all_hold bs p ≡ true → has_bits f p ≡ true
-      → At p ≡ first (passes bs f) (suc t - s) s
+      → Some p ≡ first (passes bs f) (suc t - s) s
   unfolding passes
   found_at t p l h n a b = sym (first_at (passes bs f) (suc t - s) s p l (omega arith) (ap₂ ◌&&◌ a b) n)
 
@@ -71,7 +71,7 @@ module _ (bs : List Band) (f : Fixed) (s : ℕ) where
   pub past_next : (p x k : ℕ) → NoneFrom bs f s p → First (has_bits f) k p x → NoneFrom bs f s x
   past_next p x k n found = past_bits p x n found.none_before
 
-  pub past_all : (t p : ℕ) → p ≤ t → NoneFrom bs f s p → first (has_bits f) (suc t - p) p ≡ Nothing → NoneFrom bs f s (suc t)
+  pub past_all : (t p : ℕ) → p ≤ t → NoneFrom bs f s p → first (has_bits f) (suc t - p) p ≡ None → NoneFrom bs f s (suc t)
   past_all t p h n e = past_bits p (suc t) n (λ x a b. first_nothing (has_bits f) (suc t - p) p e x a (omega arith))
 
 -- the end of a run lies between p and the top word
@@ -87,17 +87,17 @@ past_run bs f s t p r i d h word below fails e =
     past_band bs f s p (r + 1) i d h below
     (λ x a b. all_miss (holds (get_or bs i d)) (climb_is (holds (get_or bs i d)) (t - p) p t (omega arith)) fails x a (omega arith))
 
-at_same : (q w : ℕ) → At q ≡ At w → q ≡ w
+at_same : (q w : ℕ) → Some q ≡ Some w → q ≡ w
 at_same q w e = cc
 
-at_nothing : (q : ℕ) → At q ≡ Nothing → ◌≡◌ {A = ℕ} 0 1
+at_nothing : (q : ℕ) → Some q ≡ None → ◌≡◌ {A = ℕ} 0 1
 at_nothing q e = cc
 
 module _ (bs : List Band) (f : Fixed) (t s : ℕ) where
   -- a leap to a word, and to nothing
-  pub leapt_to : (q : ℕ) → s ≤ q → q ≤ t → NoneFrom bs f s q → Leapt bs f t s (At q)
+  pub leapt_to : (q : ℕ) → s ≤ q → q ≤ t → NoneFrom bs f s q → Leapt bs f t s (Some q)
   leapt_to q l h n =
       record { word = λ w e. subst (λ (v : ℕ). (s ≤ v) × (v ≤ t) × NoneFrom bs f s v) (at_same q w e) (l, h, n); nothing = λ e. absurd (let z = at_nothing q e in omega arith) }
 
-  pub leapt_out : NoneFrom bs f s (suc t) → Leapt bs f t s Nothing
+  pub leapt_out : NoneFrom bs f s (suc t) → Leapt bs f t s None
   leapt_out n = record { word = λ w e. absurd (let z = at_nothing w (sym e) in omega arith); nothing = λ e. n }

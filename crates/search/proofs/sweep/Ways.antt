@@ -3,8 +3,8 @@ use mathlib.Core.Path.{◌≡◌, sym, ◌∙◌, subst}
 use mathlib.Core.List.{List}
 use Prim.Native.Nat.{ℕ, suc, ◌-◌, ◌≤◌}
 use native.Mathlib.Omega.{arith}
-use Rattle.word.specs.declared.Found.{Found}
-use Rattle.word.specs.declared.Found.TheVariants as found
+use Rattle.std.specs.Prelude.{Option}
+use Rattle.std.specs.Prelude.{Some, None}
 use Rattle.word.specs.Search.{first}
 use Rattle.word.proofs.Search.{first_at, first_none}
 use Rattle.word.proofs.Searched.{first_is, first_nothing}
@@ -37,16 +37,16 @@ none : {A : Type 0} → ◌≡◌ {A = ℕ} 0 1 → A
 none e = absurd (omega arith)
 
 module _ (bs : List Band) (f : Fixed) (t s k : ℕ) where
-  pub walks_at : (x : ℕ) → found.At x ≡ first (passes bs f) (suc t - s) s → Walks bs f t s k (At x)
+  pub walks_at : (x : ℕ) → Some x ≡ first (passes bs f) (suc t - s) s → Walks bs f t s k (At x)
   walks_at x h =
       record {
-        at = λ y e. subst (λ (z : ℕ). found.At z ≡ first (passes bs f) (suc t - s) s) (at_same x y e) h;
+        at = λ y e. subst (λ (z : ℕ). Some z ≡ first (passes bs f) (suc t - s) s) (at_same x y e) h;
         nothing = λ e. none (at_nothing x e);
         tired = λ p e. none (at_tired x p e);
         patient = λ z p e. at_tired x p e;
       }
 
-  pub walks_none : (r : Walked) → r ≡ Nothing → found.Nothing ≡ first (passes bs f) (suc t - s) s → Walks bs f t s k r
+  pub walks_none : (r : Walked) → r ≡ Nothing → None ≡ first (passes bs f) (suc t - s) s → Walks bs f t s k r
   walks_none r n h =
       record {
         at = λ y e. none (at_nothing y (sym e ∙ n));
@@ -65,11 +65,11 @@ module _ (bs : List Band) (f : Fixed) (t s k : ℕ) where
       }
 
 -- where no word from s on below p passes, a search from p finds what one from s does
-pub same_found : (bs : List Band) (f : Fixed) (t s p : ℕ) (r : Found) → s ≤ p → p ≤ t → NoneFrom bs f s p
+pub same_found : (bs : List Band) (f : Fixed) (t s p : ℕ) (r : Option ℕ) → s ≤ p → p ≤ t → NoneFrom bs f s p
     → r ≡ first (passes bs f) (suc t - p) p → r ≡ first (passes bs f) (suc t - s) s
-same_found bs f t s p (found.At x) l h n e =
+same_found bs f t s p (Some x) l h n e =
     let w = first_is (passes bs f) (suc t - p) p x (sym e) in
     sym (first_at (passes bs f) (suc t - s) s x (omega (arith, w.low)) (omega (arith, w.high)) w.passes (further bs f s p x n w.none_before))
-same_found bs f t s p found.Nothing l h n e =
+same_found bs f t s p None l h n e =
     sym (first_none (passes bs f) (suc t - s) s
     (λ y a b. further bs f s p (suc t) n (λ x c d. first_nothing (passes bs f) (suc t - p) p (sym e) x c (omega arith)) y a (omega arith)))

@@ -7,8 +7,8 @@ use Prim.Native.Nat.{ℕ, ◌^◌, ◌≤◌, ◌<◌}
 use native.Mathlib.Decide.{ℕ_discrete}
 use native.Mathlib.Omega.{arith}
 use borrow.Author.Tests.{eq-eqb, ne_eqb}
-use Rattle.word.specs.declared.Found.{Found}
-use Rattle.word.specs.declared.Found.TheVariants.{At, Nothing}
+use Rattle.std.specs.Prelude.{Option}
+use Rattle.std.specs.Prelude.{Some, None}
 use Rattle.word.specs.Search.{first, last}
 use Rattle.word.proofs.Searched.{first_is, first_nothing, last_is, last_nothing}
 use Rattle.word.proofs.Widths.{top-suc}
@@ -39,7 +39,7 @@ module _ (w : ℕ) (rs : List Rule) where
   misses x f h = false≢true (sym (f (omega (arith, top-suc w))) ∙ h.meets)
 
   -- what the two searches find
-  found : (a b : ℕ) → first (fits w rs) (2 ^ w) 0 ≡ At a → last (fits w rs) (2 ^ w) ≡ At b → Ends a b
+  found : (a b : ℕ) → first (fits w rs) (2 ^ w) 0 ≡ Some a → last (fits w rs) (2 ^ w) ≡ Some b → Ends a b
   found a b e d =
       let f = first_is (fits w rs) (2 ^ w) 0 a e in
       let l = last_is (fits w rs) (2 ^ w) b d in
@@ -56,14 +56,14 @@ module _ (w : ℕ) (rs : List Rule) where
   unfolding kept verdict_of
   shape = go (first (fits w rs) (2 ^ w) 0) (last (fits w rs) (2 ^ w)) refl refl
     where
-      some : (a b : ℕ) → Ends a b → Dec (a ≡ b) → Shape (verdict_of (At a) (At b))
+      some : (a b : ℕ) → Ends a b → Dec (a ≡ b) → Shape (verdict_of (Some a) (Some b))
       some a b s (yes q) = rw (eq-eqb a b q) (one_word q s)
       some a b s (no q) = let h : a < b = omega (arith, s.between a s.low) in rw (ne_eqb a b q) (more_words h s)
 
-      go : (a b : Found) → first (fits w rs) (2 ^ w) 0 ≡ a → last (fits w rs) (2 ^ w) ≡ b → Shape (verdict_of a b)
-      go Nothing b e d = no_word (λ x. misses x (λ i. first_nothing (fits w rs) (2 ^ w) 0 e x (omega arith) (omega arith)))
-      go (At a) Nothing e d = no_word (λ x. misses x (last_nothing (fits w rs) (2 ^ w) d x))
-      go (At a) (At b) e d = some a b (found a b e d) (ℕ_discrete a b)
+      go : (a b : Option ℕ) → first (fits w rs) (2 ^ w) 0 ≡ a → last (fits w rs) (2 ^ w) ≡ b → Shape (verdict_of a b)
+      go None b e d = no_word (λ x. misses x (λ i. first_nothing (fits w rs) (2 ^ w) 0 e x (omega arith) (omega arith)))
+      go (Some a) None e d = no_word (λ x. misses x (last_nothing (fits w rs) (2 ^ w) d x))
+      go (Some a) (Some b) e d = some a b (found a b e d) (ℕ_discrete a b)
 
   right : {k : Kept} → Shape k → Right w rs k
   right (no_word n) =

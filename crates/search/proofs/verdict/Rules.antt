@@ -7,8 +7,8 @@ use Prim.Native.Nat.{ℕ, zero, suc, ◌^◌, ◌≤◌, ◌<◌}
 use native.Mathlib.Omega.{arith}
 use lib.Dec.{eqb}
 use Rattle.word.specs.Word.{top}
-use Rattle.word.specs.declared.Found.{Found}
-use Rattle.word.specs.declared.Found.TheVariants.{At, Nothing}
+use Rattle.std.specs.Prelude.{Option}
+use Rattle.std.specs.Prelude.{Some, None}
 use Rattle.word.specs.Search.{first, last}
 use Rattle.word.proofs.Search.{first_same}
 use Rattle.word.proofs.Searched.{first_is, first_nothing, last_is, last_nothing}
@@ -71,16 +71,16 @@ module _ (w : ℕ) (width : 1 ≤ w) where
     unfolding kept verdict_of
     kept_bounds = go (first (fits w rs) (2 ^ w) 0) (last (fits w rs) (2 ^ w)) refl refl
       where
-        go : (a b : Found) → first (fits w rs) (2 ^ w) 0 ≡ a → last (fits w rs) (2 ^ w) ≡ b
+        go : (a b : Option ℕ) → first (fits w rs) (2 ^ w) 0 ≡ a → last (fits w rs) (2 ^ w) ≡ b
             → Bounds w (map (band_of w) (rs ++ us)) (fixed_bits (rs ++ us)) (verdict_of a b)
-        go Nothing b e d =
+        go None b e d =
             record {
               none = λ z x h. misses x h (first_nothing (fits w rs) (2 ^ w) 0 e x (omega arith) (omega (arith, top-suc w)));
               ends = λ n. absurd (n refl);
             }
-        go (At a) Nothing e d =
+        go (Some a) None e d =
             record { none = λ z x h. misses x h (last_nothing (fits w rs) (2 ^ w) d x (omega (arith, top-suc w))); ends = λ n. absurd (n refl) }
-        go (At a) (At b) e d =
+        go (Some a) (Some b) e d =
             let i = first_is (fits w rs) (2 ^ w) 0 a e in
             let l = last_is (fits w rs) (2 ^ w) b d in
             record {

@@ -7,8 +7,8 @@ use Prim.Native.Nat.{ℕ, suc, ◌-◌, ◌≤◌, ◌<◌}
 use native.Mathlib.Nat.{sub_self}
 use native.Mathlib.Decide.{dec_lt}
 use native.Mathlib.Omega.{arith}
-use Rattle.word.specs.declared.Found.{Found}
-use Rattle.word.specs.declared.Found.TheVariants.{At, Nothing}
+use Rattle.std.specs.Prelude.{Option}
+use Rattle.std.specs.Prelude.{Some, None}
 use Rattle.word.specs.Word.{top}
 use Rattle.word.specs.Search.{first, last}
 use Rattle.word.proofs.Search.{first_at, first_none}
@@ -31,11 +31,11 @@ module _ (f : ℕ → Bool) (t : ℕ) where
   first_later : (low : ℕ) → low ≤ t → ((x : ℕ) → x < low → f x ≡ false) → first f (suc t - low) low ≡ first f (suc t) 0
   first_later low h n = go (first f (suc t - low) low) refl
     where
-      go : (r : Found) → first f (suc t - low) low ≡ r → r ≡ first f (suc t) 0
-      go (At x) e =
+      go : (r : Option ℕ) → first f (suc t - low) low ≡ r → r ≡ first f (suc t) 0
+      go (Some x) e =
           let i = first_is f (suc t - low) low x e in
           sym (first_at f (suc t) 0 x (omega arith) (omega (arith, i.high)) i.passes (λ y a b. either y low (n y) (λ c. i.none_before y c b)))
-      go Nothing e =
+      go None e =
           sym (first_none f (suc t) 0 (λ y a b. either y low (n y) (λ c. first_nothing f (suc t - low) low e y c (omega arith))))
 
 module _ (w : ℕ) (bs : List Band) (f : Fixed) (low high : ℕ) (ends : Ends w bs f low high) where
@@ -60,4 +60,4 @@ module _ (w : ℕ) (bs : List Band) (f : Fixed) (low high : ℕ) (ends : Ends w 
 pub none_kept : (w : ℕ) (bs : List Band) (f : Fixed) → ((x : ℕ) → x ≤ top w → passes bs f x ≡ false) → keeps 0 0 0 ≡ kept_by w bs f
 unfolding kept_by verdict_of
 none_kept w bs f n =
-    ap (λ (r : Found). verdict_of r (last (passes bs f) (suc (top w)))) (sym (first_none (passes bs f) (suc (top w)) 0 (λ y a b. n y (omega arith))))
+    ap (λ (r : Option ℕ). verdict_of r (last (passes bs f) (suc (top w)))) (sym (first_none (passes bs f) (suc (top w)) 0 (λ y a b. n y (omega arith))))

@@ -6,8 +6,8 @@ use mathlib.Core.List.{List, [], ◌∷◌, map, ◌++◌}
 use Prim.Native.Nat.{ℕ, suc, ◌^◌, ◌≤◌}
 use native.Mathlib.Omega.{arith}
 use lib.Dec.{eqb}
-use Rattle.word.specs.declared.Found.{Found}
-use Rattle.word.specs.declared.Found.TheVariants.{At, Nothing}
+use Rattle.std.specs.Prelude.{Option}
+use Rattle.std.specs.Prelude.{Some, None}
 use Rattle.word.specs.Word.{top}
 use Rattle.word.specs.Search.{first, last}
 use Rattle.word.proofs.Search.{first_at, last_at}
@@ -40,10 +40,10 @@ kept_ends : (w : ℕ) (rs : List Rule) → ((kept w rs).verdict ≡ 0 → ⊥) �
 unfolding kept verdict_of
 kept_ends w rs = go (first (fits w rs) (2 ^ w) 0) (last (fits w rs) (2 ^ w)) refl refl
   where
-    go : (a b : Found) → first (fits w rs) (2 ^ w) 0 ≡ a → last (fits w rs) (2 ^ w) ≡ b → ((verdict_of a b).verdict ≡ 0 → ⊥) → Ends w rs (verdict_of a b)
-    go Nothing b e d n = absurd (n refl)
-    go (At a) Nothing e d n = absurd (n refl)
-    go (At a) (At b) e d n =
+    go : (a b : Option ℕ) → first (fits w rs) (2 ^ w) 0 ≡ a → last (fits w rs) (2 ^ w) ≡ b → ((verdict_of a b).verdict ≡ 0 → ⊥) → Ends w rs (verdict_of a b)
+    go None b e d n = absurd (n refl)
+    go (Some a) None e d n = absurd (n refl)
+    go (Some a) (Some b) e d n =
         let f = first_is (fits w rs) (2 ^ w) 0 a e in
         let l = last_is (fits w rs) (2 ^ w) b d in
         record {

@@ -11,7 +11,6 @@ use crate::rows::InForce;
 use crate::verdict::Kept;
 use rule::Rule;
 use rule::band::Run;
-use word::Found;
 
 // What is kept where no word passes.
 fn none() -> Kept
@@ -33,7 +32,7 @@ pub fn solve(rows: &[[u64; crate::rows::NUMBERS]; Rule::LIMIT], force: InForce, 
     requires ends { Ends force.width.bits (take force.count (bands_in rows.now)) force.fixed words.from words.to }
     ensures { result ≡ kept_by force.width.bits (take force.count (bands_in rows.now)) force.fixed }
 {
-    let Found::At(smallest) = crate::sweep::sweep(rows, force, false, words.from) else {
+    let Some(smallest) = crate::sweep::sweep(rows, force, false, words.from) else {
         return none();
     };
     let fixed = force.fixed;
@@ -44,7 +43,7 @@ pub fn solve(rows: &[[u64; crate::rows::NUMBERS]; Rule::LIMIT], force: InForce, 
         fixed: fixed.turned(),
         width,
     };
-    let Found::At(last) = crate::sweep::sweep(rows, mirrored, true, top - words.to) else {
+    let Some(last) = crate::sweep::sweep(rows, mirrored, true, top - words.to) else {
         return none();
     };
     let largest = top - last;

@@ -3,7 +3,7 @@
 use crate::trial_wheel::meaning;
 use crate::trial_wheel::wheel::Wheel;
 use rule::Rule;
-use word::{Found, Width};
+use word::Width;
 
 // The most rules of a sheet that is looked at whole.
 pub const FEW: usize = 6;
@@ -45,14 +45,14 @@ fn meets_all(rules: [Rule; FEW], wheel: Wheel, x: u64) -> bool {
 }
 
 // The smallest word at or above p: from the largest, each free bit is cleared, the highest first, where p is not passed.
-pub fn next(rules: [Rule; FEW], wheel: Wheel, p: u64) -> Found {
+pub fn next(rules: [Rule; FEW], wheel: Wheel, p: u64) -> Option<u64> {
     let join = joined(rules, wheel);
     let mut x = join.least | join.free;
     if x < p {
-        return Found::Nothing;
+        return None;
     }
     if !meets_all(rules, wheel, x) {
-        return Found::Nothing;
+        return None;
     }
     for k in 0..BITS {
         let bit = join.free & 1 << (BITS - 1 - k);
@@ -60,18 +60,18 @@ pub fn next(rules: [Rule; FEW], wheel: Wheel, p: u64) -> Found {
             x = x ^ bit;
         }
     }
-    Found::At(x)
+    Some(x)
 }
 
 // The largest word at or below p: from the smallest, each free bit is set, the highest first, where p is not passed.
-pub fn prev(rules: [Rule; FEW], wheel: Wheel, p: u64) -> Found {
+pub fn prev(rules: [Rule; FEW], wheel: Wheel, p: u64) -> Option<u64> {
     let join = joined(rules, wheel);
     let mut x = join.least;
     if p < x {
-        return Found::Nothing;
+        return None;
     }
     if !meets_all(rules, wheel, x) {
-        return Found::Nothing;
+        return None;
     }
     for k in 0..BITS {
         let bit = join.free & 1 << (BITS - 1 - k);
@@ -79,5 +79,5 @@ pub fn prev(rules: [Rule; FEW], wheel: Wheel, p: u64) -> Found {
             x = x | bit;
         }
     }
-    Found::At(x)
+    Some(x)
 }

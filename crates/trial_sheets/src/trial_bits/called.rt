@@ -7,10 +7,16 @@ use crate::expected::NUMBERS;
 use crate::trial_editions::asked;
 use rule::Rule;
 use trial::trial_direct::rules::rule;
-use word::{Edition, Found, Width};
+use word::{Edition, Width};
 
 // Whether that is what is expected of the first k rules. A refusal is not.
-pub fn at_most(rules: [Rule; Rule::LIMIT], k: usize, width: Width, p: u64, expected: Found) -> bool
+pub fn at_most(
+    rules: [Rule; Rule::LIMIT],
+    k: usize,
+    width: Width,
+    p: u64,
+    expected: Option<u64>,
+) -> bool
     requires { k < RULES }
 {
     let mut all = rules;
@@ -19,10 +25,10 @@ pub fn at_most(rules: [Rule; Rule::LIMIT], k: usize, width: Width, p: u64, expec
     let answer = asked::answered(Edition::New, width.bits, all, k + 1, &mut numbers);
     let verdict = answer.verdict;
     match expected {
-        Found::At(x) => match verdict {
+        Some(x) => match verdict {
             1..=2 => answer.largest == x,
             _ => false,
         },
-        Found::Nothing => verdict == 0,
+        None => verdict == 0,
     }
 }

@@ -7,7 +7,7 @@ use rule::Rule;
 use rule::bits::Fixed;
 use trial::trial_direct::rules::rule;
 use trial::trial_tally::Tally;
-use word::{Found, Width};
+use word::Width;
 
 // The widest words that every mask is tried on.
 const WIDEST: u64 = 5;
@@ -56,7 +56,7 @@ fn over_numbers(way: Way, width: Width) -> Tally
 
 // One answer compared, or none where it may not be looked for: a value has no bit outside its mask, p is a word, and looked
 // for downwards, by calls, so is the mask.
-pub fn compared(way: Way, width: Width, sought: Sought, expected: Found) -> Tally
+pub fn compared(way: Way, width: Width, sought: Sought, expected: Option<u64>) -> Tally
     requires { IsWidth width.bits }
 {
     let mask = sought.mask;
@@ -81,20 +81,20 @@ pub fn compared(way: Way, width: Width, sought: Sought, expected: Found) -> Tall
 }
 
 // Whether two searches found the same.
-pub fn same(found: Found, expected: Found) -> bool {
+pub fn same(found: Option<u64>, expected: Option<u64>) -> bool {
     match found {
-        Found::At(x) => match expected {
-            Found::At(y) => x == y,
-            Found::Nothing => false,
+        Some(x) => match expected {
+            Some(y) => x == y,
+            None => false,
         },
-        Found::Nothing => match expected {
-            Found::At(y) => false,
-            Found::Nothing => true,
+        None => match expected {
+            Some(y) => false,
+            None => true,
         },
     }
 }
 
-fn searched(way: Way, width: Width, sought: Sought) -> Found
+fn searched(way: Way, width: Width, sought: Sought) -> Option<u64>
     requires { (1 ≤ width.bits) × (width.bits < 6) }
 {
     let p = sought.p;
@@ -105,24 +105,24 @@ fn searched(way: Way, width: Width, sought: Sought) -> Found
 }
 
 // The first word from p up to below the end that has the bits.
-fn up(mask: u64, value: u64, p: u64, end: u64) -> Found {
+fn up(mask: u64, value: u64, p: u64, end: u64) -> Option<u64> {
     for x in p..end {
         if x & mask == value {
-            return Found::At(x);
+            return Some(x);
         }
     }
-    Found::Nothing
+    None
 }
 
 // The first word from p down that has the bits.
-fn down(mask: u64, value: u64, p: u64) -> Found {
+fn down(mask: u64, value: u64, p: u64) -> Option<u64> {
     let mut x = p;
     loop {
         if x & mask == value {
-            return Found::At(x);
+            return Some(x);
         }
         if x == 0 {
-            return Found::Nothing;
+            return None;
         }
         x -= 1;
     }
@@ -130,14 +130,14 @@ fn down(mask: u64, value: u64, p: u64) -> Found {
 
 // Wrong expectations, on the odd words: from 2 the next one is 3, and the one before is 1; and from 0 downwards there is none.
 pub fn known() -> Tally {
-    wrong(Way::Next, 2, Found::At(2))
-        .plus(wrong(Way::Next, 2, Found::Nothing))
-        .plus(wrong(Way::Prev, 2, Found::At(2)))
-        .plus(wrong(Way::Prev, 2, Found::Nothing))
-        .plus(wrong(Way::Prev, 0, Found::At(0)))
+    wrong(Way::Next, 2, Some(2))
+        .plus(wrong(Way::Next, 2, None))
+        .plus(wrong(Way::Prev, 2, Some(2)))
+        .plus(wrong(Way::Prev, 2, None))
+        .plus(wrong(Way::Prev, 0, Some(0)))
 }
 
-fn wrong(way: Way, p: u64, expected: Found) -> Tally {
+fn wrong(way: Way, p: u64, expected: Option<u64>) -> Tally {
     let sought = Sought {
         mask: 1,
         value: 1,

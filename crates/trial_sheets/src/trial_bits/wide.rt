@@ -5,7 +5,7 @@ ghost use Rattle.word.specs.Word.{IsWidth};
 use crate::trial_bits::masks::{Sought, Way, compared};
 use trial::trial_direct::draw;
 use trial::trial_tally::Tally;
-use word::{Found, Width};
+use word::Width;
 
 // How many words are tried at a width.
 const WORDS: u64 = 16;
@@ -73,17 +73,17 @@ fn drawn(i: u64) -> u64 {
 }
 
 // The smallest at or above p: from the largest, each free bit is cleared, the highest first, where p is not passed.
-fn smallest(width: Width, sought: Sought) -> Found
+fn smallest(width: Width, sought: Sought) -> Option<u64>
     requires { IsWidth width.bits }
 {
     let top = width.top();
     let free = top ^ top & sought.mask;
     let mut x = sought.value | free;
     if top < x {
-        return Found::Nothing;
+        return None;
     }
     if x < sought.p {
-        return Found::Nothing;
+        return None;
     }
     for k in 0..width.bits {
         let bit = 1 << (width.bits - 1 - k);
@@ -91,18 +91,18 @@ fn smallest(width: Width, sought: Sought) -> Found
             x = x ^ free & bit;
         }
     }
-    Found::At(x)
+    Some(x)
 }
 
 // The largest at or below p: from the smallest, each free bit is set, the highest first, where p is not passed.
-fn largest(width: Width, sought: Sought) -> Found
+fn largest(width: Width, sought: Sought) -> Option<u64>
     requires { IsWidth width.bits }
 {
     let top = width.top();
     let free = top ^ top & sought.mask;
     let mut x = sought.value;
     if sought.p < x {
-        return Found::Nothing;
+        return None;
     }
     for k in 0..width.bits {
         let bit = 1 << (width.bits - 1 - k);
@@ -110,5 +110,5 @@ fn largest(width: Width, sought: Sought) -> Found
             x = x | free & bit;
         }
     }
-    Found::At(x)
+    Some(x)
 }

@@ -10,8 +10,8 @@ use native.Mathlib.Omega.{arith}
 use borrow.Author.Tests.{not-false, not-true}
 use lib.ListN.{get_or, length, take}
 use lib.Seq.{get_or-take, length-take-le, take_all}
-use Rattle.word.specs.declared.Found.{Found}
-use Rattle.word.specs.declared.Found.TheVariants.{At, Nothing}
+use Rattle.std.specs.Prelude.{Option}
+use Rattle.std.specs.Prelude.{Some, None}
 use Rattle.word.specs.Word.{top}
 use Rattle.word.specs.Search.{climb, first}
 use Rattle.word.proofs.Searched.{First, first_is}
@@ -136,7 +136,7 @@ again true n i j e = absurd (false≢true (sym e))
 again false n i j e = omega arith
 
 -- what is said with the code's top word is said with the width's
-abbrev Finds : At-words → Found → ℕ → Type 0
+abbrev Finds : At-words → Option ℕ → ℕ → Type 0
 Finds o r t = r ≡ first (passes (all_seen o.args.turned t (take o.args.force.count (lying o))) o.args.force.fixed) (suc t - o.args.start) o.args.start
 
 started : (o : At-words) → o.args.start ≤ o.top-top.result
@@ -212,23 +212,23 @@ loop-i-preserved c =
 pub returns-in_default : goal.returns-in_default
 returns-in_default c =
     walks_none _ _ _ _ _ _ c.words.invariant.3
-    (subst (Finds (goal.at.returns-in_default c).At-words Nothing) (top_is (goal.at.returns-in_default c).At-words)
+    (subst (Finds (goal.at.returns-in_default c).At-words None) (top_is (goal.at.returns-in_default c).At-words)
     (found_none (bands (goal.at.returns-in_default c).At-words) _ _ _ (started (goal.at.returns-in_default c).At-words)
     (past_all (bands (goal.at.returns-in_default c).At-words) _ _ _ _ c.words.invariant.2 c.words.invariant.5
-    (subst (λ (t : ℕ). first (has_bits c.args.force.fixed) (suc t - c.words.p) c.words.p ≡ Nothing) (sym (top_is (goal.at.returns-in_default c).At-words))
+    (subst (λ (t : ℕ). first (has_bits c.args.force.fixed) (suc t - c.words.p) c.words.p ≡ None) (sym (top_is (goal.at.returns-in_default c).At-words))
     (sym c.next.ensures ∙ c.in_default.is)))))
 
 pub returns-then-reach-top : goal.returns-then-reach-top
 returns-then-reach-top c =
     let e : c.run-reach.result.to + 1 ≡ suc c.top-top.result = omega arith in
     walks_none _ _ _ _ _ _ (c.loop-i.invariant.2 ∙ c.words.invariant.3)
-    (subst (Finds (goal.at.returns-then-reach-top c).At-words Nothing) (top_is (goal.at.returns-then-reach-top c).At-words) (found_none (bands (goal.at.returns-then-reach-top c).At-words) _ _ _ (started (goal.at.returns-then-reach-top c).At-words) (subst (NoneFrom (bands (goal.at.returns-then-reach-top c).At-words) _ _) e (past (goal.at.returns-then-reach-top c).After-run-reach))))
+    (subst (Finds (goal.at.returns-then-reach-top c).At-words None) (top_is (goal.at.returns-then-reach-top c).At-words) (found_none (bands (goal.at.returns-then-reach-top c).At-words) _ _ _ (started (goal.at.returns-then-reach-top c).At-words) (subst (NoneFrom (bands (goal.at.returns-then-reach-top c).At-words) _ _) e (past (goal.at.returns-then-reach-top c).After-run-reach))))
 
 pub returns-then-all : goal.returns-then-all
 returns-then-all c =
     let full : c.loop-i.i ≡ c.args.force.count = omega (arith, c.loop-i.invariant.0, c.if-i-n.false) in
     walks_at _ _ _ _ _ c.loop-i.p
-    (subst (Finds (goal.at.returns-then-all c).At-words (At c.loop-i.p)) (top_is (goal.at.returns-then-all c).At-words)
+    (subst (Finds (goal.at.returns-then-all c).At-words (Some c.loop-i.p)) (top_is (goal.at.returns-then-all c).At-words)
     (found_at (bands (goal.at.returns-then-all c).At-words) _ _ _ _ (omega (arith, c.words.invariant.1, word (goal.at.returns-then-all c).At-loop-i)) (word (goal.at.returns-then-all c).At-loop-i).1 (below (goal.at.returns-then-all c).At-loop-i)
     (subst (λ (bs : List Band). all_hold bs c.loop-i.p ≡ true) (take_all c.loop-i.i (bands (goal.at.returns-then-all c).At-words) (omega (arith, count (goal.at.returns-then-all c).At-words))) (c.loop-i.invariant.4 c.if-all.true))
     (subst (λ (x : ℕ). has_bits c.args.force.fixed x ≡ true) (sym c.loop-i.invariant.1) (next_at (goal.at.returns-then-all c).At-loop-i).passes)))

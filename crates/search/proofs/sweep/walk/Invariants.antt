@@ -2,7 +2,7 @@ use mathlib.Core.Path.{◌≡◌}
 use mathlib.Core.Bool.{Bool, true, false}
 use Prim.Native.Nat.{ℕ, suc, ◌+◌, ◌-◌, ◌≤◌}
 use lib.ListN.{take}
-use Rattle.word.specs.declared.Found.TheVariants.{Nothing}
+use Rattle.std.specs.Prelude.{None}
 use Rattle.word.specs.Word.{top}
 use Rattle.rule.specs.band.route.Band.{all_hold}
 use Rattle.search.specs.rows.route.Bands.{all_seen}

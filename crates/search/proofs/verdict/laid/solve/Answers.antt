@@ -7,7 +7,7 @@ use native.Mathlib.Omega.{arith}
 use borrow.Author.Tests.{eq-eqb, ne_eqb}
 use lib.Dec.{eqb}
 use lib.ListN.{take}
-use Rattle.word.specs.declared.Found.TheVariants.{At}
+use Rattle.std.specs.Prelude.{Some}
 use Rattle.word.specs.Word.{top}
 use Rattle.word.specs.Search.{first, last}
 use Rattle.word.proofs.Searched.{first_is}
@@ -48,10 +48,10 @@ solved c = ap₂ verdict_of (let first_found-1 : c.sweep.result ≡ first (passe
     ∙ smallest_is c.args.force.width.bits (take c.args.force.count (bands_in c.args.rows.now)) c.args.force.fixed c.args.words.from c.args.words.to c.requires.ends in first_found-1) (last_found c)
 
 -- two words found, where t is what the code has for the top word T
-both_found : (a l t T : ℕ) (v : Bool) → t ≡ T → eqb a (t - l) ≡ v → keeps (cond v 1 2) a (t - l) ≡ verdict_of (At a) (At (T - l))
+both_found : (a l t T : ℕ) (v : Bool) → t ≡ T → eqb a (t - l) ≡ v → keeps (cond v 1 2) a (t - l) ≡ verdict_of (Some a) (Some (T - l))
 unfolding verdict_of
 both_found a l t T v e h =
-    ap (λ (b : Bool). keeps (cond b 1 2) a (t - l)) (sym h) ∙ ap (λ (n : ℕ). verdict_of (At a) (At (n - l))) e
+    ap (λ (b : Bool). keeps (cond b 1 2) a (t - l)) (sym h) ∙ ap (λ (n : ℕ). verdict_of (Some a) (Some (n - l))) e
 
 pub sweep-requires : goal.sweep-requires
 sweep-requires c = record { width = c.requires.width; start_bound = (c.requires.ends.low_word, c.requires.lie); tidy = c.requires.tidy.0 }
