@@ -46,9 +46,8 @@ pub fn write(
         }
         let stage = Stage { p, next };
         let due = crate::reach::find(rows, &order, n, width, Way { sorted, stage });
-        let far = due.far;
-        let link = crate::link_step::link_at(rows, fixed, width, p, far);
-        crate::put(&mut *out, Link::NUMBERS * count, link);
+        let link = crate::link_step::link_at(rows, fixed, width, p, due.far);
+        crate::put(out, Link::NUMBERS * count, link);
         count += 1;
         if link.to == top {
             break;

@@ -38,8 +38,7 @@ impl Line {
     }
 
     fn text(&self) -> &[u8] {
-        let count = self.count;
-        if count < ROOM {
+        if self.count < ROOM {
             return &self.bytes[..count];
         }
         &self.bytes

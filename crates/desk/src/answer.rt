@@ -41,15 +41,13 @@ pub fn answer(
     ensures frame_answered { FrameAnswered (packed head rows.old marks.old) frame out.old at out.new result rows.new marks.new }
     ensures chain_len_2 { (length chain.new ≡ chain_room RULES) × ChainLeft (packed head rows.old marks.old) chain.old (call_of frame) chain.new }
 {
-    let called = call(head, &mut *rows, &mut *marks, &mut *chain, frame);
+    let called = call(head, rows, marks, chain, frame);
     let after = called.head;
-    let told = called.told;
     let opening = after.opening;
     let edition = opening.edition;
-    let end = put(&mut *out, at, edition, told, &*chain);
-    let fixed = after.fixed;
+    let end = put(out, at, edition, called.told, chain);
     AfterFrame {
-        head: after.found(after.stands, same(fixed)),
+        head: after.found(after.stands, same(after.fixed)),
         end,
     }
 }

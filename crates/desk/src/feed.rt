@@ -57,15 +57,7 @@ pub fn feed(
                 used = part.len();
             }
             Next::Line(frame, next) => {
-                let after = crate::answer::answer(
-                    head,
-                    &mut *rows,
-                    &mut *marks,
-                    &mut *chain,
-                    frame,
-                    &mut *out,
-                    written,
-                );
+                let after = crate::answer::answer(head, rows, marks, chain, frame, out, written);
                 head = after.head;
                 begun = Begun::none();
                 used = next;

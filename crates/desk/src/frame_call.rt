@@ -31,21 +31,15 @@ pub fn call(
     ensures { ComesTo (packed head rows.old marks.old) chain.old (call_of frame) result rows.new marks.new chain.new }
 {
     match frame {
-        Frame::Open(opening) => numbered(laid::open(head, &mut *rows, &mut *marks, opening)),
-        Frame::Add(edition, rule) => numbered(laid::add(
-            head,
-            &mut *rows,
-            &mut *marks,
-            edition,
-            rule,
-        )),
-        Frame::Mark => numbered(laid::mark(head, &mut *rows, &mut *marks)),
-        Frame::Back => numbered(laid::back(head, &*rows, &*marks)),
+        Frame::Open(opening) => numbered(laid::open(head, rows, marks, opening)),
+        Frame::Add(edition, rule) => numbered(laid::add(head, rows, marks, edition, rule)),
+        Frame::Mark => numbered(laid::mark(head, rows, marks)),
+        Frame::Back => numbered(laid::back(head, rows, marks)),
         Frame::Ask => Called {
             head,
-            told: Told::Asking(laid::ask(head, &*rows, &mut *chain)),
+            told: Told::Asking(laid::ask(head, rows, chain)),
         },
-        Frame::Forward => numbered(laid::forward(head, &*rows, &*marks)),
+        Frame::Forward => numbered(laid::forward(head, rows, marks)),
         Frame::NoFrame => Called {
             head,
             told: Told::Number(NO_FRAME),

@@ -33,13 +33,5 @@ pub fn finish(
         return 0;
     }
     let last = [Frame::NEWLINE; 1];
-    crate::feed::feed(
-        state,
-        &mut *rows,
-        &mut *marks,
-        &mut *chain,
-        &last,
-        &mut *out,
-    )
-    .written
+    crate::feed::feed(state, rows, marks, chain, &last, out).written
 }

@@ -26,11 +26,14 @@ fn main(rt: HostRuntime) {
     let mut chain = [0; Sheet::LENT];
     let mut out = io::large_buffer();
     let talk = crate::turns::converse(&rt, &mut rows, &mut marks, &mut chain, &mut out);
-    let turn = talk.turn;
-    let came = turn.came;
-    if let Came::Nothing = came {
-        let state = turn.state;
-        let n = crate::input_end::finish(state, &mut rows, &mut marks, &mut chain, &mut out);
+    if let Came::Nothing = talk.turn.came {
+        let n = crate::input_end::finish(
+            talk.turn.state,
+            &mut rows,
+            &mut marks,
+            &mut chain,
+            &mut out,
+        );
         coming::send(&rt, &out[..n]);
     }
 }

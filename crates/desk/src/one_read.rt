@@ -9,6 +9,6 @@ use std::io::Read;
 pub fn listen(rt: &HostRuntime, input: &mut [u8]) -> Hearing
     ensures { Listened input.new result }
 {
-    let answer = Answer::of(rt.stdin().read(&mut *input));
-    coming::hear(answer.got, answer.error, &*input)
+    let answer = Answer::of(rt.stdin().read(input));
+    coming::hear(answer.got, answer.error, input)
 }

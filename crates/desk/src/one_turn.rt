@@ -28,23 +28,13 @@ pub fn take_turn(
     ensures turned { Turned (desk_of last.state rows.old marks.old) input.new result rows.new marks.new }
     ensures held_2 { Held result.state.head rows.new marks.new × (length chain.new ≡ chain_room RULES) }
 {
-    let heard = crate::one_read::listen(rt, &mut *input);
-    let state = last.state;
-    let came = heard.came;
+    let heard = crate::one_read::listen(rt, input);
     let n = heard.count;
-    let served = crate::serving::serve(
-        rt,
-        state,
-        &mut *rows,
-        &mut *marks,
-        &mut *chain,
-        &input[..n],
-        &mut *out,
-    );
+    let served = crate::serving::serve(rt, last.state, rows, marks, chain, &input[..n], out);
     let after = served.state;
     Turn {
         state: after,
-        came,
+        came: heard.came,
         taken: served.taken,
     }
 }

@@ -39,19 +39,11 @@ pub fn serve(
     let mut state = state;
     let mut at = 0;
     while at < part.len() {
-        let fed = crate::feed::feed(
-            state,
-            &mut *rows,
-            &mut *marks,
-            &mut *chain,
-            &part[at..],
-            &mut *out,
-        );
-        let written = fed.written;
+        let fed = crate::feed::feed(state, rows, marks, chain, &part[at..], out);
         state = fed.state;
         at = at + fed.used;
         let sent = coming::send(rt, &out[..written]);
-        if sent.count < written {
+        if sent.count < fed.written {
             return Served {
                 state,
                 taken: false,

@@ -30,9 +30,8 @@ pub struct Called {
 pub fn numbered(said: Said) -> Called
     ensures { result ≡ number_told said.number said.head }
 {
-    let head = said.head;
     Called {
-        head,
+        head: said.head,
         told: Told::Number(said.number),
     }
 }
@@ -49,8 +48,8 @@ pub fn put(
     ensures { PutAt out.old at (answer_bytes (told_lines edition told chain.now)) out.new result }
 {
     match told {
-        Told::Number(number) => put_number(&mut *out, at, number),
-        Told::Asking(reply) => put_reply(&mut *out, at, edition, reply, chain),
+        Told::Number(number) => put_number(out, at, number),
+        Told::Asking(reply) => put_reply(out, at, edition, reply, chain),
     }
 }
 
@@ -66,9 +65,8 @@ fn put_reply(
     ensures { PutAt out.old at (answer_bytes (ask_lines edition reply chain.now)) out.new result }
 {
     if reply.number != 0 {
-        return put_number(&mut *out, at, reply.number);
+        return put_number(out, at, reply.number);
     }
-    let kept = reply.kept;
-    let end = put_line(&mut *out, at, kept_line(edition, kept));
-    put_links(&mut *out, end, edition, chain, reply.links)
+    let end = put_line(out, at, kept_line(edition, reply.kept));
+    put_links(out, end, edition, chain, reply.links)
 }

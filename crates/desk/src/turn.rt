@@ -20,7 +20,6 @@ impl Turn {
         ensures { result ≡ goes_on self.came self.taken turns }
     {
         let turn = self;
-        let came = turn.came;
-        came.goes_on(turn.taken, turns)
+        turn.came.goes_on(turn.taken, turns)
     }
 }

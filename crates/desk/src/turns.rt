@@ -37,7 +37,7 @@ pub fn converse(
     ensures held { Held result.turn.state.head rows.new marks.new × (length chain.new ≡ chain_room RULES) }
 {
     let mut input = io::large_buffer();
-    let head = laid::lay_out(Sheet::blank(), &mut *rows, &mut *marks);
+    let head = laid::lay_out(Sheet::blank(), rows, marks);
     let begun = Begun::none();
     let first = Turn {
         state: State { head, begun },
@@ -47,15 +47,7 @@ pub fn converse(
     let mut turn = first;
     let mut turns = 0;
     while turn.goes_on(turns) {
-        turn = take_turn(
-            rt,
-            turn,
-            &mut *rows,
-            &mut *marks,
-            &mut *chain,
-            &mut input,
-            &mut *out,
-        );
+        turn = take_turn(rt, turn, rows, marks, chain, &mut input, out);
         turns += 1;
     }
     Talk { turn, turns }

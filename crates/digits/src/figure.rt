@@ -15,8 +15,8 @@ pub fn put_number(out: &mut [u8], at: usize, x: u64) -> usize
     requires { at + NUMBER ≤ length out.old }
     ensures { Put out.old at (number_text x) out.new result × (result ≤ at + NUMBER) }
 {
-    let decimal = put_digits(&mut *out, at, 10, x);
-    let opened = put_text(&mut *out, decimal, b" (0x");
-    let hexadecimal = put_digits(&mut *out, opened, 16, x);
-    put_text(&mut *out, hexadecimal, b")")
+    let decimal = put_digits(out, at, 10, x);
+    let opened = put_text(out, decimal, b" (0x");
+    let hexadecimal = put_digits(out, opened, 16, x);
+    put_text(out, hexadecimal, b")")
 }

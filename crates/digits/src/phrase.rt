@@ -27,8 +27,8 @@ pub fn put_one(out: &mut [u8], at: usize, lead: &[u8], n: u64) -> usize
     requires { at + length (lead.now ++ decimal n) ≤ length out.old }
     ensures { Put out.old at (lead.now ++ decimal n) out.new result }
 {
-    let from = put_text(&mut *out, at, lead);
-    put_digits(&mut *out, from, 10, n)
+    let from = put_text(out, at, lead);
+    put_digits(out, from, 10, n)
 }
 
 // A text, a number, a text and a number.
@@ -36,8 +36,8 @@ pub fn put_two(out: &mut [u8], at: usize, lead: &[u8], middle: &[u8], numbers: T
     requires { at + length (lead.now ++ (decimal numbers.0 ++ (middle.now ++ decimal numbers.1))) ≤ length out.old }
     ensures { Put out.old at (lead.now ++ (decimal numbers.0 ++ (middle.now ++ decimal numbers.1))) out.new result }
 {
-    let from = put_one(&mut *out, at, lead, numbers.0);
-    put_one(&mut *out, from, middle, numbers.1)
+    let from = put_one(out, at, lead, numbers.0);
+    put_one(out, from, middle, numbers.1)
 }
 
 // A word by its signed reading.
@@ -47,7 +47,7 @@ pub fn put_signed(out: &mut [u8], at: usize, a: u64, width: Width) -> usize
     ensures { Put out.old at (signedly width.bits a) out.new result }
 {
     if a < width.half() {
-        return put_digits(&mut *out, at, 10, a);
+        return put_digits(out, at, 10, a);
     }
-    put_one(&mut *out, at, b"-", width.sub(0, a))
+    put_one(out, at, b"-", width.sub(0, a))
 }

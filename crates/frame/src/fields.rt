@@ -50,9 +50,9 @@ pub fn put_number(out: &mut [u8], at: usize, number: u64) -> usize
         number: 0,
     };
     if number == 0 {
-        return put_line(&mut *out, at, [byte(ACCEPTED), none, none, none]);
+        return put_line(out, at, [byte(ACCEPTED), none, none, none]);
     }
-    put_line(&mut *out, at, [byte(REFUSED), byte(number), none, none])
+    put_line(out, at, [byte(REFUSED), byte(number), none, none])
 }
 
 // The verdict, with the smallest and the largest word.
@@ -80,7 +80,7 @@ pub fn put_links(
     let mut end = at;
     for i in 0..n {
         let link = chain::link_from(chain, Link::NUMBERS * i);
-        end = put_line(&mut *out, end, link_line(edition, link));
+        end = put_line(out, end, link_line(edition, link));
     }
     end
 }
@@ -103,7 +103,7 @@ pub fn put_line(out: &mut [u8], at: usize, line: [Field; FIELDS]) -> usize
     let mut end = at;
     for i in 0..FIELDS {
         let field = line[i];
-        digits::hexadecimal::put(&mut *out, end, field.digits, field.number);
+        digits::hexadecimal::put(out, end, field.digits, field.number);
         end = end + field.digits;
     }
     out[end] = Field::NEWLINE;

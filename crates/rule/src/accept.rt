@@ -43,11 +43,10 @@ fn bad_sense(rule: Rule) -> bool
     ensures { result ≡ bad_sense rule }
 {
     let form = rule.form;
-    let sense = rule.sense;
-    if 1 < sense {
+    if 1 < rule.sense {
         return true;
     }
-    if sense == 1 {
+    if rule.sense == 1 {
         return form == 7;
     }
     false
@@ -58,26 +57,23 @@ fn bad_constant(rule: Rule, width: Width) -> bool
     requires { IsWidth width.bits }
     ensures { result ≡ bad_constant width.bits rule }
 {
-    let form = rule.form;
-    let c1 = rule.c1;
-    let c2 = rule.c2;
     let top = width.top();
-    if top < c1 {
+    if top < rule.c1 {
         return true;
     }
-    if top < c2 {
+    if top < rule.c2 {
         return true;
     }
     if stray_bit(rule) {
         return true;
     }
-    if c2 == 0 {
+    if rule.c2 == 0 {
         return false;
     }
-    if form < 4 {
+    if rule.form < 4 {
         return false;
     }
-    form <= 6
+    rule.form <= 6
 }
 
 // A bit in c2 that c1 lacks, in form 7.
@@ -100,16 +96,14 @@ pub fn is_no_rule(rule: Rule) -> bool
     ensures { result ≡ is_no_rule rule }
 {
     let form = rule.form;
-    let sense = rule.sense;
-    let c1 = rule.c1;
     let c2 = rule.c2;
     if form != 0 {
         return false;
     }
-    if sense != 0 {
+    if rule.sense != 0 {
         return false;
     }
-    if c1 != 0 {
+    if rule.c1 != 0 {
         return false;
     }
     c2 == 0

@@ -73,9 +73,8 @@ impl Band {
         requires { IsWidth width.bits }
         ensures { result ≡ written_band width.bits rule }
     {
-        let form = rule.form;
         let top = width.top();
-        match form {
+        match rule.form {
             1 => Band::span(width.sub(0, rule.c1), width.sub(top, rule.c2)),
             2 => Band::span(width.sub(rule.c1, rule.c2), width.sub(top, rule.c2)),
             3 => Band::span(width.sub(0, rule.c1), width.sub(rule.c2, rule.c1)),
@@ -182,6 +181,6 @@ impl Band {
 fn within(from: u64, to: u64, x: u64) -> bool
     ensures { result ≡ within from to x }
 {
-    let far = std::num::wrapping_sub_u64(to, from);
-    std::num::wrapping_sub_u64(x, from) <= far
+    let far = to.wrapping_sub(from);
+    x.wrapping_sub(from) <= far
 }

@@ -25,9 +25,8 @@ pub fn leap(
     ensures { Leapt (all_seen turned (top force.width.bits) (take force.count (bands_in rows.now))) force.fixed (top force.width.bits) start result }
 {
     let n = force.count;
-    let width = force.width;
     let mut order: [usize; Rule::LIMIT] = [0; Rule::LIMIT];
-    crate::order::sort(rows, n, turned, width.top(), &mut order);
+    crate::order::sort(rows, n, turned, force.width.top(), &mut order);
     let mut p = start;
     for k in 0..n {
         let Some(q) = past(rows, force, turned, order[k], p) else {
@@ -51,13 +50,11 @@ fn past(
     requires tidy { Tidy force.fixed }
     ensures { Leapt (all_seen turned (top force.width.bits) (take force.count (bands_in rows.now))) force.fixed (top force.width.bits) p result }
 {
-    let fixed = force.fixed;
-    let width = force.width;
-    let top = width.top();
+    let top = force.width.top();
     if force.count <= number {
         return Some(p);
     }
-    let Some(x) = fixed.next(width, p) else {
+    let Some(x) = force.fixed.next(force.width, p) else {
         return None;
     };
     let band = crate::rows::band_at(rows, number, turned, top);

@@ -51,7 +51,7 @@ pub fn band_at(rows: &[[u64; NUMBERS]; Rule::LIMIT], i: usize, turned: bool, top
 {
     let from = rows[i][4];
     let far = rows[i][5];
-    let to = std::num::wrapping_add_u64(from, far);
+    let to = from.wrapping_add(far);
     let inside = rows[i][6] == 1;
     let band = Band { from, to, inside };
     if turned {
@@ -65,7 +65,7 @@ pub fn put(rows: &mut [[u64; NUMBERS]; Rule::LIMIT], i: usize, rule: Rule, band:
     requires { i < RULES }
     ensures { rows.new ≡ slice_set rows.old i (row_of rule band) }
 {
-    let far = std::num::wrapping_sub_u64(band.to, band.from);
+    let far = band.to.wrapping_sub(band.from);
     let side = band.inside as u64;
     let unknown: u64 = 0;
     let row = [
@@ -110,5 +110,5 @@ pub fn fails_at(rows: &[[u64; NUMBERS]; Rule::LIMIT], i: usize, width: Width, x:
 fn reaches(from: u64, far: u64, x: u64) -> bool
     ensures { result ≡ within from (onward from far) x }
 {
-    std::num::wrapping_sub_u64(x, from) <= far
+    x.wrapping_sub(from) <= far
 }

@@ -81,7 +81,6 @@ fn walk(
     ensures { Walks (all_seen turned (top force.width.bits) (take force.count (bands_in rows.now))) force.fixed (top force.width.bits) start patience result }
 {
     let n = force.count;
-    let fixed = force.fixed;
     let width = force.width;
     let top = width.top();
     let mut found = Walked::Nothing;
@@ -89,7 +88,7 @@ fn walk(
     let mut i = fewer(n);
     let mut left = patience;
     'words: loop {
-        let Some(x) = fixed.next(width, p) else {
+        let Some(x) = force.fixed.next(width, p) else {
             break;
         };
         p = x;

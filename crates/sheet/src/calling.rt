@@ -63,7 +63,7 @@ impl Sheet {
     pub fn ask(self, out: &mut [u64]) -> Reply
         ensures { Asked self out.old out.new result }
     {
-        crate::slate_whole::ask(whole(self), &mut *out)
+        crate::slate_whole::ask(whole(self), out)
     }
 }
 
@@ -73,23 +73,21 @@ fn called(sheet: Sheet, call: Call) -> Answer
 {
     let after = crate::slate_whole::call(whole(sheet), call);
     let left = after.whole;
-    let number = after.number;
     let sheet = sheet_of(left);
-    Answer { number, sheet }
+    Answer {
+        number: after.number,
+        sheet,
+    }
 }
 
 // A record's numbers, as a slate has them.
 pub fn whole(sheet: Sheet) -> Whole
     ensures { sheet_of result ≡ sheet }
 {
-    let edition = sheet.edition;
-    let kept = sheet.kept;
-    let rules = sheet.rules;
-    let marks = sheet.marks;
     Whole {
         opening: Opening {
             width: sheet.width,
-            edition,
+            edition: sheet.edition,
         },
         counts: Counts {
             count: sheet.count,
@@ -97,9 +95,9 @@ pub fn whole(sheet: Sheet) -> Whole
             given: sheet.given,
             waiting: sheet.waiting,
         },
-        kept,
-        rules,
-        marks,
+        kept: sheet.kept,
+        rules: sheet.rules,
+        marks: sheet.marks,
     }
 }
 
@@ -108,20 +106,16 @@ fn sheet_of(whole: Whole) -> Sheet
     ensures { result ≡ sheet_of whole }
 {
     let opening = whole.opening;
-    let edition = opening.edition;
     let counts = whole.counts;
-    let kept = whole.kept;
-    let rules = whole.rules;
-    let marks = whole.marks;
     Sheet {
         width: opening.width,
-        rules,
+        rules: whole.rules,
         count: counts.count,
-        marks,
+        marks: whole.marks,
         marked: counts.marked,
-        kept,
+        kept: whole.kept,
         given: counts.given,
         waiting: counts.waiting,
-        edition,
+        edition: opening.edition,
     }
 }

@@ -35,5 +35,5 @@ pub fn lay_out(
     ensures marks_after { packed result rows.new marks.new ≡ sheet }
     ensures held { Held result rows.new marks.new }
 {
-    crate::slate_whole::lay_out(calling::whole(sheet), &mut *rows, &mut *marks)
+    crate::slate_whole::lay_out(calling::whole(sheet), rows, marks)
 }

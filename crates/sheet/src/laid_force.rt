@@ -21,12 +21,11 @@ pub fn look(sheet: Sheet, rows: &mut [[u64; NUMBERS]; Rule::LIMIT]) -> Found
     requires { length rows.old ≡ RULES }
     ensures { FoundIn sheet result rows.new }
 {
-    let head = crate::laid_rows::lay_out(sheet, &mut *rows);
+    let head = crate::laid_rows::lay_out(sheet, rows);
     let number = crate::slate::refuses(head);
-    let fixed = head.fixed;
     let force = InForce {
         count: head.counts.count,
-        fixed,
+        fixed: head.fixed,
         width: Width {
             bits: head.opening.width,
         },

@@ -15,5 +15,5 @@ pub fn lay_out(sheet: Sheet, rows: &mut [[u64; NUMBERS]; Rule::LIMIT]) -> Head
     ensures { LaidIn sheet result rows.new }
 {
     let mut marks: [usize; Sheet::MARKS] = [0; Sheet::MARKS];
-    laid::lay_out(sheet, &mut *rows, &mut marks)
+    laid::lay_out(sheet, rows, &mut marks)
 }

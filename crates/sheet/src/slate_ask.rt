@@ -40,11 +40,10 @@ pub fn ask(head: Head, rows: &[[u64; NUMBERS]; Rule::LIMIT], out: &mut [u64]) ->
             links: 0,
         };
     }
-    let fixed = head.fixed;
     let bits = Width {
         bits: head.opening.width,
     };
-    let links = chain::linking::write(rows, count, fixed, bits, &mut *out);
+    let links = chain::linking::write(rows, count, head.fixed, bits, out);
     Reply {
         number: 0,
         kept,

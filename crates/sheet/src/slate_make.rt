@@ -29,15 +29,10 @@ pub fn make(
     ensures { Makes head rows.old marks.old call result.number result.head rows.new marks.new }
 {
     match call {
-        Call::Open(opening) => crate::slate::slate_calls::open(
-            head,
-            &mut *rows,
-            &mut *marks,
-            opening,
-        ),
-        Call::Add(edition, rule) => slate_add::add(head, &mut *rows, &mut *marks, edition, rule),
-        Call::Mark => crate::slate::slate_calls::mark(head, &mut *rows, &mut *marks),
-        Call::Back => crate::slate::slate_calls::back(head, &*rows, &*marks),
-        Call::Forward => crate::slate::slate_calls::forward(head, &*rows, &*marks),
+        Call::Open(opening) => crate::slate::slate_calls::open(head, rows, marks, opening),
+        Call::Add(edition, rule) => slate_add::add(head, rows, marks, edition, rule),
+        Call::Mark => crate::slate::slate_calls::mark(head, rows, marks),
+        Call::Back => crate::slate::slate_calls::back(head, rows, marks),
+        Call::Forward => crate::slate::slate_calls::forward(head, rows, marks),
     }
 }

@@ -40,16 +40,18 @@ pub fn lay_out(
     ensures marks_after { whole_of result rows.new marks.new ≡ whole }
     ensures held { Held result rows.new marks.new }
 {
-    let opening = whole.opening;
-    let counts = whole.counts;
-    let kept = whole.kept;
     let laid = whole.rules;
     let set = whole.marks;
-    search::laying::lay_out(&mut *rows, laid);
-    crate::slate::set_marks(&mut *marks, set);
+    search::laying::lay_out(rows, laid);
+    crate::slate::set_marks(marks, set);
     // the test says whether it stands
-    let head = Head::of(opening, counts, kept, Fixed::Bits { mask: 0, value: 0 });
-    crate::slate::slate_test::tested(head, &mut *rows, &*marks)
+    let head = Head::of(
+        whole.opening,
+        whole.counts,
+        whole.kept,
+        Fixed::Bits { mask: 0, value: 0 },
+    );
+    crate::slate::slate_test::tested(head, rows, marks)
 }
 
 // Packs what a slate stands for.
@@ -57,15 +59,13 @@ pub fn pack(head: Head, rows: &[[u64; NUMBERS]; Rule::LIMIT], marks: &[usize; MA
     requires { length rows.now ≡ RULES }
     ensures { result ≡ whole_of head rows.now marks.now }
 {
-    let opening = head.opening;
     let counts = head.counts;
-    let kept = head.kept;
     let laid = search::laying::pack(rows);
     let set = *marks;
     Whole {
-        opening,
+        opening: head.opening,
         counts,
-        kept,
+        kept: head.kept,
         rules: laid,
         marks: set,
     }
@@ -94,5 +94,5 @@ pub fn ask(whole: Whole, out: &mut [u64]) -> Reply
     let mut rows = [[0; NUMBERS]; Rule::LIMIT];
     let mut marks: [usize; MARKS] = [0; MARKS];
     let head = lay_out(whole, &mut rows, &mut marks);
-    crate::slate_ask::ask(head, &rows, &mut *out)
+    crate::slate_ask::ask(head, &rows, out)
 }

@@ -80,7 +80,7 @@ pub fn same_sheet(a: Sheet, b: Sheet) -> bool {
     }
     let edition = a.edition;
     let edition_too = b.edition;
-    if !edition.same(edition_too) {
+    if edition != edition_too {
         return false;
     }
     same_kept_and_places(a, b)

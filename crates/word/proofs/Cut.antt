@@ -1,6 +1,6 @@
 -- A 64-bit machine word holds every width up to 64: shifting its ones down gives the top word, and a number cut to 64
 -- bits and then to w is the number cut to w. Assumes nothing.
-use Rattle.std.proofs.Common.{◌≡◌, ℕ, ◌+◌, ◌-◌, ◌*◌, ◌/◌, ◌%◌, ◌^◌, ◌≤◌, sym, ap, ◌∙◌, subst, mod-lt, mod-eq_of_lt, one-mul, div-add-mod', arith, pow_pos}
+use Rattle.std.proofs.Common.{◌≡◌, ℕ, ◌+◌, ◌-◌, ◌*◌, ◌/◌, ◌%◌, ◌^◌, ◌<◌, ◌≤◌, sym, ap, ◌∙◌, subst, mod-lt, mod-eq_of_lt, one-mul, div-add-mod', arith, pow_pos}
 use native.Mathlib.Nat.{mod-add-mod, add-mod_right, add-mul-mod_self_right}
 use lib.Bits.{bit_and, and_mask}
 use lib.Pow.{pow-lt, ones_lt, ones_split, high, mod-mod-pow}
@@ -28,6 +28,17 @@ cut w n h =
 pub plus_masked : (w a b : ℕ) → w ≤ 64 → bit_and ((a + b) % 2 ^ 64) (top w) ≡ plus w a b
 unfolding top plus
 plus_masked w a b h = and_mask ((a + b) % 2 ^ 64) w ∙ cut w (a + b) h
+
+-- the machine's difference, with b added again, is a
+pub wrapped_back : (a b : ℕ) → a < 2 ^ 64 → b < 2 ^ 64 → ((a + (2 ^ 64 - b)) % 2 ^ 64 + b) % 2 ^ 64 ≡ a
+wrapped_back a b h k =
+    mod-add-mod (a + (2 ^ 64 - b)) (2 ^ 64) b
+    ∙ ap (λ (n : ℕ). n % 2 ^ 64) regroup
+    ∙ add-mod_right a (2 ^ 64)
+    ∙ mod-eq_of_lt h
+  where
+    regroup : a + (2 ^ 64 - b) + b ≡ a + 2 ^ 64
+    regroup = omega arith
 
 -- what a machine difference wraps to, masked: r is the machine's a - b
 pub minus_masked : (w a b r : ℕ) → w ≤ 64 → (r + b) % 2 ^ 64 ≡ a → bit_and r (top w) ≡ minus w a b

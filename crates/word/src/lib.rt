@@ -4,7 +4,7 @@
 pub mod line_width;
 
 ghost use Rattle.std.specs.Prelude.{◌≡◌, ◌≤◌};
-ghost use Rattle.word.specs.Edition.{same, terms};
+ghost use Rattle.word.specs.Edition.{terms};
 ghost use Rattle.word.specs.Word.{IsWidth, top, half, plus, minus, signed};
 
 // A number of bits, 1 to LIMIT of them.
@@ -13,8 +13,8 @@ pub struct Width {
     pub bits: u64,
 }
 
-// An edition of the exchange. A sheet keeps the one that it was opened in.
-#[derive(Clone, Copy)]
+/// An edition of the exchange. A sheet keeps the one that it was opened in.
+#[derive(Clone, Copy, PartialEq, Eq)]
 pub enum Edition {
     Old,
     New,
@@ -55,7 +55,7 @@ impl Width {
         requires { IsWidth self.bits }
         ensures { result ≡ plus self.bits a b }
     {
-        std::num::wrapping_add_u64(a, b) & self.top()
+        a.wrapping_add(b) & self.top()
     }
 
     // a - b, wrapped at the width.
@@ -63,7 +63,7 @@ impl Width {
         requires { IsWidth self.bits }
         ensures { result ≡ minus self.bits a b }
     {
-        std::num::wrapping_sub_u64(a, b) & self.top()
+        a.wrapping_sub(b) & self.top()
     }
 
     // The word a read as a signed number.
@@ -88,8 +88,7 @@ impl Edition {
     pub fn terms(self) -> Terms
         ensures { result ≡ terms self }
     {
-        let edition = self;
-        match edition {
+        match self {
             Edition::Old => Terms {
                 widest: 32,
                 digits: 8,
@@ -101,24 +100,6 @@ impl Edition {
                 digits: Edition::DIGITS,
                 opens: 0x11,
                 adds: 0x12,
-            },
-        }
-    }
-
-    // Whether the two are one edition.
-    #[tactic(auto, unfolding(crate::specs::Edition::same))]
-    pub fn same(self, other: Edition) -> bool
-        ensures { result ≡ same self other }
-    {
-        let edition = self;
-        match edition {
-            Edition::Old => match other {
-                Edition::Old => true,
-                Edition::New => false,
-            },
-            Edition::New => match other {
-                Edition::Old => false,
-                Edition::New => true,
             },
         }
     }

@@ -13,7 +13,7 @@ pub fn put_digits(out: &mut [u8], at: usize, base: u64, x: u64) -> usize
         out[at] = crate::hexadecimal::glyph(x);
         return at + 1;
     }
-    let end = put_digits(&mut *out, at, base, x / base);
+    let end = put_digits(out, at, base, x / base);
     out[end] = crate::hexadecimal::glyph(x % base);
     end + 1
 }

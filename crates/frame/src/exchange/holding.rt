@@ -51,10 +51,8 @@ impl Begun {
 fn held_frame(begun: Begun) -> Frame
     ensures { result ≡ frame_of (begun_line begun) }
 {
-    let bytes = begun.bytes;
-    let len = begun.len;
-    if Frame::LONGEST < len {
+    if Frame::LONGEST < begun.len {
         return Frame::NoFrame;
     }
-    crate::decode(&bytes[..len])
+    crate::decode(&begun.bytes[..len])
 }

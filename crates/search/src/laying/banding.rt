@@ -17,9 +17,9 @@ pub fn draw(rows: &mut [[u64; crate::rows::NUMBERS]; Rule::LIMIT], n: usize, wid
     ensures { rows.new ≡ drawn width.bits n rows.old }
 {
     for i in 0..n {
-        let rule = crate::rows::rule_at(&*rows, i);
+        let rule = crate::rows::rule_at(rows, i);
         let band = Band::of(rule, width);
-        crate::rows::put(&mut *rows, i, rule, band);
+        crate::rows::put(rows, i, rule, band);
     }
 }
 

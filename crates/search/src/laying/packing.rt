@@ -28,7 +28,7 @@ pub fn lay_out(rows: &mut [[u64; crate::rows::NUMBERS]; Rule::LIMIT], packed: [R
         inside: false,
     };
     for i in 0..Rule::LIMIT {
-        crate::rows::put(&mut *rows, i, packed[i], blank);
+        crate::rows::put(rows, i, packed[i], blank);
     }
 }
 

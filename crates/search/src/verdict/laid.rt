@@ -35,13 +35,11 @@ pub fn solve(rows: &[[u64; crate::rows::NUMBERS]; Rule::LIMIT], force: InForce, 
     let Some(smallest) = crate::sweep::sweep(rows, force, false, words.from) else {
         return none();
     };
-    let fixed = force.fixed;
-    let width = force.width;
-    let top = width.top();
+    let top = force.width.top();
     let mirrored = InForce {
         count: force.count,
-        fixed: fixed.turned(),
-        width,
+        fixed: force.fixed.turned(),
+        width: force.width,
     };
     let Some(last) = crate::sweep::sweep(rows, mirrored, true, top - words.to) else {
         return none();

@@ -21,13 +21,12 @@ pub fn clear_waiting(
     ensures rows_after { rows.new ≡ bare_rows head rows.old }
     ensures marks_after { marks.new ≡ bare_marks head marks.old }
 {
-    let counts = head.counts;
-    let count = counts.count;
-    let given = counts.given;
-    let marked = counts.marked;
-    let waiting = counts.waiting;
-    search::laying::clear(&mut *rows, count, given);
-    crate::marks::clear_marks(&mut *marks, marked, marked + waiting);
+    let count = head.counts.count;
+    let given = head.counts.given;
+    let marked = head.counts.marked;
+    let waiting = head.counts.waiting;
+    search::laying::clear(rows, count, given);
+    crate::marks::clear_marks(marks, marked, marked + waiting);
 }
 
 // Takes every rule and every mark away. Where there is a sheet, those that were given are all there are.
@@ -36,16 +35,12 @@ pub fn clear_all(head: Head, rows: &mut [[u64; NUMBERS]; Rule::LIMIT], marks: &m
     ensures rows_after { rules_in rows.new ≡ replicate RULES no_rule }
     ensures marks_after { marks.new ≡ replicate MARKS 0 }
 {
-    let stands = head.stands;
-    let counts = head.counts;
-    let given = counts.given;
-    let marked = counts.marked;
-    let waiting = counts.waiting;
-    if !stands {
-        search::laying::clear(&mut *rows, 0, Rule::LIMIT);
-        crate::marks::clear_marks(&mut *marks, 0, MARKS);
+    let given = head.counts.given;
+    if !head.stands {
+        search::laying::clear(rows, 0, Rule::LIMIT);
+        crate::marks::clear_marks(marks, 0, MARKS);
         return;
     }
-    search::laying::clear(&mut *rows, 0, given);
-    crate::marks::clear_marks(&mut *marks, 0, marked + waiting);
+    search::laying::clear(rows, 0, given);
+    crate::marks::clear_marks(marks, 0, head.counts.marked + head.counts.waiting);
 }

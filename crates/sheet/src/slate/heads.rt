@@ -25,14 +25,11 @@ impl Head {
     pub fn found(self, stands: bool, fixed: Fixed) -> Head
         ensures { result ≡ found_to self stands fixed }
     {
-        let opening = self.opening;
-        let counts = self.counts;
-        let kept = self.kept;
         Head {
             stands,
-            opening,
-            counts,
-            kept,
+            opening: self.opening,
+            counts: self.counts,
+            kept: self.kept,
             fixed,
         }
     }

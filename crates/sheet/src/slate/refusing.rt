@@ -30,9 +30,8 @@ pub fn refuses_rule(head: Head, edition: Edition, rule: Rule) -> u64
     ensures { result ≡ rule_number head edition rule }
 {
     let count = head.counts.count;
-    let opening = head.opening;
-    let kind = opening.edition;
-    let other = !edition.same(kind);
+    let kind = head.opening.edition;
+    let other = edition != kind;
     let number = refuses(head);
     if number != 0 {
         return number;
@@ -40,7 +39,7 @@ pub fn refuses_rule(head: Head, edition: Edition, rule: Rule) -> u64
     let bad = rule::accept::refusal_of(
         rule,
         Width {
-            bits: opening.width,
+            bits: head.opening.width,
         },
     );
     let unlawful = bad != 0;

@@ -38,17 +38,17 @@ pub fn add(
     let bits = Width {
         bits: opening.width,
     };
-    crate::slate::clear_waiting(head, &mut *rows, &mut *marks);
+    crate::slate::clear_waiting(head, rows, marks);
     let band = Band::of(rule, bits);
-    search::rows::put(&mut *rows, count, rule, band);
+    search::rows::put(rows, count, rule, band);
     let fixed = old_bits.with(rule);
     let force = InForce {
         count: next,
         fixed,
         width: bits,
     };
-    let kept = narrowing::narrowed(&*rows, force, band, old);
-    crate::slate::put_note(&mut *rows, next, kept, fixed);
+    let kept = narrowing::narrowed(rows, force, band, old);
+    crate::slate::put_note(rows, next, kept, fixed);
     let counts = Counts {
         count: next,
         marked,

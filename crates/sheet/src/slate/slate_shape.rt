@@ -19,23 +19,20 @@ pub fn blank(head: Head, rows: &[[u64; NUMBERS]; Rule::LIMIT], marks: &[usize; M
     requires room { Room rows.now marks.now }
     ensures { result ≡ stands_so head (rules_in rows.now) marks.now }
 {
-    let kept = head.kept;
-    let counts = head.counts;
-    let opening = head.opening;
-    let edition = opening.edition;
-    if !edition.same(Edition::Old) {
+    let edition = head.opening.edition;
+    if edition != Edition::Old {
         return false;
     }
-    if counts.given != 0 {
+    if head.counts.given != 0 {
         return false;
     }
-    if counts.marked != 0 {
+    if head.counts.marked != 0 {
         return false;
     }
-    if counts.waiting != 0 {
+    if head.counts.waiting != 0 {
         return false;
     }
-    if counts.count != 0 {
+    if head.counts.count != 0 {
         return false;
     }
     if !search::laying::none_from(rows, 0) {
@@ -45,7 +42,7 @@ pub fn blank(head: Head, rows: &[[u64; NUMBERS]; Rule::LIMIT], marks: &[usize; M
         return false;
     }
     same_kept(
-        kept,
+        head.kept,
         Kept {
             verdict: 0,
             smallest: 0,
@@ -61,14 +58,12 @@ pub fn shaped(head: Head, rows: &[[u64; NUMBERS]; Rule::LIMIT], marks: &[usize; 
     requires room { Room rows.now marks.now }
     ensures { result ≡ (well_shaped head (rules_in rows.now) marks.now && leb head.opening.width (terms head.opening.edition).widest) }
 {
-    let opening = head.opening;
-    let width = opening.width;
-    let edition = opening.edition;
-    let counts = head.counts;
-    let count = counts.count;
-    let given = counts.given;
-    let marked = counts.marked;
-    let waiting = counts.waiting;
+    let width = head.opening.width;
+    let edition = head.opening.edition;
+    let count = head.counts.count;
+    let given = head.counts.given;
+    let marked = head.counts.marked;
+    let waiting = head.counts.waiting;
     if Rule::LIMIT < given {
         return false;
     }
@@ -99,13 +94,11 @@ pub fn same_kept(a: Kept, b: Kept) -> bool
     ensures { result ≡ same_kept a b }
 {
     let verdict = a.verdict;
-    let smallest = a.smallest;
-    let largest = a.largest;
     if verdict != b.verdict {
         return false;
     }
-    if smallest != b.smallest {
+    if a.smallest != b.smallest {
         return false;
     }
-    largest == b.largest
+    a.largest == b.largest
 }

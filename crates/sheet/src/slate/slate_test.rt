@@ -18,35 +18,36 @@ pub fn tested(head: Head, rows: &mut [[u64; NUMBERS]; Rule::LIMIT], marks: &[usi
     ensures rows_unchanged { rules_in rows.new ≡ rules_in rows.old }
     ensures held { Held result rows.new marks.now }
 {
-    let counts = head.counts;
-    let count = counts.count;
-    let given = counts.given;
+    let count = head.counts.count;
+    let given = head.counts.given;
     let old = head.fixed;
-    let kept = head.kept;
     let bits = Width {
         bits: head.opening.width,
     };
     if bits.bits == 0 {
-        return head.found(crate::slate::slate_shape::blank(head, &*rows, marks), old);
+        return head.found(crate::slate::slate_shape::blank(head, rows, marks), old);
     }
-    if !crate::slate::slate_shape::shaped(head, &*rows, marks) {
+    if !crate::slate::slate_shape::shaped(head, rows, marks) {
         return head.found(false, old);
     }
-    search::laying::draw(&mut *rows, given, bits);
-    let fixed = search::laying::bits_of(&*rows, count);
+    search::laying::draw(rows, given, bits);
+    let fixed = search::laying::bits_of(rows, count);
     let force = InForce {
         count,
         fixed,
         width: bits,
     };
     let found = search::verdict::laid::solve(
-        &*rows,
+        rows,
         force,
         Run {
             from: 0,
             to: bits.top(),
         },
     );
-    crate::slate::put_note(&mut *rows, count, found, fixed);
-    head.found(crate::slate::slate_shape::same_kept(kept, found), fixed)
+    crate::slate::put_note(rows, count, found, fixed);
+    head.found(
+        crate::slate::slate_shape::same_kept(head.kept, found),
+        fixed,
+    )
 }

@@ -21,8 +21,7 @@ pub fn narrowed(
     requires { Narrows force.width.bits force.count (bands_in rows.now) band force.fixed before }
     ensures { result ≡ kept_by force.width.bits (take force.count (bands_in rows.now)) force.fixed }
 {
-    let fixed = force.fixed;
-    if stays(before, band, fixed) {
+    if stays(before, band, force.fixed) {
         return before;
     }
     search::verdict::laid::narrowed(rows, force, before)

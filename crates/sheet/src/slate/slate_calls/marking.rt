@@ -32,8 +32,8 @@ pub fn mark(
     if full {
         return Said { number: 7, head };
     }
-    crate::slate::clear_waiting(head, &mut *rows, &mut *marks);
-    crate::slate::put_note(&mut *rows, count, kept, fixed);
+    crate::slate::clear_waiting(head, rows, marks);
+    crate::slate::put_note(rows, count, kept, fixed);
     marks[marked] = count;
     let next = marked + 1;
     let counts = Counts {

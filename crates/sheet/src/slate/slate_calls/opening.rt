@@ -28,7 +28,7 @@ pub fn open(
     if edition.terms().widest < width {
         return refused;
     }
-    crate::slate::clear_all(head, &mut *rows, &mut *marks);
+    crate::slate::clear_all(head, rows, marks);
     let none = crate::slate::no_rules(Width { bits: width });
     let counts = Counts {
         count: 0,
@@ -36,8 +36,6 @@ pub fn open(
         given: 0,
         waiting: 0,
     };
-    let kept = none.kept;
-    let fixed = none.fixed;
-    let head = Head::of(opening, counts, kept, fixed);
+    let head = Head::of(opening, counts, none.kept, none.fixed);
     Said { number: 0, head }
 }

@@ -38,14 +38,12 @@ pub fn forward(head: Head, rows: &[[u64; NUMBERS]; Rule::LIMIT], marks: &[usize;
         bits: opening.width,
     };
     let note = seeking::find(rows, count, bits, old);
-    let kept = note.kept;
-    let fixed = note.fixed;
     let counts = Counts {
         count,
         marked: next,
         given,
         waiting: left,
     };
-    let head = Head::of(opening, counts, kept, fixed);
+    let head = Head::of(opening, counts, note.kept, note.fixed);
     Said { number: 0, head }
 }
