@@ -39,7 +39,7 @@ impl Line {
 
     fn text(&self) -> &[u8] {
         if self.count < ROOM {
-            return &self.bytes[..count];
+            return &self.bytes[..self.count];
         }
         &self.bytes
     }

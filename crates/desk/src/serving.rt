@@ -42,7 +42,7 @@ pub fn serve(
         let fed = crate::feed::feed(state, rows, marks, chain, &part[at..], out);
         state = fed.state;
         at = at + fed.used;
-        let sent = coming::send(rt, &out[..written]);
+        let sent = coming::send(rt, &out[..fed.written]);
         if sent.count < fed.written {
             return Served {
                 state,

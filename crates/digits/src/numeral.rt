@@ -54,13 +54,14 @@ impl Numeral {
     pub fn next(self, b: u8) -> Numeral
         ensures { result ≡ next self b }
     {
+        let stage = self.stage;
         if b == b'-' {
             return self.below_zero();
         }
         if b == b'.' {
             return self.pointed();
         }
-        if self.stage == Numeral::ZERO {
+        if stage == Numeral::ZERO {
             return self.after_zero(b);
         }
         self.digit(value_of(b))
@@ -141,24 +142,26 @@ impl Numeral {
     fn digit(self, d: u64) -> Numeral
         ensures { result ≡ digit self d }
     {
+        let base = self.base;
+        let value = self.value;
         if Numeral::BAD <= self.stage {
             return stopped(self.stage);
         }
-        if self.base <= d {
+        if base <= d {
             return stopped(Numeral::BAD);
         }
         if Numeral::PLACES <= self.places {
             return stopped(Numeral::BAD);
         }
-        if (u64::MAX - d) / self.base < self.value {
+        if (u64::MAX - d) / base < value {
             return stopped(Numeral::LARGE);
         }
         Numeral {
             stage: past_digit(self.stage, d),
             minus: self.minus,
-            base: self.base,
+            base,
             point: self.point,
-            value: self.base * self.value + d,
+            value: base * value + d,
             places: past_place(self.places, self.point),
         }
     }

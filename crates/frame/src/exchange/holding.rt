@@ -54,5 +54,5 @@ fn held_frame(begun: Begun) -> Frame
     if Frame::LONGEST < begun.len {
         return Frame::NoFrame;
     }
-    crate::decode(&begun.bytes[..len])
+    crate::decode(&begun.bytes[..begun.len])
 }

@@ -1,6 +1,7 @@
 -- `put` meets its contract: the fourteen numbers stored are the row's. Assumes nothing.
 use Rattle.std.proofs.Common.{◌≡◌, ℕ, Bool, true, false, cond, List, [], ◌∷◌, set, refl, ap₂, arith}
 use mir.Val.{bool_byte}
+use Rattle.word.proofs.Cut.{wrapped_back}
 use Rattle.rule.specs.declared.Rule.{Rule}
 use Rattle.rule.specs.declared.band.Band.{Band}
 use Rattle.search.specs.rows.route.Rows.{row_of}
@@ -20,4 +21,4 @@ pub returns : goal.returns
 unfolding row_of
 returns c =
     ap₂ (λ (far side : ℕ). set c.args.rows.now c.args.i (sided c.args.rule c.args.band far side))
-    (far_so c.args.band.from c.args.band.to _ (omega arith) (omega arith) c.wrapping_sub_u64-far.ensures.value) (number c.args.band.inside)
+    (far_so c.args.band.from c.args.band.to _ (omega arith) (omega arith) (wrapped_back c.args.band.to c.args.band.from (omega arith) (omega arith))) (number c.args.band.inside)
