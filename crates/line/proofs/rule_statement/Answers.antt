@@ -24,4 +24,4 @@ returns-in_default c =
 pub returns : goal.returns
 unfolding rule_statement rule_with
 returns c =
-    rw (le-ltb c.args.scan.place.row 9 (omega arith), ne_eqb c.args.scan.place.row 13 (λ e. omega arith)) (ap said.Rule c.rule_of-2.ensures ∙ ap (rule_with c.args.scan.place.row c.args.scan.negated c.args.scan.second.at) (sym c.in-At.is ∙ c.signed_word.ensures))
+    rw (le-ltb c.args.scan.place.row 9 (omega arith), ne_eqb c.args.scan.place.row 13 (λ e. omega arith)) (ap said.Rule c.rule_of-2.ensures ∙ ap (rule_with c.args.scan.place.row c.args.scan.negated c.args.scan.second.at) (sym c.in-Some.is ∙ c.signed_word.ensures))

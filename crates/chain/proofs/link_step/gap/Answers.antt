@@ -16,9 +16,9 @@ returns-in_default c =
 
 pub overflow_sub-result : goal.overflow_sub-result
 overflow_sub-result c =
-    omega (arith, (first_is _ _ _ _ (sym c.next.ensures ∙ c.in-At.is)).low)
+    omega (arith, (first_is _ _ _ _ (sym c.next.ensures ∙ c.in-Some.is)).low)
 
 pub returns : goal.returns
 unfolding before
 returns c =
-    ap (before _) (sym c.in-At.is) ∙ gap_next _ _ _ _ c.next.ensures
+    ap (before _) (sym c.in-Some.is) ∙ gap_next _ _ _ _ c.next.ensures

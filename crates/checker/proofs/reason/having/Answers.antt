@@ -12,8 +12,8 @@ returns-in_default c =
 
 pub returns-then-to-next : goal.returns-then-to-next
 returns-then-to-next c =
-    next_past (has_bits c.args.fixed) c.args.from c.args.to (top c.args.width.bits) c.requires.tidy.1 c.requires.tidy.2 _ (sym c.next.ensures ∙ c.in-At.is) (omega (arith, c.if-to-next.true))
+    next_past (has_bits c.args.fixed) c.args.from c.args.to (top c.args.width.bits) c.requires.tidy.1 c.requires.tidy.2 _ (sym c.next.ensures ∙ c.in-Some.is) (omega (arith, c.if-to-next.true))
 
 pub returns : goal.returns
 returns c =
-    next_within (has_bits c.args.fixed) c.args.from c.args.to (top c.args.width.bits) c.requires.tidy.1 c.requires.tidy.2 _ (sym c.next.ensures ∙ c.in-At.is) (omega (arith, c.if-to-next.false))
+    next_within (has_bits c.args.fixed) c.args.from c.args.to (top c.args.width.bits) c.requires.tidy.1 c.requires.tidy.2 _ (sym c.next.ensures ∙ c.in-Some.is) (omega (arith, c.if-to-next.false))

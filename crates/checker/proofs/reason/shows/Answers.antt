@@ -93,7 +93,7 @@ returns-in_default c =
 
 pub returns-then-reason-n : goal.returns-then-reason-n
 returns-then-reason-n c =
-    rule_met _ (own (goal.at.returns-then-reason-n c).Start) c.args.number c.args.link (named (goal.at.returns-then-reason-n c).Start c.if-reason-n.true) _ (ne_eqb _ 7 (outside (goal.at.returns-then-reason-n c).Else-rule_at-eq7)) (sym (found (goal.at.returns-then-reason-n c).After-held) ∙ c.in-At.is)
+    rule_met _ (own (goal.at.returns-then-reason-n c).Start) c.args.number c.args.link (named (goal.at.returns-then-reason-n c).Start c.if-reason-n.true) _ (ne_eqb _ 7 (outside (goal.at.returns-then-reason-n c).Else-rule_at-eq7)) (sym (found (goal.at.returns-then-reason-n c).After-held) ∙ c.in-Some.is)
 
 pub returns-then-is_no_rule : goal.returns-then-is_no_rule
 returns-then-is_no_rule c =
@@ -105,4 +105,4 @@ returns-in_default-having c =
 
 pub returns : goal.returns
 returns c =
-    bits_met _ (own (goal.at.returns c).Start) c.args.number c.args.link (other (goal.at.returns c).Start (λ t. omega (arith, t, c.if-reason-n.false))) _ (eq-eqb c.args.link.reason BITS (omega (arith, c.if-is_no_rule.false))) (sym (had (goal.at.returns c).After-having) ∙ c.in-At-having.is)
+    bits_met _ (own (goal.at.returns c).Start) c.args.number c.args.link (other (goal.at.returns c).Start (λ t. omega (arith, t, c.if-reason-n.false))) _ (eq-eqb c.args.link.reason BITS (omega (arith, c.if-is_no_rule.false))) (sym (had (goal.at.returns c).After-having) ∙ c.in-Some-having.is)

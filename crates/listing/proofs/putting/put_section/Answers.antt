@@ -17,7 +17,7 @@ use Rattle.rule.specs.bits.route.Fixed.{has_bits}
 use Rattle.listing.specs.putting.route.Put.{put_at, run_words, section_words}
 use Rattle.listing.proofs.putting.Puts.{put_length, put_more, put_none}
 use Rattle.listing.proofs.putting.Words.{free_words, held_words, no_words, passing_found, passing_none, passing_on, passing_over}
-use Rattle.listing.proofs.putting.put_section.Goals.{After-put_run, At-loop-at, Else-last-x, Else-not-section, In-At-after, Start}
+use Rattle.listing.proofs.putting.put_section.Goals.{After-put_run, At-loop-at, Else-last-x, Else-not-section, In-Some-after, Start}
 use Rattle.listing.proofs.putting.put_section.Goals as goal
 
 abbrev has : Else-not-section → ℕ → Bool
@@ -98,8 +98,8 @@ counted i = omega (arith, i.loop-at.invariant.2, ap length (one_more i), length-
 no_more : (i : Else-last-x) (q : ℕ) → i.loop-at.x < q → ((y : ℕ) → i.loop-at.x < y → y < q → (has_bits i.args.force.fixed) y ≡ false) → (passing (has_bits i.args.force.fixed) (q - i.args.p) i.args.p) ≡ (passing (has_bits i.args.force.fixed) ((suc i.loop-at.x) - i.args.p) i.args.p)
 no_more i q l n = passing_over (has_bits i.args.force.fixed) _ (suc i.loop-at.x) q (omega (arith, i.loop-at.invariant.0)) (omega arith) (λ y a b. n y (omega arith) b)
 
-next_at : (k : In-At-after) → First (has_bits k.args.force.fixed) (suc (top 64) - suc k.loop-at.x) (suc k.loop-at.x) k.in-At-after.next
-next_at k = first_is _ _ _ _ (sym k.after.ensures ∙ k.in-At-after.is)
+next_at : (k : In-Some-after) → First (has_bits k.args.force.fixed) (suc (top 64) - suc k.loop-at.x) (suc k.loop-at.x) k.in-Some-after.next
+next_at k = first_is _ _ _ _ (sym k.after.ensures ∙ k.in-Some-after.is)
 
 pub returns-then-not-section : goal.returns-then-not-section
 returns-then-not-section c = let whole = nothing (goal.at.returns-then-not-section c).Start (no_words c.args.section c.args.force.fixed c.args.p (not-true c.args.section.held c.if-not-section.true)) in record { value = whole.0; out_after = whole.1 }
@@ -124,8 +124,8 @@ returns-in_default c =
 
 pub loop-at-init : goal.loop-at-init
 loop-at-init c =
-    let found = first_is _ _ _ _ (sym c.next.ensures ∙ c.in-At.is) in
-    let none = none_to (goal.at.loop-at-init c).Else-not-section (min c.in-At.first (end (goal.at.loop-at-init c).Else-not-section)) (omega (arith, found.low, c.requires.p_le_to.0)) (λ y a b. found.none_before y a (omega arith)) in
+    let found = first_is _ _ _ _ (sym c.next.ensures ∙ c.in-Some.is) in
+    let none = none_to (goal.at.loop-at-init c).Else-not-section (min c.in-Some.first (end (goal.at.loop-at-init c).Else-not-section)) (omega (arith, found.low, c.requires.p_le_to.0)) (λ y a b. found.none_before y a (omega arith)) in
     let z : c.args.place ≡ c.args.place + length {A = ℕ} [] = omega arith in (
       found.low,
       found.passes,
@@ -159,12 +159,12 @@ returns-in_default-after c =
     (omega (arith, below (goal.at.returns-in_default-after c).Else-last-x)) (counted (goal.at.returns-in_default-after c).Else-last-x) (stored (goal.at.returns-in_default-after c).Else-last-x) in record { value = whole.0; out_after = whole.1 }
 
 pub loop-at-smaller : goal.loop-at-smaller
-loop-at-smaller c = omega (arith, (next_at (goal.at.loop-at-smaller c).In-At-after).low, c.if-last-x.false)
+loop-at-smaller c = omega (arith, (next_at (goal.at.loop-at-smaller c).In-Some-after).low, c.if-last-x.false)
 
 pub loop-at-preserved : goal.loop-at-preserved
 loop-at-preserved c =
-    let found = next_at (goal.at.loop-at-preserved c).In-At-after in
-    let same = sym (no_more (goal.at.loop-at-preserved c).Else-last-x (min c.in-At-after.next (end (goal.at.loop-at-preserved c).Else-not-section)) (omega (arith, found.low, c.if-last-x.false)) (λ z l b. found.none_before z (omega arith) (omega arith))) in (
+    let found = next_at (goal.at.loop-at-preserved c).In-Some-after in
+    let same = sym (no_more (goal.at.loop-at-preserved c).Else-last-x (min c.in-Some-after.next (end (goal.at.loop-at-preserved c).Else-not-section)) (omega (arith, found.low, c.if-last-x.false)) (λ z l b. found.none_before z (omega arith) (omega arith))) in (
       omega (arith, found.low, c.loop-at.invariant.0),
       found.passes,
       counted (goal.at.loop-at-preserved c).Else-last-x ∙ ap (λ (ws : List ℕ). c.args.place + length ws) same,

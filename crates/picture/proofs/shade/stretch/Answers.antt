@@ -29,17 +29,17 @@ returns-in_default c =
 
 pub returns-then-words-x : goal.returns-then-words-x
 returns-then-words-x c =
-    later_word (test (goal.at.returns-then-words-x c).Start) c.args.words.from c.args.words.to (top c.args.force.width.bits) c.requires.tidy.2 _ (sym (swept (goal.at.returns-then-words-x c).After-sweep) ∙ c.in-At.is) (omega (arith, c.if-words-x.true))
+    later_word (test (goal.at.returns-then-words-x c).Start) c.args.words.from c.args.words.to (top c.args.force.width.bits) c.requires.tidy.2 _ (sym (swept (goal.at.returns-then-words-x c).After-sweep) ∙ c.in-Some.is) (omega (arith, c.if-words-x.true))
 
 pub all_pass-requires : goal.all_pass-requires
 all_pass-requires c = record { width = c.requires.width; lie = c.requires.lie; tidy = c.requires.tidy }
 
 pub returns-then-all_pass : goal.returns-then-all_pass
 returns-then-all_pass c =
-    each_word (test (goal.at.returns-then-all_pass c).Start) c.args.words.from c.args.words.to (top c.args.force.width.bits) c.requires.tidy.2 _ (sym (swept (goal.at.returns-then-all_pass c).After-sweep) ∙ c.in-At.is) (omega (arith, c.if-words-x.false))
+    each_word (test (goal.at.returns-then-all_pass c).Start) c.args.words.from c.args.words.to (top c.args.force.width.bits) c.requires.tidy.2 _ (sym (swept (goal.at.returns-then-all_pass c).After-sweep) ∙ c.in-Some.is) (omega (arith, c.if-words-x.false))
     (sym c.all_pass.ensures ∙ c.if-all_pass.true)
 
 pub returns : goal.returns
 returns c =
-    some_word (test (goal.at.returns c).Start) c.args.words.from c.args.words.to (top c.args.force.width.bits) c.requires.tidy.2 _ (sym (swept (goal.at.returns c).After-sweep) ∙ c.in-At.is) (omega (arith, c.if-words-x.false))
+    some_word (test (goal.at.returns c).Start) c.args.words.from c.args.words.to (top c.args.force.width.bits) c.requires.tidy.2 _ (sym (swept (goal.at.returns c).After-sweep) ∙ c.in-Some.is) (omega (arith, c.if-words-x.false))
     (sym c.all_pass.ensures ∙ c.if-all_pass.false)

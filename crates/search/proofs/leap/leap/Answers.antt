@@ -35,7 +35,7 @@ returns-in_default c =
 
 pub loop-k-preserved : goal.loop-k-preserved
 loop-k-preserved c =
-    let l = c.past.ensures.word _ c.in-At.is in
+    let l = c.past.ensures.word _ c.in-Some.is in
     (omega (arith, l.0, c.loop-k.invariant.0), l.1, further (bands (goal.at.loop-k-preserved c).At-loop-k) _ _ _ _ c.loop-k.invariant.2 l.2)
 
 pub returns : goal.returns

@@ -25,16 +25,16 @@ returns-in_default c =
 
 pub walk-requires : goal.walk-requires
 walk-requires c =
-    let l = c.leap.ensures.word _ c.in-At.is in record { width = c.requires.width; start_bound = (l.1, c.requires.start_bound.1); tidy = c.requires.tidy }
+    let l = c.leap.ensures.word _ c.in-Some.is in record { width = c.requires.width; start_bound = (l.1, c.requires.start_bound.1); tidy = c.requires.tidy }
 
-pub returns-in-At-walk : goal.returns-in-At-walk
-returns-in-At-walk c =
-    let l = c.leap.ensures.word _ c.in-At.is in
-    same_found (bands (goal.at.returns-in-At-walk c).Start) _ (tops (goal.at.returns-in-At-walk c).Start) c.args.start _ _ l.0 l.1 l.2 (c.walk.ensures.at _ c.in-At-walk.is)
+pub returns-in-At : goal.returns-in-At
+returns-in-At c =
+    let l = c.leap.ensures.word _ c.in-Some.is in
+    same_found (bands (goal.at.returns-in-At c).Start) _ (tops (goal.at.returns-in-At c).Start) c.args.start _ _ l.0 l.1 l.2 (c.walk.ensures.at _ c.in-At-walk.is)
 
 pub returns-in-Nothing : goal.returns-in-Nothing
 returns-in-Nothing c =
-    let l = c.leap.ensures.word _ c.in-At.is in
+    let l = c.leap.ensures.word _ c.in-Some.is in
     same_found (bands (goal.at.returns-in-Nothing c).Start) _ (tops (goal.at.returns-in-Nothing c).Start) c.args.start _ _ l.0 l.1 l.2 (c.walk.ensures.nothing c.in-Nothing.is)
 
 pub returns-in-Tired : goal.returns-in-Tired

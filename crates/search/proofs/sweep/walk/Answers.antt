@@ -46,8 +46,8 @@ top_is : (o : At-words) → o.top-top.result ≡ top o.args.force.width.bits
 top_is o = o.top-top.ensures
 
 -- p is the next word that has the bits
-next_at : (a : At-loop-i) → First (has_bits a.args.force.fixed) (suc (top a.args.force.width.bits) - a.words.p) a.words.p a.in-At.x
-next_at a = first_is _ _ _ _ (sym a.next.ensures ∙ a.in-At.is)
+next_at : (a : At-loop-i) → First (has_bits a.args.force.fixed) (suc (top a.args.force.width.bits) - a.words.p) a.words.p a.in-Some.x
+next_at a = first_is _ _ _ _ (sym a.next.ensures ∙ a.in-Some.is)
 
 -- it is a word, and no word from the start to it passes
 word : (a : At-loop-i) → (a.words.p ≤ a.loop-i.p) × (a.loop-i.p ≤ a.top-top.result)
@@ -97,25 +97,25 @@ failed : (c : After-band_at-band) → holds c.band_at-band.result c.loop-i.p ≡
 failed c = ap (λ (b : Band). holds b c.loop-i.p) (read c) ∙ (let fails-21 : holds (get_or (all_seen c.args.turned c.top-top.result (take c.args.force.count (bands_in c.args.rows.now))) c.loop-i.i blank_band) c.loop-i.p ≡ false = (let look-20 : (h : c.loop-i.i < c.args.force.count) → holds (get_or (all_seen c.args.turned c.top-top.result (take c.args.force.count (bands_in c.args.rows.now))) c.loop-i.i blank_band) c.loop-i.p ≡ holds (get_or (bands_in c.args.rows.now) c.loop-i.i blank_band) c.facing-q.result = λ h. ap (λ (b : Band). holds b c.loop-i.p) ((let swept-14 : (h : c.loop-i.i < c.args.force.count) → get_or (all_seen c.args.turned c.top-top.result (take c.args.force.count (bands_in c.args.rows.now))) c.loop-i.i blank_band ≡ seen c.args.turned c.top-top.result (get_or (bands_in c.args.rows.now) c.loop-i.i blank_band) = λ h. let size = length-take-le c.args.force.count (bands_in c.args.rows.now) (let long-13 : c.args.force.count ≤ length (bands_in c.args.rows.now) = omega (arith, c.requires.start_bound.1.places, c.requires.start_bound.1.count) in long-13) in
     seen_at c.args.turned c.top-top.result (take c.args.force.count (bands_in c.args.rows.now)) c.loop-i.i blank_band (omega (arith, size, h))
     ∙ ap (seen c.args.turned c.top-top.result) (get_or-take c.args.force.count (bands_in c.args.rows.now) c.loop-i.i blank_band h) in swept-14) h)
-    ∙ seen-holds c.args.turned c.top-top.result (get_or (bands_in c.args.rows.now) c.loop-i.i blank_band) c.loop-i.p ((let one_laid-17 : (h : c.loop-i.i < c.args.force.count) → Laid c.top-top.result (get_or (bands_in c.args.rows.now) c.loop-i.i blank_band) = λ h. subst (λ (t : ℕ). Laid t (get_or (bands_in c.args.rows.now) c.loop-i.i blank_band)) (sym (c.top-top.ensures)) ((let laid-16 : (h : c.loop-i.i < c.args.force.count) → Laid (top c.args.force.width.bits) (get_or (bands_in c.args.rows.now) c.loop-i.i blank_band) = λ h. laid_take _ (bands_in c.args.rows.now) c.args.force.count c.loop-i.i blank_band h (let long-15 : c.args.force.count ≤ length (bands_in c.args.rows.now) = omega (arith, c.requires.start_bound.1.places, c.requires.start_bound.1.count) in long-15) c.requires.start_bound.1.laid in laid-16) h) in one_laid-17) h) (let word-19 : (c.words.p ≤ c.loop-i.p) × (c.loop-i.p ≤ c.top-top.result) = let f = (let next_at-18 : First (has_bits c.args.force.fixed) (suc (top c.args.force.width.bits) - c.words.p) c.words.p c.in-At.x = first_is _ _ _ _ (sym c.next.ensures ∙ c.in-At.is) in next_at-18) in
+    ∙ seen-holds c.args.turned c.top-top.result (get_or (bands_in c.args.rows.now) c.loop-i.i blank_band) c.loop-i.p ((let one_laid-17 : (h : c.loop-i.i < c.args.force.count) → Laid c.top-top.result (get_or (bands_in c.args.rows.now) c.loop-i.i blank_band) = λ h. subst (λ (t : ℕ). Laid t (get_or (bands_in c.args.rows.now) c.loop-i.i blank_band)) (sym (c.top-top.ensures)) ((let laid-16 : (h : c.loop-i.i < c.args.force.count) → Laid (top c.args.force.width.bits) (get_or (bands_in c.args.rows.now) c.loop-i.i blank_band) = λ h. laid_take _ (bands_in c.args.rows.now) c.args.force.count c.loop-i.i blank_band h (let long-15 : c.args.force.count ≤ length (bands_in c.args.rows.now) = omega (arith, c.requires.start_bound.1.places, c.requires.start_bound.1.count) in long-15) c.requires.start_bound.1.laid in laid-16) h) in one_laid-17) h) (let word-19 : (c.words.p ≤ c.loop-i.p) × (c.loop-i.p ≤ c.top-top.result) = let f = (let next_at-18 : First (has_bits c.args.force.fixed) (suc (top c.args.force.width.bits) - c.words.p) c.words.p c.in-Some.x = first_is _ _ _ _ (sym c.next.ensures ∙ c.in-Some.is) in next_at-18) in
     (omega (arith, f.low, c.loop-i.invariant.1), omega (arith, f.high, c.loop-i.invariant.1, c.top-top.ensures)) in word-19).1
     ∙ ap (λ (x : ℕ). holds (get_or (bands_in c.args.rows.now) c.loop-i.i blank_band) (faced c.args.turned c.top-top.result x)) c.loop-i.invariant.1
     ∙ ap (holds (get_or (bands_in c.args.rows.now) c.loop-i.i blank_band)) (sym c.facing-q.ensures) in look-20) (c.if-i-n.true) ∙ not-true _ (sym c.fails_at.ensures ∙ c.if-fails_at.true) in fails-21)
 
 ended : (c : After-run-reach) → (c.loop-i.p ≤ c.run-reach.result.to) × (c.run-reach.result.to ≤ c.top-top.result)
-ended c = run_range _ _ _ _ (let word-23 : (c.words.p ≤ c.loop-i.p) × (c.loop-i.p ≤ c.top-top.result) = let f = (let next_at-22 : First (has_bits c.args.force.fixed) (suc (top c.args.force.width.bits) - c.words.p) c.words.p c.in-At.x = first_is _ _ _ _ (sym c.next.ensures ∙ c.in-At.is) in next_at-22) in
+ended c = run_range _ _ _ _ (let word-23 : (c.words.p ≤ c.loop-i.p) × (c.loop-i.p ≤ c.top-top.result) = let f = (let next_at-22 : First (has_bits c.args.force.fixed) (suc (top c.args.force.width.bits) - c.words.p) c.words.p c.in-Some.x = first_is _ _ _ _ (sym c.next.ensures ∙ c.in-Some.is) in next_at-22) in
     (omega (arith, f.low, c.loop-i.invariant.1), omega (arith, f.high, c.loop-i.invariant.1, c.top-top.ensures)) in word-23).1 c.run-reach.ensures.1
 
 past : (c : After-run-reach) → NoneFrom (all_seen c.args.turned c.top-top.result (take c.args.force.count (bands_in c.args.rows.now))) c.args.force.fixed
     c.args.start (c.run-reach.result.to + 1)
 past c =
     past_run (all_seen c.args.turned c.top-top.result (take c.args.force.count (bands_in c.args.rows.now))) c.args.force.fixed c.args.start c.top-top.result c.loop-i.p _ c.loop-i.i blank_band
-    (omega (arith, (let count-25 : length (all_seen c.args.turned c.top-top.result (take c.args.force.count (bands_in c.args.rows.now))) ≡ c.args.force.count = seen_length _ _ (take c.args.force.count (bands_in c.args.rows.now)) ∙ length-take-le c.args.force.count (bands_in c.args.rows.now) (let long-24 : c.args.force.count ≤ length (bands_in c.args.rows.now) = omega (arith, c.requires.start_bound.1.places, c.requires.start_bound.1.count) in long-24) in count-25), c.if-i-n.true)) (let word-27 : (c.words.p ≤ c.loop-i.p) × (c.loop-i.p ≤ c.top-top.result) = let f = (let next_at-26 : First (has_bits c.args.force.fixed) (suc (top c.args.force.width.bits) - c.words.p) c.words.p c.in-At.x = first_is _ _ _ _ (sym c.next.ensures ∙ c.in-At.is) in next_at-26) in
+    (omega (arith, (let count-25 : length (all_seen c.args.turned c.top-top.result (take c.args.force.count (bands_in c.args.rows.now))) ≡ c.args.force.count = seen_length _ _ (take c.args.force.count (bands_in c.args.rows.now)) ∙ length-take-le c.args.force.count (bands_in c.args.rows.now) (let long-24 : c.args.force.count ≤ length (bands_in c.args.rows.now) = omega (arith, c.requires.start_bound.1.places, c.requires.start_bound.1.count) in long-24) in count-25), c.if-i-n.true)) (let word-27 : (c.words.p ≤ c.loop-i.p) × (c.loop-i.p ≤ c.top-top.result) = let f = (let next_at-26 : First (has_bits c.args.force.fixed) (suc (top c.args.force.width.bits) - c.words.p) c.words.p c.in-Some.x = first_is _ _ _ _ (sym c.next.ensures ∙ c.in-Some.is) in next_at-26) in
     (omega (arith, f.low, c.loop-i.invariant.1), omega (arith, f.high, c.loop-i.invariant.1, c.top-top.ensures)) in word-27).1 (let below-29 : NoneFrom (all_seen c.args.turned c.top-top.result (take c.args.force.count (bands_in c.args.rows.now))) c.args.force.fixed c.args.start c.loop-i.p = subst (NoneFrom (all_seen c.args.turned c.top-top.result (take c.args.force.count (bands_in c.args.rows.now))) c.args.force.fixed c.args.start) (sym c.loop-i.invariant.1)
-    (past_next (all_seen c.args.turned c.top-top.result (take c.args.force.count (bands_in c.args.rows.now))) _ _ _ _ _ c.words.invariant.5 (let next_at-28 : First (has_bits c.args.force.fixed) (suc (top c.args.force.width.bits) - c.words.p) c.words.p c.in-At.x = first_is _ _ _ _ (sym c.next.ensures ∙ c.in-At.is) in next_at-28)) in below-29) (let fails-38 : holds (get_or (all_seen c.args.turned c.top-top.result (take c.args.force.count (bands_in c.args.rows.now))) c.loop-i.i blank_band) c.loop-i.p ≡ false = (let look-37 : (h : c.loop-i.i < c.args.force.count) → holds (get_or (all_seen c.args.turned c.top-top.result (take c.args.force.count (bands_in c.args.rows.now))) c.loop-i.i blank_band) c.loop-i.p ≡ holds (get_or (bands_in c.args.rows.now) c.loop-i.i blank_band) c.facing-q.result = λ h. ap (λ (b : Band). holds b c.loop-i.p) ((let swept-31 : (h : c.loop-i.i < c.args.force.count) → get_or (all_seen c.args.turned c.top-top.result (take c.args.force.count (bands_in c.args.rows.now))) c.loop-i.i blank_band ≡ seen c.args.turned c.top-top.result (get_or (bands_in c.args.rows.now) c.loop-i.i blank_band) = λ h. let size = length-take-le c.args.force.count (bands_in c.args.rows.now) (let long-30 : c.args.force.count ≤ length (bands_in c.args.rows.now) = omega (arith, c.requires.start_bound.1.places, c.requires.start_bound.1.count) in long-30) in
+    (past_next (all_seen c.args.turned c.top-top.result (take c.args.force.count (bands_in c.args.rows.now))) _ _ _ _ _ c.words.invariant.5 (let next_at-28 : First (has_bits c.args.force.fixed) (suc (top c.args.force.width.bits) - c.words.p) c.words.p c.in-Some.x = first_is _ _ _ _ (sym c.next.ensures ∙ c.in-Some.is) in next_at-28)) in below-29) (let fails-38 : holds (get_or (all_seen c.args.turned c.top-top.result (take c.args.force.count (bands_in c.args.rows.now))) c.loop-i.i blank_band) c.loop-i.p ≡ false = (let look-37 : (h : c.loop-i.i < c.args.force.count) → holds (get_or (all_seen c.args.turned c.top-top.result (take c.args.force.count (bands_in c.args.rows.now))) c.loop-i.i blank_band) c.loop-i.p ≡ holds (get_or (bands_in c.args.rows.now) c.loop-i.i blank_band) c.facing-q.result = λ h. ap (λ (b : Band). holds b c.loop-i.p) ((let swept-31 : (h : c.loop-i.i < c.args.force.count) → get_or (all_seen c.args.turned c.top-top.result (take c.args.force.count (bands_in c.args.rows.now))) c.loop-i.i blank_band ≡ seen c.args.turned c.top-top.result (get_or (bands_in c.args.rows.now) c.loop-i.i blank_band) = λ h. let size = length-take-le c.args.force.count (bands_in c.args.rows.now) (let long-30 : c.args.force.count ≤ length (bands_in c.args.rows.now) = omega (arith, c.requires.start_bound.1.places, c.requires.start_bound.1.count) in long-30) in
     seen_at c.args.turned c.top-top.result (take c.args.force.count (bands_in c.args.rows.now)) c.loop-i.i blank_band (omega (arith, size, h))
     ∙ ap (seen c.args.turned c.top-top.result) (get_or-take c.args.force.count (bands_in c.args.rows.now) c.loop-i.i blank_band h) in swept-31) h)
-    ∙ seen-holds c.args.turned c.top-top.result (get_or (bands_in c.args.rows.now) c.loop-i.i blank_band) c.loop-i.p ((let one_laid-34 : (h : c.loop-i.i < c.args.force.count) → Laid c.top-top.result (get_or (bands_in c.args.rows.now) c.loop-i.i blank_band) = λ h. subst (λ (t : ℕ). Laid t (get_or (bands_in c.args.rows.now) c.loop-i.i blank_band)) (sym (c.top-top.ensures)) ((let laid-33 : (h : c.loop-i.i < c.args.force.count) → Laid (top c.args.force.width.bits) (get_or (bands_in c.args.rows.now) c.loop-i.i blank_band) = λ h. laid_take _ (bands_in c.args.rows.now) c.args.force.count c.loop-i.i blank_band h (let long-32 : c.args.force.count ≤ length (bands_in c.args.rows.now) = omega (arith, c.requires.start_bound.1.places, c.requires.start_bound.1.count) in long-32) c.requires.start_bound.1.laid in laid-33) h) in one_laid-34) h) (let word-36 : (c.words.p ≤ c.loop-i.p) × (c.loop-i.p ≤ c.top-top.result) = let f = (let next_at-35 : First (has_bits c.args.force.fixed) (suc (top c.args.force.width.bits) - c.words.p) c.words.p c.in-At.x = first_is _ _ _ _ (sym c.next.ensures ∙ c.in-At.is) in next_at-35) in
+    ∙ seen-holds c.args.turned c.top-top.result (get_or (bands_in c.args.rows.now) c.loop-i.i blank_band) c.loop-i.p ((let one_laid-34 : (h : c.loop-i.i < c.args.force.count) → Laid c.top-top.result (get_or (bands_in c.args.rows.now) c.loop-i.i blank_band) = λ h. subst (λ (t : ℕ). Laid t (get_or (bands_in c.args.rows.now) c.loop-i.i blank_band)) (sym (c.top-top.ensures)) ((let laid-33 : (h : c.loop-i.i < c.args.force.count) → Laid (top c.args.force.width.bits) (get_or (bands_in c.args.rows.now) c.loop-i.i blank_band) = λ h. laid_take _ (bands_in c.args.rows.now) c.args.force.count c.loop-i.i blank_band h (let long-32 : c.args.force.count ≤ length (bands_in c.args.rows.now) = omega (arith, c.requires.start_bound.1.places, c.requires.start_bound.1.count) in long-32) c.requires.start_bound.1.laid in laid-33) h) in one_laid-34) h) (let word-36 : (c.words.p ≤ c.loop-i.p) × (c.loop-i.p ≤ c.top-top.result) = let f = (let next_at-35 : First (has_bits c.args.force.fixed) (suc (top c.args.force.width.bits) - c.words.p) c.words.p c.in-Some.x = first_is _ _ _ _ (sym c.next.ensures ∙ c.in-Some.is) in next_at-35) in
     (omega (arith, f.low, c.loop-i.invariant.1), omega (arith, f.high, c.loop-i.invariant.1, c.top-top.ensures)) in word-36).1
     ∙ ap (λ (x : ℕ). holds (get_or (bands_in c.args.rows.now) c.loop-i.i blank_band) (faced c.args.turned c.top-top.result x)) c.loop-i.invariant.1
     ∙ ap (holds (get_or (bands_in c.args.rows.now) c.loop-i.i blank_band)) (sym c.facing-q.ensures) in look-37) (c.if-i-n.true) ∙ not-true _ (sym c.fails_at.ensures ∙ c.if-fails_at.true) in fails-38)
@@ -150,7 +150,7 @@ next-requires c = record { width = c.requires.width; p_bound = omega (arith, top
 
 pub facing-q-requires : goal.facing-q-requires
 facing-q-requires c =
-    let f = first_is _ _ _ _ (sym c.next.ensures ∙ c.in-At.is) in
+    let f = first_is _ _ _ _ (sym c.next.ensures ∙ c.in-Some.is) in
     omega (arith, f.high, top_is (goal.at.facing-q-requires c).At-words)
 
 pub loop-i-init : goal.loop-i-init
@@ -158,7 +158,7 @@ loop-i-init c = (c.words.invariant.0, refl, refl, c.words.invariant.4, λ e. abs
 
 pub fails_at-requires : goal.fails_at-requires
 fails_at-requires c =
-    let q = faced_word c.args.turned c.top-top.result c.in-At.x (omega (arith, (word (goal.at.fails_at-requires c).At-loop-i).1, c.loop-i.invariant.1)) in record { i_bound = (omega (arith, c.requires.start_bound.1.count), c.requires.width); laid = (laid (goal.at.fails_at-requires c).At-loop-i c.if-i-n.true, omega (arith, q, (word (goal.at.fails_at-requires c).At-loop-i).1, top_is (goal.at.fails_at-requires c).At-words, c.facing-q.ensures)) }
+    let q = faced_word c.args.turned c.top-top.result c.in-Some.x (omega (arith, (word (goal.at.fails_at-requires c).At-loop-i).1, c.loop-i.invariant.1)) in record { i_bound = (omega (arith, c.requires.start_bound.1.count), c.requires.width); laid = (laid (goal.at.fails_at-requires c).At-loop-i c.if-i-n.true, omega (arith, q, (word (goal.at.fails_at-requires c).At-loop-i).1, top_is (goal.at.fails_at-requires c).At-words, c.facing-q.ensures)) }
 
 pub band_at-band-requires : goal.band_at-band-requires
 band_at-band-requires c = record { i_bound = omega (arith, c.requires.start_bound.1.count, there (goal.at.band_at-band-requires c).Then-fails_at); laid = one_laid (goal.at.band_at-band-requires c).At-loop-i (there (goal.at.band_at-band-requires c).Then-fails_at) }

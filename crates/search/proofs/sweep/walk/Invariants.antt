@@ -25,7 +25,7 @@ decreases-loop-i l = looks l.all l.n l.i
 
 abbrev pub invariant-words : goal.invariant-words
 invariant-words l =
-    (l.i ≤ l.n) × (l.start ≤ l.p) × (l.p ≤ l.top) × (l.found ≡ walked.Nothing) × (l.patience ≡ 0 → l.left ≡ 0) × NoneFrom (all_seen l.turned l.top (take l.n (bands_in l.rows))) l.fixed l.start l.p
+    (l.i ≤ l.n) × (l.start ≤ l.p) × (l.p ≤ l.top) × (l.found ≡ walked.Nothing) × (l.patience ≡ 0 → l.left ≡ 0) × NoneFrom (all_seen l.turned l.top (take l.n (bands_in l.rows))) l.force.fixed l.start l.p
 
 abbrev pub decreases-words : goal.decreases-words
 decreases-words l = l.top - l.p

@@ -11,4 +11,4 @@ returns-in_default c =
 
 pub returns : goal.returns
 returns c =
-    next_after (has_bits c.args.fixed) c.args.first c.args.last _ _ (sym c.next.ensures ∙ c.in-At.is)
+    next_after (has_bits c.args.fixed) c.args.first c.args.last _ _ (sym c.next.ensures ∙ c.in-Some.is)

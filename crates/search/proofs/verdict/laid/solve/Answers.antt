@@ -68,20 +68,20 @@ pub returns-in_default-sweep : goal.returns-in_default-sweep
 unfolding verdict_of
 returns-in_default-sweep c =
     c.none-in_default-sweep.ensures
-    ∙ sym (ap₂ verdict_of c.in-At.is (ap (back _) c.in_default-sweep.is))
+    ∙ sym (ap₂ verdict_of c.in-Some.is (ap (back _) c.in_default-sweep.is))
     ∙ solved (goal.at.returns-in_default-sweep c).After-sweep-2
 
 pub overflow_sub-largest : goal.overflow_sub-largest
-overflow_sub-largest c = omega (arith, (first_is _ _ _ _ (sym c.sweep-2.ensures ∙ c.in-At-sweep.is)).high)
+overflow_sub-largest c = omega (arith, (first_is _ _ _ _ (sym c.sweep-2.ensures ∙ c.in-Some-sweep.is)).high)
 
 pub returns-then-smallest-largest : goal.returns-then-smallest-largest
 returns-then-smallest-largest c =
     both_found _ _ _ _ _ c.top-top.ensures (eq-eqb _ _ c.if-smallest-largest.true)
-    ∙ sym (ap₂ verdict_of c.in-At.is (ap (back _) c.in-At-sweep.is))
+    ∙ sym (ap₂ verdict_of c.in-Some.is (ap (back _) c.in-Some-sweep.is))
     ∙ solved (goal.at.returns-then-smallest-largest c).After-sweep-2
 
 pub returns-else-smallest-largest : goal.returns-else-smallest-largest
 returns-else-smallest-largest c =
     both_found _ _ _ _ _ c.top-top.ensures (ne_eqb _ _ c.if-smallest-largest.false)
-    ∙ sym (ap₂ verdict_of c.in-At.is (ap (back _) c.in-At-sweep.is))
+    ∙ sym (ap₂ verdict_of c.in-Some.is (ap (back _) c.in-Some-sweep.is))
     ∙ solved (goal.at.returns-else-smallest-largest c).After-sweep-2
