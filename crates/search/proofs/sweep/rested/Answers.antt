@@ -30,7 +30,7 @@ walk-requires c =
 pub returns-in-At : goal.returns-in-At
 returns-in-At c =
     let l = c.leap.ensures.word _ c.in-Some.is in
-    same_found (bands (goal.at.returns-in-At c).Start) _ (tops (goal.at.returns-in-At c).Start) c.args.start _ _ l.0 l.1 l.2 (c.walk.ensures.at _ c.in-At-walk.is)
+    same_found (bands (goal.at.returns-in-At c).Start) _ (tops (goal.at.returns-in-At c).Start) c.args.start _ _ l.0 l.1 l.2 (c.walk.ensures.at _ c.in-At.is)
 
 pub returns-in-Nothing : goal.returns-in-Nothing
 returns-in-Nothing c =
