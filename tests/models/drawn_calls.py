@@ -1,4 +1,4 @@
-# Calls drawn for a page, as crates/trial_draws draws them: these are no claims, and are read off the program.
+# Calls drawn for a page, as crates/trial_calls/src/trial_draws draws them: these are no claims, and are read off the program.
 from calls import NEW, OLD, add, back, forward, mark, opening, other
 from draws import after
 from paper import FORMS

@@ -1,4 +1,4 @@
-# Sheets that the programs of calls make, as crates/trial_calls and crates/trial_lists have them, and what they look at in an answer.
+# Sheets that the programs of calls make, as crates/trial_calls have them, and what they look at in an answer.
 from calls import BLANK, OLD, add, ask_on, back, forward, mark, on, open_on, record
 from draws import CASE2, CASES
 from paper import MARKS, NONE, RULES, top

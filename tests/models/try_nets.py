@@ -6,7 +6,7 @@ from joins import JOINS, OPS, WORDS, Net, result, run
 from paper import top
 from tally import Tally
 
-# ---- the draws, as crates/trial_nets has them
+# ---- the draws, as crates/trial_joins/src/trial_nets has them
 
 
 def drawn_interval(s, w):

@@ -40,7 +40,7 @@ def triples():
     return tally
 
 
-# The intervals that a number draws, and one operation after the other at the widths 5 to 8, as crates/trial_spans has them.
+# The intervals that a number draws, and one operation after the other at the widths 5 to 8, as crates/trial_joins/src/trial_spans.rt has them.
 def drawn_interval(s, w):
     ends = s >> 8 & top(w), s >> 32 & top(w)
     return min(ends), max(ends)

@@ -84,6 +84,7 @@ fn called(sheet: Sheet, call: Call) -> Answer
 pub fn whole(sheet: Sheet) -> Whole
     ensures { sheet_of result ≡ sheet }
 {
+    let Sheet { rules, marks, .. } = sheet;
     Whole {
         opening: Opening {
             width: sheet.width,
@@ -96,8 +97,8 @@ pub fn whole(sheet: Sheet) -> Whole
             waiting: sheet.waiting,
         },
         kept: sheet.kept,
-        rules: sheet.rules,
-        marks: sheet.marks,
+        rules,
+        marks,
     }
 }
 
@@ -105,15 +106,20 @@ pub fn whole(sheet: Sheet) -> Whole
 fn sheet_of(whole: Whole) -> Sheet
     ensures { result ≡ sheet_of whole }
 {
-    let opening = whole.opening;
-    let counts = whole.counts;
+    let Whole {
+        opening,
+        counts,
+        kept,
+        rules,
+        marks,
+    } = whole;
     Sheet {
         width: opening.width,
-        rules: whole.rules,
+        rules,
         count: counts.count,
-        marks: whole.marks,
+        marks,
         marked: counts.marked,
-        kept: whole.kept,
+        kept,
         given: counts.given,
         waiting: counts.waiting,
         edition: opening.edition,
