@@ -28,83 +28,44 @@ pub fn refusal_of(rule: Rule, width: Width) -> u64
 }
 
 // A form outside the table: 0, or past the last.
+#[tactic(auto, unfolding(crate::specs::accept::Accept::bad_form))]
 fn bad_form(rule: Rule) -> bool
     ensures { result ≡ bad_form rule }
 {
-    let form = rule.form;
-    if form < 1 {
-        return true;
-    }
-    Rule::FORMS < form
+    rule.form < 1 || Rule::FORMS < rule.form
 }
 
 // A sense above 1, or sense 1 with form 7.
+#[tactic(auto, unfolding(crate::specs::accept::Accept::bad_sense))]
 fn bad_sense(rule: Rule) -> bool
     ensures { result ≡ bad_sense rule }
 {
-    let form = rule.form;
-    if 1 < rule.sense {
-        return true;
-    }
-    if rule.sense == 1 {
-        return form == 7;
-    }
-    false
+    1 < rule.sense || rule.sense == 1 && rule.form == 7
 }
 
 // A constant above the top word, a bit in c2 that c1 lacks in form 7, or c2 not zero in forms 4, 5, 6.
+#[tactic(auto, unfolding(crate::specs::accept::Accept::bad_constant))]
 fn bad_constant(rule: Rule, width: Width) -> bool
     requires { IsWidth width.bits }
     ensures { result ≡ bad_constant width.bits rule }
 {
     let top = width.top();
-    if top < rule.c1 {
-        return true;
-    }
-    if top < rule.c2 {
-        return true;
-    }
-    if stray_bit(rule) {
-        return true;
-    }
-    if rule.c2 == 0 {
-        return false;
-    }
-    if rule.form < 4 {
-        return false;
-    }
-    rule.form <= 6
+    let stray = stray_bit(rule);
+    top < rule.c1 || top < rule.c2 || stray || rule.c2 != 0 && 4 <= rule.form && rule.form <= 6
 }
 
 // A bit in c2 that c1 lacks, in form 7.
-#[tactic(auto, using(crate::proofs::SearchAcceptStrayBit::wanted), unfolding(crate::specs::accept::Accept::stray_bit))]
+#[tactic(auto, unfolding(crate::specs::accept::Accept::stray_bit))]
 fn stray_bit(rule: Rule) -> bool
     ensures { result ≡ stray_bit rule }
 {
-    let form = rule.form;
-    let c1 = rule.c1;
-    let c2 = rule.c2;
-    if form != 7 {
-        return false;
-    }
-    c2 & c1 != c2
+    rule.form == 7 && rule.c2 & rule.c1 != rule.c2
 }
 
 // Whether a place has no rule: zeros.
-#[tactic(auto, using(crate::proofs::SearchAcceptIsNoRule::wanted), unfolding(crate::specs::accept::Accept::is_no_rule))]
+#[tactic(auto, unfolding(crate::specs::accept::Accept::is_no_rule))]
 pub fn is_no_rule(rule: Rule) -> bool
     ensures { result ≡ is_no_rule rule }
 {
-    let form = rule.form;
-    let c2 = rule.c2;
-    if form != 0 {
-        return false;
-    }
-    if rule.sense != 0 {
-        return false;
-    }
-    if rule.c1 != 0 {
-        return false;
-    }
-    c2 == 0
+    rule == Rule::NONE
 }

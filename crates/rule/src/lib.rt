@@ -14,7 +14,7 @@ pub mod bits;
 use word::Width;
 
 // A form, a sense (0 as written, 1 negated) and two constants.
-#[derive(Clone, Copy)]
+#[derive(Clone, Copy, PartialEq, Eq)]
 pub struct Rule {
     pub form: u64,
     pub sense: u64,
@@ -55,8 +55,7 @@ impl Rule {
         requires x_bound { (x ≤ top width.bits) × (self.c1 ≤ top width.bits) }
         ensures { result ≡ written width.bits self x }
     {
-        let form = self.form;
-        match form {
+        match self.form {
             1 => width.add(self.c1, x) <= width.add(self.c2, x),
             2 => self.c1 <= width.add(self.c2, x),
             3 => width.add(self.c1, x) <= self.c2,
@@ -76,9 +75,7 @@ impl Rule {
         ensures { result ≡ settled width.bits self.c1 self.c2 x }
     {
         let since = width.sub(x, self.c1);
-        if since < self.c2 {
-            return false;
-        }
-        since < width.half()
+        let half = width.half();
+        self.c2 <= since && since < half
     }
 }
