@@ -40,10 +40,7 @@ pub fn opens(edition: Edition, code: u64, digits: usize) -> bool
     ensures { result ≡ (eqb digits OPENING && eqb code (terms edition).opens) }
 {
     let terms = edition.terms();
-    if digits != OPENING {
-        return false;
-    }
-    code == terms.opens
+    digits == OPENING && code == terms.opens
 }
 
 // Whether it adds a rule to one.
@@ -53,10 +50,7 @@ pub fn adds(edition: Edition, code: u64, digits: usize) -> bool
     let terms = edition.terms();
     let word = terms.digits;
     let end = C1 + word + word;
-    if digits != end {
-        return false;
-    }
-    code == terms.adds
+    digits == end && code == terms.adds
 }
 
 // The rule that the digits after an add's code write.

@@ -8,14 +8,14 @@ ghost use Rattle.page.specs.route.Shape.{is_zero, marks_shaped, rising};
 use page::MARKS;
 
 // Whether m marks rise up to n, with zeros after them.
+#[tactic(auto, unfolding(page::specs::route::Shape::marks_shaped))]
 pub fn marked_so(marks: &[usize; MARKS], m: usize, n: usize) -> bool
     requires { (m ≤ MARKS) × (length marks.now ≡ MARKS) }
     ensures { result ≡ marks_shaped n m marks.now }
 {
-    if !rising(marks, m, n) {
-        return false;
-    }
-    all_zero(marks, m)
+    let rises = rising(marks, m, n);
+    let zeros = all_zero(marks, m);
+    rises && zeros
 }
 
 // Whether the first m marks rise, up to n.
@@ -25,11 +25,11 @@ fn rising(marks: &[usize; MARKS], m: usize, n: usize) -> bool
     ensures { result ≡ rising 0 (take m marks.now) n }
 {
     let mut low = 0;
-    for i in 0..m {
-        if marks[i] < low {
+    for &mark in &marks[..m] {
+        if mark < low {
             return false;
         }
-        low = marks[i];
+        low = mark;
     }
     low <= n
 }
@@ -40,8 +40,8 @@ pub fn all_zero(marks: &[usize; MARKS], m: usize) -> bool
     requires { (m ≤ MARKS) × (length marks.now ≡ MARKS) }
     ensures { result ≡ every is_zero (drop m marks.now) }
 {
-    for i in m..MARKS {
-        if marks[i] != 0 {
+    for &mark in &marks[m..] {
+        if mark != 0 {
             return false;
         }
     }
@@ -53,9 +53,7 @@ pub fn clear_marks(marks: &mut [usize; MARKS], n: usize, m: usize)
     requires { (n ≤ m) × (m ≤ MARKS) × (length marks.old ≡ MARKS) }
     ensures { marks.new ≡ take n marks.old ++ (replicate (m - n) 0 ++ drop m marks.old) }
 {
-    for i in n..m {
-        marks[i] = 0;
-    }
+    marks[n..m].fill(0);
 }
 
 // The marks of a record, laid out.

@@ -46,8 +46,5 @@ pub fn tested(head: Head, rows: &mut [[u64; NUMBERS]; Rule::LIMIT], marks: &[usi
         },
     );
     crate::slate::put_note(rows, count, found, fixed);
-    head.found(
-        crate::slate::slate_shape::same_kept(head.kept, found),
-        fixed,
-    )
+    head.found(head.kept == found, fixed)
 }

@@ -28,22 +28,13 @@ pub fn narrowed(
 }
 
 // Whether the band holds both ends of what was kept before and they have the bits.
+#[tactic(auto, unfolding(crate::specs::slate::slate_add::route::Narrows::stays_so))]
 fn stays(before: Kept, band: Band, fixed: Fixed) -> bool
     ensures { result ≡ stays_so before band fixed }
 {
-    let smallest = before.smallest;
-    let largest = before.largest;
-    if before.verdict == 0 {
-        return false;
-    }
-    if !band.holds(smallest) {
-        return false;
-    }
-    if !band.holds(largest) {
-        return false;
-    }
-    if !fixed.has(smallest) {
-        return false;
-    }
-    fixed.has(largest)
+    before.verdict != 0
+        && band.holds(before.smallest)
+        && band.holds(before.largest)
+        && fixed.has(before.smallest)
+        && fixed.has(before.largest)
 }
