@@ -2,7 +2,6 @@ pub mod SearchGround
 pub mod SearchRefusingRefusesRule
 pub mod SearchSlateShapeShaped
 pub mod SearchSlateShapeBlank
-pub mod SearchSlateShapeSameKept
 pub mod SearchRefusingRefuses
 pub mod Cleared
 pub mod Holding

@@ -19,19 +19,34 @@ pub fn blank(head: Head, rows: &[[u64; NUMBERS]; Rule::LIMIT], marks: &[usize; M
     requires room { Room rows.now marks.now }
     ensures { result ≡ stands_so head (rules_in rows.now) marks.now }
 {
+    let edition = head.opening.edition;
+    if edition != Edition::Old {
+        return false;
+    }
+    if head.counts.given != 0 {
+        return false;
+    }
+    if head.counts.marked != 0 {
+        return false;
+    }
+    if head.counts.waiting != 0 {
+        return false;
+    }
+    if head.counts.count != 0 {
+        return false;
+    }
+    if !search::laying::none_from(rows, 0) {
+        return false;
+    }
+    if !crate::marks::all_zero(marks, 0) {
+        return false;
+    }
     let nothing = Kept {
         verdict: 0,
         smallest: 0,
         largest: 0,
     };
-    head.opening.edition == Edition::Old
-        && head.counts.given == 0
-        && head.counts.marked == 0
-        && head.counts.waiting == 0
-        && head.counts.count == 0
-        && search::laying::none_from(rows, 0)
-        && crate::marks::all_zero(marks, 0)
-        && head.kept == nothing
+    head.kept == nothing
 }
 
 // Whether a record whose width is not 0 has a width of its edition, rules and marks as a sheet may have them.
@@ -47,12 +62,26 @@ pub fn shaped(head: Head, rows: &[[u64; NUMBERS]; Rule::LIMIT], marks: &[usize; 
     let given = head.counts.given;
     let marked = head.counts.marked;
     let waiting = head.counts.waiting;
-    given <= Rule::LIMIT
-        && marked <= MARKS
-        && waiting <= MARKS - marked
-        && count == crate::slate::in_force(given, marks, marked, waiting)
-        && width <= edition.terms().widest
-        && search::laying::all_acceptable(rows, given, Width { bits: width })
-        && search::laying::none_from(rows, given)
-        && crate::marks::marked_so(marks, marked + waiting, given)
+    if Rule::LIMIT < given {
+        return false;
+    }
+    if MARKS < marked {
+        return false;
+    }
+    if MARKS - marked < waiting {
+        return false;
+    }
+    if count != crate::slate::in_force(given, marks, marked, waiting) {
+        return false;
+    }
+    if edition.terms().widest < width {
+        return false;
+    }
+    if !search::laying::all_acceptable(rows, given, Width { bits: width }) {
+        return false;
+    }
+    if !search::laying::none_from(rows, given) {
+        return false;
+    }
+    crate::marks::marked_so(marks, marked + waiting, given)
 }

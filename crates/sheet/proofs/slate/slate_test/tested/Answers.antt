@@ -1,6 +1,7 @@
 -- `tested` meets its contract: the shape first, then what is kept, found anew on the bands that are drawn. Assumes nothing.
 use mathlib.Core.Path.{◌≡◌, refl, sym, ap, ◌∙◌, subst}
-use mathlib.Core.Bool.{true}
+use mathlib.Core.Bool.{Bool, true, ◌&&◌}
+use Rattle.std.specs.Prelude.{nat_eq}
 use mathlib.Core.List.{List}
 use Prim.Native.Nat.{ℕ, ◌≤◌}
 use native.Mathlib.Omega.{arith}
@@ -11,6 +12,7 @@ use Rattle.word.proofs.Tests.{both_pass}
 use Rattle.rule.specs.declared.Rule.{Rule}
 use Rattle.rule.specs.Meaning.{AllLawful, RULES}
 use Rattle.rule.proofs.accept.Choices.{failed, never, passed}
+use Rattle.search.specs.declared.verdict.Kept.{Kept}
 use Rattle.search.specs.rows.route.Rows.{rules_in}
 use Rattle.search.specs.verdict.route.OnBands.{Ends}
 use Rattle.search.proofs.verdict.Rules.{whole_wheel}
@@ -87,6 +89,11 @@ solve-found-requires c =
 pub put_note-requires : goal.put_note-requires
 put_note-requires c = omega (arith, low (goal.at.put_note-requires c).Else-not-shaped, few (goal.at.put_note-requires c).Else-not-shaped)
 
+-- the derived equality of what is kept looks at the three numbers
+same_told : (a b : Kept) {r : Bool} → r ≡ (nat_eq a.verdict b.verdict && (nat_eq a.smallest b.smallest && nat_eq a.largest b.largest)) → r ≡ same_kept a b
+unfolding same_kept
+same_told a b h = h
+
 pub returns : goal.returns
 returns c =
     let rules_too = rules_same c.args.head c.requires (width (goal.at.returns c).Else-not-shaped) (low (goal.at.returns c).Else-not-shaped) (few (goal.at.returns c).Else-not-shaped) (lawful (goal.at.returns c).Else-not-shaped) _ c.draw.ensures c.bits_of-fixed.result c.bits_of-fixed.ensures c.solve-found.result c.solve-found.ensures c.put_note.new.rows c.put_note.ensures in let whole = subst (All (goal.at.returns c).Start c.put_note.new.rows) (sym c.found-2.ensures) (
@@ -95,7 +102,7 @@ returns c =
         rules_too,
         record {
           room = room_still c.args.head c.requires (width (goal.at.returns c).Else-not-shaped) (low (goal.at.returns c).Else-not-shaped) (few (goal.at.returns c).Else-not-shaped) (lawful (goal.at.returns c).Else-not-shaped) _ c.draw.ensures c.bits_of-fixed.result c.bits_of-fixed.ensures c.solve-found.result c.solve-found.ensures c.put_note.new.rows c.put_note.ensures;
-          tested = c.same_kept.ensures
+          tested = same_told c.args.head.kept c.solve-found.result c.eq.ensures
               ∙ ap (same_kept c.args.head.kept) (kept_so c.args.head c.requires (width (goal.at.returns c).Else-not-shaped) (low (goal.at.returns c).Else-not-shaped) (few (goal.at.returns c).Else-not-shaped) (lawful (goal.at.returns c).Else-not-shaped) _ c.draw.ensures c.bits_of-fixed.result c.bits_of-fixed.ensures c.solve-found.result c.solve-found.ensures)
               ∙ told_kept c.args.head _ _ c.if-bits-eq0.false (good (goal.at.returns c).Else-not-shaped)
               ∙ ap (λ (rs : List Rule). stands_so c.args.head rs c.args.marks.now) (sym rules_too)
