@@ -1,6 +1,6 @@
 -- What is told of editions: an edition is the same as itself and as no other; each has words of a width that a machine word holds, in
 -- digits that hold them all, of which there are never more than so many. Assumes nothing.
-use Rattle.std.proofs.Common.{◌≡◌, ◌^◌, ◌≤◌, Bool, true, false, not, refl, ap, ◌∙◌, arith}
+use Rattle.std.proofs.Common.{◌≡◌, ◌^◌, ◌≤◌, true, refl, arith}
 use mathlib.Core.Bool.{false≢true}
 use Rattle.word.specs.declared.Edition.{Edition}
 use Rattle.word.specs.declared.Edition.TheVariants.{New, Old}
@@ -32,12 +32,3 @@ pub digits_held : (e : Edition) → (terms e).digits ≤ 16
 unfolding terms
 digits_held Old = omega arith
 digits_held New = omega arith
-
--- the opposite of a test that answers as the derived equality does, of each two editions, is that of `same`
-pub told_other : (test : Edition → Edition → Bool) (e k : Edition) {b : Bool} → b ≡ not (test e k)
-    → test Old Old ≡ true → test Old New ≡ false → test New Old ≡ false → test New New ≡ true → b ≡ not (same e k)
-unfolding same
-told_other test Old Old h p q r s = h ∙ ap not p
-told_other test Old New h p q r s = h ∙ ap not q
-told_other test New Old h p q r s = h ∙ ap not r
-told_other test New New h p q r s = h ∙ ap not s

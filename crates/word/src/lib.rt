@@ -4,7 +4,7 @@
 pub mod line_width;
 
 ghost use Rattle.std.specs.Prelude.{◌≡◌, ◌≤◌};
-ghost use Rattle.word.specs.Edition.{terms};
+ghost use Rattle.word.specs.Edition.{same, terms};
 ghost use Rattle.word.specs.Word.{IsWidth, top, half, plus, minus, signed};
 
 // A number of bits, 1 to LIMIT of them.
@@ -100,6 +100,24 @@ impl Edition {
                 digits: Edition::DIGITS,
                 opens: 0x11,
                 adds: 0x12,
+            },
+        }
+    }
+
+    /// Whether the two are one edition.
+    // By its cases and not by the derived equality: what that answers is said by a name of Rattle's own, so that every caller's proof would go by cases.
+    #[tactic(auto, unfolding(crate::specs::Edition::same))]
+    pub fn same(self, other: Edition) -> bool
+        ensures { result ≡ same self other }
+    {
+        match self {
+            Edition::Old => match other {
+                Edition::Old => true,
+                Edition::New => false,
+            },
+            Edition::New => match other {
+                Edition::Old => false,
+                Edition::New => true,
             },
         }
     }

@@ -31,7 +31,7 @@ pub fn refuses_rule(head: Head, edition: Edition, rule: Rule) -> u64
 {
     let count = head.counts.count;
     let kind = head.opening.edition;
-    let other = edition != kind;
+    let other = !edition.same(kind);
     let number = refuses(head);
     if number != 0 {
         return number;

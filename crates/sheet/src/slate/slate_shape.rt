@@ -20,7 +20,7 @@ pub fn blank(head: Head, rows: &[[u64; NUMBERS]; Rule::LIMIT], marks: &[usize; M
     ensures { result ≡ stands_so head (rules_in rows.now) marks.now }
 {
     let edition = head.opening.edition;
-    if edition != Edition::Old {
+    if !edition.same(Edition::Old) {
         return false;
     }
     if head.counts.given != 0 {

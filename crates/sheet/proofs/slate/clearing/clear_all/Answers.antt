@@ -10,11 +10,12 @@ use Rattle.page.specs.Page.{MARKS}
 use Rattle.sheet.specs.slate.route.Held.{Waits}
 use Rattle.sheet.proofs.slate.Cleared.{emptied, past_all, rules_cleared}
 use Rattle.sheet.proofs.slate.Holding.{rules_places, waits_if}
+use Rattle.std.proofs.lemmas.Bool.{not_from_true}
 use Rattle.sheet.proofs.slate.clearing.clear_all.Goals.{Else-not-head}
 use Rattle.sheet.proofs.slate.clearing.clear_all.Goals as goal
 
 waits : (a : Else-not-head) → Waits a.args.head (rules_in a.args.rows.now) a.args.marks.now
-waits a = waits_if a.requires (a.if-not-head.false)
+waits a = waits_if a.requires (not_from_true _ a.if-not-head.false)
 
 pub clear-requires : goal.clear-requires
 clear-requires c = (omega arith, omega arith, c.requires.room.rows_places)
@@ -28,8 +29,8 @@ returns-then-not-head c = record { rows_after = emptied (rules_in c.args.rows.no
 pub clear-requires-2 : goal.clear-requires-2
 clear-requires-2 c = (omega arith, (waits (goal.at.clear-requires-2 c).Else-not-head).given_high, c.requires.room.rows_places)
 
-pub overflow_add-marked : goal.overflow_add-marked
-overflow_add-marked c = omega (arith, (waits (goal.at.overflow_add-marked c).Else-not-head).marks_high)
+pub overflow_add-head : goal.overflow_add-head
+overflow_add-head c = omega (arith, (waits (goal.at.overflow_add-head c).Else-not-head).marks_high)
 
 pub clear_marks-requires-2 : goal.clear_marks-requires-2
 clear_marks-requires-2 c = let w = waits (goal.at.clear_marks-requires-2 c).Else-not-head in (omega arith, w.marks_high, w.marks_places)
