@@ -1,10 +1,10 @@
--- `or_step` meets its contract: OR lacks the bit of the half just where both words lack it. Assumes nothing.
+-- `Or::step` meets its contract: OR lacks the bit of the half just where both words lack it. Assumes nothing.
 use native.Mathlib.Omega.{arith}
 use Rattle.span.specs.steps.route.Step.{Right}
 use Rattle.span.proofs.steps.Halves.{high, low, opened}
-use Rattle.span.proofs.steps.Bitwise.{or_bitwise}
+use Rattle.span.specs.steps.Bitwise.{or_bitwise}
 use Rattle.span.proofs.steps.Settled.{or_low, or_low_x}
-use Rattle.span.proofs.steps.or_step.Goals as goal
+use Rattle.span.proofs.steps.OrBitwise.step.Goals as goal
 
 pub returns-then-y-half : goal.returns-then-y-half
 unfolding Right

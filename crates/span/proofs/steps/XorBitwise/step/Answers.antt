@@ -1,10 +1,10 @@
--- `xor_step` meets its contract: XOR lacks the bit of the half just where both words lie on one side. Assumes nothing.
+-- `Xor::step` meets its contract: XOR lacks the bit of the half just where both words lie on one side. Assumes nothing.
 use native.Mathlib.Omega.{arith}
 use Rattle.span.specs.steps.route.Step.{Right}
 use Rattle.span.proofs.steps.Halves.{high, low, opened}
-use Rattle.span.proofs.steps.Bitwise.{xor_bitwise}
+use Rattle.span.specs.steps.Bitwise.{xor_bitwise}
 use Rattle.span.proofs.steps.Settled.{xor_zero}
-use Rattle.span.proofs.steps.xor_step.Goals as goal
+use Rattle.span.proofs.steps.XorBitwise.step.Goals as goal
 
 pub returns-then-half-y : goal.returns-then-half-y
 unfolding Right

@@ -1,10 +1,10 @@
--- `and_step` meets its contract: AND has the bit of the half just where both words have it. Assumes nothing.
+-- `And::step` meets its contract: AND has the bit of the half just where both words have it. Assumes nothing.
 use native.Mathlib.Omega.{arith}
 use Rattle.span.specs.steps.route.Step.{Right}
 use Rattle.span.proofs.steps.Halves.{high, low, opened}
-use Rattle.span.proofs.steps.Bitwise.{and_bitwise}
+use Rattle.span.specs.steps.Bitwise.{and_bitwise}
 use Rattle.span.proofs.steps.Settled.{and_zero, and_zero_y}
-use Rattle.span.proofs.steps.and_step.Goals as goal
+use Rattle.span.proofs.steps.AndBitwise.step.Goals as goal
 
 pub returns-then-y-half : goal.returns-then-y-half
 unfolding Right
