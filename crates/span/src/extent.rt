@@ -25,6 +25,7 @@ pub fn span(width: Width, op: Op, x: Interval, y: Interval) -> Interval
 }
 
 // From the smallest result to the largest: the smallest one of the dual over words turned round, turned back.
+#[tactic(auto, using(crate::proofs::extent::SearchEnds::wanted))]
 fn ends<B: Turned>(width: Width, x: Interval, y: Interval) -> Interval
     requires width { IsWidth width.bits }
     requires words { Words width.bits x × Words width.bits y }
