@@ -14,7 +14,8 @@ use Rattle.word.proofs.Tests.{both_fail}
 use Rattle.gate.specs.declared.Four.{Four}
 use Rattle.gate.specs.declared.Gate.{Gate}
 use Rattle.gate.specs.declared.Gate.TheVariants.{AtLeast, AtMost, Within}
-use Rattle.gate.specs.declared.Turned.TheVariants.{NotANumber, Rules}
+use Rattle.gate.specs.declared.Refusal.TheVariants.{NotANumber}
+use Rattle.std.specs.Prelude.{Ok, Err}
 use Rattle.gate.specs.Gate.{four, four_of, meets_gate, not_numbers, over, through, turned, under, worth}
 use Rattle.gate.specs.Paper.{Single}
 use Rattle.gate.specs.route.Route.{IsLimit, between_rules, high_of, low_of, run_of}
@@ -88,13 +89,13 @@ module _ (g : Gate) (single : Single g) (numbers : not_numbers g ≡ false) wher
   pub gate_rules : four_of (through g) ≡ between_rules (low_of g) (high_of g)
   gate_rules = ap four_of (through_span g) ∙ span_rules (low_of g) (high_of g) limits.0 limits.1
 
-  pub as_rules : (r : Four) → r ≡ between_rules (low_of g) (high_of g) → Rules r ≡ turned g
+  pub as_rules : (r : Four) → r ≡ between_rules (low_of g) (high_of g) → Ok r ≡ turned g
   unfolding turned
-  as_rules r e = sym (ap (λ (b : Bool). cond b NotANumber (Rules (four_of (through g)))) numbers ∙ ap Rules (gate_rules ∙ sym e))
+  as_rules r e = sym (ap (λ (b : Bool). cond b (Err NotANumber) (Ok (four_of (through g)))) numbers ∙ ap Ok (gate_rules ∙ sym e))
 
-pub as_none : (g : Gate) → not_numbers g ≡ true → NotANumber ≡ turned g
+pub as_none : (g : Gate) → not_numbers g ≡ true → Err NotANumber ≡ turned g
 unfolding turned
-as_none g n = sym (ap (λ (b : Bool). cond b NotANumber (Rules (four_of (through g)))) n)
+as_none g n = sym (ap (λ (b : Bool). cond b (Err NotANumber) (Ok (four_of (through g)))) n)
 
 -- a float that differs from itself is not a number, and no other is
 pub differs : (x : Float) → ne x x ≡ true → is_nan x ≡ true

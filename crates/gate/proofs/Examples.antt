@@ -5,17 +5,18 @@ use lib.Ieee.{fits, is_nan, of_bits, to_bits}
 use Rattle.word.specs.Word.{half, minus, plus, top}
 use Rattle.gate.specs.declared.Four.{Four}
 use Rattle.gate.specs.declared.Gate.{Gate}
-use Rattle.gate.specs.declared.Turned.TheVariants.{NotANumber, Rules}
+use Rattle.gate.specs.declared.Refusal.TheVariants.{NotANumber}
+use Rattle.std.specs.Prelude.{Ok, Err}
 use Rattle.gate.specs.Examples.{AllRight, examples}
 use Rattle.gate.specs.Gate.{failing, not_numbers, turned}
 use Rattle.gate.specs.Paper.{Single}
 use Rattle.gate.specs.route.Route.{between_rules, from_of, high_of, low_of, past_of, run_of}
 use Rattle.gate.proofs.Closed.{as_none, as_rules}
 
-of : (g : Gate) (r : Four) → Single g → not_numbers g ≡ false → r ≡ between_rules (low_of g) (high_of g) → turned g ≡ Rules r
+of : (g : Gate) (r : Four) → Single g → not_numbers g ≡ false → r ≡ between_rules (low_of g) (high_of g) → turned g ≡ Ok r
 of g r s n e = sym (as_rules g s n r e)
 
-none : (g : Gate) → not_numbers g ≡ true → turned g ≡ NotANumber
+none : (g : Gate) → not_numbers g ≡ true → turned g ≡ Err NotANumber
 none g n = sym (as_none g n)
 
 infixr 20 ◌then◌

@@ -1,3 +1,4 @@
+pub mod Bits
 pub mod Asked
 pub mod Closed
 pub mod Examples

@@ -1,18 +1,19 @@
 -- Gates worked by hand, as one table: a kind, the limits' bits, and what the gate is turned into.
-use Rattle.std.specs.Prelude.{◌≡◌, List, [], ◌∷◌, ℕ, Float}
+use Rattle.std.specs.Prelude.{◌≡◌, List, [], ◌∷◌, ℕ, Float, Result, Ok, Err}
 use Rattle.std.specs.Float.{binary32}
 use Rattle.std.specs.Float.Ieee.{of_bits}
 use Rattle.rule.specs.Meaning.{rule}
 use Rattle.gate.specs.declared.Gate.{Gate}
 use Rattle.gate.specs.declared.Gate.TheVariants.{AtLeast, AtMost, Within}
-use Rattle.gate.specs.declared.Turned.{Turned}
-use Rattle.gate.specs.declared.Turned.TheVariants.{NotANumber, Rules}
+use Rattle.gate.specs.declared.Four.{Four}
+use Rattle.gate.specs.declared.Refusal.{Refusal}
+use Rattle.gate.specs.declared.Refusal.TheVariants.{NotANumber}
 use Rattle.gate.specs.Gate.{turned}
 
 -- a gate, and what it is turned into
 pub record Example : Type 0 where
   pub gate : Gate
-  pub answer : Turned
+  pub answer : Result Four Refusal
 
 -- the float of a pattern
 abbrev pub watts : ℕ → Float
@@ -22,10 +23,10 @@ abbrev pub within : ℕ → ℕ → Gate
 within low high = Within (record { low = watts low; high = watts high })
 
 -- the constants of the four, each of form 3, sense 0
-abbrev pub rules : (a b c d e f g h : ℕ) → Turned
-rules a b c d e f g h = Rules (record { first = rule 3 0 a b; second = rule 3 0 c d; third = rule 3 0 e f; fourth = rule 3 0 g h })
+abbrev pub rules : (a b c d e f g h : ℕ) → Result Four Refusal
+rules a b c d e f g h = Ok (record { first = rule 3 0 a b; second = rule 3 0 c d; third = rule 3 0 e f; fourth = rule 3 0 g h })
 
-abbrev pub example : Gate → Turned → Example
+abbrev pub example : Gate → Result Four Refusal → Example
 example g t = record { gate = g; answer = t }
 
 abbrev pub examples : List Example
@@ -51,10 +52,10 @@ examples =
     -- "A span with low above high is accepted and fits nothing"
     ∷ example (within 0x40000000 0x3f800000) (rules 0x80000000 0x7fffffff 0 0xffffffff 0 0x7fffffff 0 0xffffffff)
     -- a limit is not a number: quiet, signalling, with the sign, and in a span either
-    ∷ example (AtLeast (watts 0x7fc00000)) NotANumber
-    ∷ example (AtMost (watts 0xff800001)) NotANumber
-    ∷ example (within 0x3f800000 0x7f800001) NotANumber
-    ∷ example (within 0xffffffff 0x3f800000) NotANumber
+    ∷ example (AtLeast (watts 0x7fc00000)) (Err NotANumber)
+    ∷ example (AtMost (watts 0xff800001)) (Err NotANumber)
+    ∷ example (within 0x3f800000 0x7f800001) (Err NotANumber)
+    ∷ example (within 0xffffffff 0x3f800000) (Err NotANumber)
     ∷ []
 
 -- each comes out so

@@ -1,5 +1,5 @@
 -- When a reading meets a gate, and the four rules that a gate is turned into (02, K9).
-use Rattle.std.specs.Prelude.{Bool, ◌&&◌, ◌||◌, cond, List, [], ◌∷◌, ℕ, suc, ◌+◌, ◌-◌, ltb, Float}
+use Rattle.std.specs.Prelude.{Bool, ◌&&◌, ◌||◌, cond, List, [], ◌∷◌, ℕ, suc, ◌+◌, ◌-◌, ltb, Float, Result, Ok, Err}
 use Rattle.std.specs.Float.{binary32}
 use Rattle.std.specs.Float.Ieee.{is_nan, to_bits}
 use Rattle.std.specs.Prelude.{Some, None}
@@ -10,8 +10,8 @@ use Rattle.rule.specs.Meaning.{rule}
 use Rattle.gate.specs.declared.Four.{Four}
 use Rattle.gate.specs.declared.Gate.{Gate}
 use Rattle.gate.specs.declared.Gate.TheVariants.{AtLeast, AtMost, Within}
-use Rattle.gate.specs.declared.Turned.{Turned}
-use Rattle.gate.specs.declared.Turned.TheVariants.{NotANumber, Rules}
+use Rattle.gate.specs.declared.Refusal.{Refusal}
+use Rattle.gate.specs.declared.Refusal.TheVariants.{NotANumber}
 use Rattle.gate.specs.Value.{Value, le_v, value}
 
 -- the value of a limit: that of its bits
@@ -63,8 +63,8 @@ four_of fit =
     four (under fit) (over fit) (under upper) (over upper)
 
 -- "Turn each gate into exactly four rules over the 32 bits of the reading"; and 14 where a limit is not a number
-unfoldable pub turned : Gate → Turned
-turned g = cond (not_numbers g) NotANumber (Rules (four_of (through g)))
+unfoldable pub turned : Gate → Result Four Refusal
+turned g = cond (not_numbers g) (Err NotANumber) (Ok (four_of (through g)))
 
 -- the four in their order, as a sheet has them
 unfoldable pub listed : Four → List Rule

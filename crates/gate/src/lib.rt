@@ -1,30 +1,34 @@
 // Gates on a reading of watts, and the four rules that a gate is on the sheet of the reading's 32 bits.
 #![tactic(auto)]
 
-ghost use Rattle.std.specs.Prelude.{◌≡◌, ◌+◌, ◌≤◌};
+ghost use Rattle.std.specs.Prelude.{◌≡◌, ◌+◌, ◌≤◌, IfOk, true};
+ghost use Rattle.std.specs.Float.{binary32};
+ghost use Rattle.std.specs.Float.Ieee.{fits};
 ghost use Rattle.word.specs.Word.{top};
 ghost use Rattle.gate.specs.Gate.{failing, turned};
-ghost use Rattle.gate.specs.route.Route.{IsLimit, between_rules, from_of, past_of, run_of};
+ghost use Rattle.gate.specs.Paper.{Single};
+ghost use Rattle.gate.specs.route.Route.{IsLimit, between_rules, bits_of, from_of, limits_of, past_of, run_of};
 
 use rule::Rule;
 use word::Width;
 
-// A low and a high wattage.
-#[derive(Clone, Copy)]
+/// A low and a high wattage.
+#[derive(Clone, Copy, Debug, PartialEq)]
 pub struct Span {
     pub low: f32,
     pub high: f32,
 }
 
-// At least a limit, at most a limit, or within a span, ends included.
-#[derive(Clone, Copy)]
+/// At least a limit, at most a limit, or within a span, ends included.
+#[derive(Clone, Copy, Debug, PartialEq)]
 pub enum Gate {
     AtLeast(f32),
     AtMost(f32),
     Within(Span),
 }
 
-// The rules of a gate, in their order: two for each half of the words.
+/// The rules of a gate, in their order: two for each half of the words.
+// No array, since each place has a meaning of its own, which is said of it by name.
 #[derive(Clone, Copy)]
 pub struct Four {
     pub first: Rule,
@@ -33,10 +37,9 @@ pub struct Four {
     pub fourth: Rule,
 }
 
-// What a gate is turned into: its rules, or that a limit is not a number.
-#[derive(Clone, Copy)]
-pub enum Turned {
-    Rules(Four),
+/// Why a gate has no rules: a limit is not a number.
+#[derive(Clone, Copy, Debug, PartialEq, Eq)]
+pub enum Refusal {
     NotANumber,
 }
 
@@ -57,53 +60,43 @@ const ABOVE_ALL: u64 = 0x7f80_0000;
 const BELOW_ALL: u64 = 0xff80_0000;
 
 impl Gate {
-    // The width of a sheet that takes a gate, and how many rules it adds.
+    /// The width of a sheet that takes a gate.
     pub const WIDTH: u64 = 32;
 
+    /// How many rules a gate adds.
     pub const RULES: usize = 4;
 
-    // The gate as rules on a sheet of that width.
-    pub fn rules(self) -> Turned
+    /// The gate as rules on a sheet of that width.
+    pub fn rules(self) -> Result<Four, Refusal>
         ensures { result ≡ turned self }
     {
-        let gate = self;
-        match gate {
-            Gate::AtLeast(low) => {
-                if low != low {
-                    return Turned::NotANumber;
-                }
-                Turned::Rules(between(wide(f32::to_bits(low)), ABOVE_ALL))
-            }
-            Gate::AtMost(high) => {
-                if high != high {
-                    return Turned::NotANumber;
-                }
-                Turned::Rules(between(BELOW_ALL, wide(f32::to_bits(high))))
-            }
-            Gate::Within(span) => within(span),
+        let (low, high) = self.limits()?;
+        Ok(between(low, high))
+    }
+
+    // The bits of its two limits: at least a limit is within it and the infinity above all, and at most a limit within the one below
+    // all and it.
+    fn limits(self) -> Result<(u64, u64), Refusal>
+        ensures bits { result ≡ limits_of self }
+        ensures single { IfOk result (λ bits. Single self) }
+    {
+        match self {
+            Gate::AtLeast(low) => Ok((bits_of(low)?, ABOVE_ALL)),
+            Gate::AtMost(high) => Ok((BELOW_ALL, bits_of(high)?)),
+            Gate::Within(span) => Ok((bits_of(span.low)?, bits_of(span.high)?)),
         }
     }
 }
 
-// The span as rules.
-fn within(span: Span) -> Turned
-    ensures { result ≡ turned (Gate.Within span) }
+// The bits of a limit that is a number: what is not a number differs from itself.
+fn bits_of(limit: f32) -> Result<u64, Refusal>
+    ensures bits { result ≡ bits_of limit }
+    ensures single { fits binary32 limit ≡ true }
 {
-    let low = span.low;
-    let high = span.high;
-    if low != low {
-        return Turned::NotANumber;
+    if limit != limit {
+        return Err(Refusal::NotANumber);
     }
-    if high != high {
-        return Turned::NotANumber;
-    }
-    Turned::Rules(between(wide(f32::to_bits(low)), wide(f32::to_bits(high))))
-}
-
-fn wide(pattern: u32) -> u64
-    ensures { result ≡ pattern }
-{
-    pattern as u64
+    Ok(u64::from(limit.to_bits()))
 }
 
 // The rules for the readings from one pattern's value to another's. A word of the upper half has its sign bit set, so there

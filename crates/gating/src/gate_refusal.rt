@@ -9,7 +9,8 @@ use sheet::Sheet;
 // The most rules that leave room for those of a gate.
 const ROOM: usize = Rule::LIMIT - Gate::RULES;
 
-// The number, or 0; `none` says that a limit is not a number.
+/// The number, or 0; `none` says that a limit is not a number.
+// A number, since it is handed on as it is in the sheet's own answer, which has one.
 #[tactic(auto, using(crate::proofs::gate_refusal::SearchRefusalOf::wanted), unfolding(crate::specs::gate_refusal::route::Seen::SeenFor))]
 pub fn refusal_of(sheet: Sheet, none: bool) -> u64
     ensures { SeenFor sheet none result }

@@ -8,17 +8,16 @@ ghost use Rattle.sheet.specs.Statements.{Outcome};
 ghost use Rattle.gating.specs.route.Added.{AddedFor};
 
 use crate::gate_refusal::refusal_of;
-use gate::{Four, Gate, Turned};
+use gate::{Four, Gate, Refusal};
 use sheet::{Answer, Sheet};
 
-// Sets a gate on any record.
+/// Sets a gate on any record.
 pub fn set(sheet: Sheet, gate: Gate) -> Answer
     ensures { Outcome sheet (set_gate gate) result }
 {
-    let turned = gate.rules();
-    match turned {
-        Turned::Rules(four) => added(sheet, four),
-        Turned::NotANumber => Answer {
+    match gate.rules() {
+        Ok(four) => added(sheet, four),
+        Err(Refusal::NotANumber) => Answer {
             number: refusal_of(sheet, true),
             sheet,
         },

@@ -16,7 +16,6 @@ use Rattle.span.specs.declared.interval.Interval.{Interval}
 use Rattle.span.specs.declared.interval.Op.{Op}
 use Rattle.span.specs.declared.interval.Op.TheVariants.{And, Not, Or, Xor}
 use Rattle.span.specs.interval.Interval.{cut, hollow, interval, within}
-use Rattle.span.specs.Join.{joined}
 use Rattle.net.specs.declared.Ended.{Ended}
 use Rattle.net.specs.declared.Ended.TheVariants.{Empty, Spent, Steady}
 use Rattle.net.specs.declared.net_step.Join.{Join}

@@ -13,3 +13,4 @@ pub mod Plain
 pub mod Reached
 pub mod Round
 pub mod Worked
+pub mod Numbers

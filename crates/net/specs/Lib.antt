@@ -5,3 +5,4 @@ pub mod Plain
 pub mod route
 pub mod net_step
 pub mod net_tests
+pub mod refusal

@@ -4,19 +4,19 @@
 
 pub mod net_step;
 pub mod net_tests;
+pub mod refusal;
 
 ghost use Rattle.std.specs.Prelude.{◌≡◌, cond, suc, ◌<◌};
 ghost use Rattle.net.specs.Net.{AllNamed, given};
 ghost use Rattle.net.specs.net_tests.Fits.{JOINS};
 ghost use Rattle.net.specs.route.Run.{ran, walked};
 
-mod refusal;
-
 pub use crate::net_step::Join;
 use crate::net_step::step;
+pub use crate::refusal::Refusal;
 use span::Interval;
 
-// A width, the words' intervals with how many are in use, and the joins with how many are in use.
+/// A width, the words' intervals with how many are in use, and the joins with how many are in use.
 #[derive(Clone, Copy)]
 pub struct Net {
     pub width: u64,
@@ -26,8 +26,8 @@ pub struct Net {
     pub joined: usize,
 }
 
-// How a run ends: refused with a number, with an empty cut, with nothing left to change, or with the steps spent.
-#[derive(Clone, Copy)]
+/// How a run ends: refused with a number, with an empty cut, with nothing left to change, or with the steps spent.
+#[derive(Clone, Copy, Debug, PartialEq, Eq)]
 pub enum Ended {
     Refused(u64),
     Empty,
@@ -35,7 +35,7 @@ pub enum Ended {
     Spent,
 }
 
-// What a run answers: how it ended, the steps used, and the intervals. Places not in use are as they came.
+/// What a run answers: how it ended, the steps used, and the intervals. Places not in use are as they came.
 #[derive(Clone, Copy)]
 pub struct Answer {
     pub ended: Ended,
@@ -44,21 +44,20 @@ pub struct Answer {
 }
 
 impl Net {
-    // The most words and the most joins of a net.
+    /// The most words of a net.
     pub const WORDS: usize = crate::net_step::WORDS;
 
+    /// The most joins of a net.
     pub const JOINS: usize = crate::net_tests::JOINS;
 
-    // Cuts the intervals for as many steps as are paid for, one step a join, in order, round and round.
+    /// Cuts the intervals for as many steps as are paid for, one step a join, in order, round and round.
     pub fn run(self, pay: u64) -> Answer
         ensures { result ≡ ran self pay }
     {
-        let number = self.refusal();
-        if number != 0 {
-            let words = self.words;
-            return given(Ended::Refused(number), 0, words);
+        match self.refusal() {
+            Some(refusal) => given(Ended::Refused(refusal.number()), 0, self.words),
+            None => self.walk(pay),
         }
-        self.walk(pay)
     }
 
     // The steps of a net that is not refused: it stops at the first of an empty cut, as many steps in a row as there are joins that
@@ -68,15 +67,12 @@ impl Net {
         requires { AllNamed self }
         ensures { result ≡ walked self pay }
     {
-        let width = self.width;
-        let joins = self.joins;
-        let joined = self.joined;
         let mut words = self.words;
-        let mut steps: u64 = 0;
-        let mut quiet: usize = 0;
+        let mut steps = 0;
+        let mut quiet = 0;
         let mut empty = false;
         'turns: loop {
-            let steady = joined <= quiet;
+            let steady = self.joined <= quiet;
             let spent = steps == pay;
             if empty {
                 return given(Ended::Empty, steps, words);
@@ -87,13 +83,12 @@ impl Net {
             if spent {
                 return given(Ended::Spent, steps, words);
             }
-            let turn = (steps % (joined as u64)) as usize;
-            let next = step(width, joins[turn], words);
+            let turn = (steps % self.joined as u64) as usize;
+            let next = step(self.width, self.joins[turn], words);
             steps += 1;
             quiet = in_a_row(quiet, next.quiet);
             empty = next.empty;
-            let left = next.words;
-            words = left;
+            words = next.words;
         }
     }
 }

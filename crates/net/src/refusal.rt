@@ -1,37 +1,55 @@
 // What refuses a net, in the paper's order: 16 before anything else, then 2, 5 and 15 as for a join.
 ghost use Rattle.std.specs.Prelude.{◌≡◌};
 ghost use Rattle.net.specs.Net.{refusal};
+ghost use Rattle.net.specs.refusal.Refusal.{number_of, told};
 
 use crate::Net;
 use crate::net_tests::{all_within, fits, none_hollow};
 use span::is_width;
 use word::Width;
 
-impl Net {
-    // The number of the refusal, or 0.
-    #[tactic(auto, using(crate::proofs::SearchNetRefusal::wanted), unfolding(crate::specs::Net::refusal))]
-    pub fn refusal(self) -> u64
-        ensures { result ≡ refusal self }
+/// Why a net is refused: it has too many words or joins, or a join that names a word that isn't there; or as a join is.
+#[derive(Clone, Copy, Debug, PartialEq, Eq)]
+pub enum Refusal {
+    Room,
+    Join(span::Refusal),
+}
+
+impl Refusal {
+    /// The number of the refusal.
+    #[tactic(auto, unfolding(crate::specs::refusal::Refusal::number_of))]
+    pub fn number(self) -> u64
+        ensures { result ≡ number_of self }
     {
-        let width = self.width;
-        let words = self.words;
-        let count = self.count;
-        let joins = self.joins;
-        let joined = self.joined;
-        let fit = fits(count, joins, joined);
-        let wide = is_width(width);
+        match self {
+            Refusal::Room => 16,
+            Refusal::Join(refusal) => refusal.number(),
+        }
+    }
+}
+
+impl Net {
+    /// What refuses it, or nothing.
+    #[tactic(auto, using(crate::proofs::SearchNetRefusal::wanted), unfolding(crate::specs::Net::refusal, crate::specs::refusal::Refusal::told, crate::specs::refusal::Refusal::number_of, span::specs::refusal::Refusal::number_of))]
+    pub fn refusal(self) -> Option<Refusal>
+        ensures { told result ≡ refusal self }
+    {
+        let fit = fits(self.count, &self.joins, self.joined);
+        let wide = is_width(self.width);
         if !fit {
-            return 16;
+            return Some(Refusal::Room);
         }
         if !wide {
-            return 2;
+            return Some(Refusal::Join(span::Refusal::Width));
         }
-        if !all_within(words, count, Width { bits: width }.top()) {
-            return 5;
+        let words = &self.words[..self.count];
+        let top = Width { bits: self.width }.top();
+        if !all_within(words, top) {
+            return Some(Refusal::Join(span::Refusal::Bound));
         }
-        if !none_hollow(words, count) {
-            return 15;
+        if !none_hollow(words) {
+            return Some(Refusal::Join(span::Refusal::Order));
         }
-        0
+        None
     }
 }

@@ -3,7 +3,6 @@
 use mathlib.Core.Path.{◌≡◌, ap₂}
 use Prim.Native.Nat.{ℕ, ◌^◌, ◌<◌}
 use native.Mathlib.Omega.{arith}
-use Rattle.word.specs.Word.{top}
 use Rattle.word.proofs.Widths.{top-suc}
 use Rattle.span.specs.declared.interval.Interval.{Interval}
 use Rattle.span.specs.declared.interval.Op.{Op}
@@ -12,7 +11,7 @@ use Rattle.span.specs.Demand.{Exact}
 use Rattle.span.specs.interval.Interval.{In, Words, interval}
 use Rattle.span.specs.interval.Op.{result, second}
 use Rattle.span.specs.extent.Span.{span}
-use Rattle.span.proofs.steps.Bitwise.{and_bitwise, or_bitwise, xor_bitwise}
+use Rattle.span.specs.steps.Bitwise.{and_bitwise, or_bitwise, xor_bitwise}
 use Rattle.span.proofs.extent.Ops.{not_turns}
 use Rattle.span.proofs.extent.Searched.{has_largest, has_smallest}
 

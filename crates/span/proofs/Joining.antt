@@ -3,13 +3,16 @@ use mathlib.Core.Path.{◌≡◌, refl, sym, ap, ◌∙◌}
 use mathlib.Core.Bool.{Bool, true, false, ◌&&◌, ◌||◌, cond}
 use Prim.Native.Nat.{ℕ, ◌≤◌}
 use native.Mathlib.Omega.{arith}
-use borrow.Author.Tests.{eq-eqb, ne_eqb}
+use borrow.Author.Tests.{ne_eqb}
 use Rattle.word.specs.Word.{IsWidth, top}
 use Rattle.word.proofs.Tests.{both_fail, both_pass}
 use Rattle.span.specs.declared.interval.Interval.{Interval}
 use Rattle.span.specs.declared.Joined.{Joined}
 use Rattle.span.specs.declared.interval.Op.{Op}
 use Rattle.span.specs.declared.interval.Op.TheVariants.{And, Not, Or, Xor}
+use Rattle.span.specs.declared.refusal.Refusal.{Refusal}
+use Rattle.span.specs.declared.refusal.Refusal.TheVariants.{Bound, Order, Width}
+use Rattle.span.specs.refusal.Refusal.{number_of}
 use Rattle.span.specs.interval.Interval.{Words, hollow, within}
 use Rattle.span.specs.interval.Op.{inverted, second}
 use Rattle.span.specs.Join.{all_cut, all_within, any_hollow, as_given, emptied, is_width, joined, new_h, new_x, new_y, refusal, refused}
@@ -52,29 +55,37 @@ accepted {w} {h} {x} {y} e =
       y_words = is_words w y by cy;
     }
 
--- n is the number that the code finds, for the second argument z
-module _ (w : ℕ) (op : Op) (h x y : Interval) {z : Interval} {n : ℕ} (is_z : z ≡ second op y) (is_n : n ≡ refused w h x z) where
-  number : refusal w op h x y ≡ n
+-- a refusal has a number
+some_number : (r : Refusal) → number_of r ≡ 0 → ⊥
+unfolding number_of
+some_number Width e = absurd (omega arith)
+some_number Bound e = absurd (omega arith)
+some_number Order e = absurd (omega arith)
+
+module _ (w : ℕ) (op : Op) (h x y : Interval) {z : Interval} (is_z : z ≡ second op y) where
+  number : {n : ℕ} → n ≡ refused w h x z → refusal w op h x y ≡ n
   unfolding refusal
-  number = ap (refused w h x) (sym is_z) ∙ sym is_n
+  number e = ap (refused w h x) (sym is_z) ∙ sym e
 
-  pub may_cut : n ≡ 0 → Accepted w h x (second op y)
-  may_cut e = accepted (ap (refused w h x) (sym is_z) ∙ sym is_n ∙ e)
-
-  pub out_refused : (n ≡ 0 → ⊥) → {r : Joined} → r ≡ as_given n false h x y → r ≡ joined w op h x y
+  pub out_refused : (r : Refusal) {n : ℕ} → n ≡ number_of r → number_of r ≡ refused w h x z → {a : Joined} → a ≡ as_given n false h x y → a ≡ joined w op h x y
   unfolding joined
-  out_refused ne d = rw (number, ne_eqb n 0 ne) d
+  out_refused r is_n e d = d ∙ rw (is_n, number e, ne_eqb (number_of r) 0 (some_number r)) refl
 
-  module _ (zero : n ≡ 0) {h' x' y' z' : Interval} {e : Bool} (is_h : h' ≡ new_h w op h x y) (is_x : x' ≡ new_x w op h x y) (is_y : y' ≡ new_y w op h x y)
-      (is_z' : z' ≡ second op y') (is_e : e ≡ any_hollow h' x' z') where
-    tested : emptied w op h x y ≡ e
-    unfolding emptied
-    tested = sym (is_e ∙ rw (is_z', is_h, is_x, is_y) refl)
+  -- the width as the code has it, where nothing is refused
+  module _ {b : ℕ} (is_b : b ≡ w) (zero : 0 ≡ refused w h x z) where
+    pub may_cut : Accepted b h x (second op y)
+    may_cut = rw is_b (accepted (ap (refused w h x) (sym is_z) ∙ sym zero))
 
-    pub out_empty : e ≡ true → {r : Joined} → r ≡ as_given 0 true h x y → r ≡ joined w op h x y
-    unfolding joined
-    out_empty t d = rw (number, eq-eqb n 0 zero, tested, t) d
+    module _ {h' x' y' z' : Interval} {e : Bool} (is_h : h' ≡ new_h b op h x y) (is_x : x' ≡ new_x b op h x y) (is_y : y' ≡ new_y b op h x y)
+        (is_z' : z' ≡ second op y') (is_e : e ≡ any_hollow h' x' z') where
+      tested : emptied w op h x y ≡ e
+      unfolding emptied
+      tested = sym (is_e ∙ rw (is_z', is_h, is_x, is_y, is_b) refl)
 
-    pub out_cut : e ≡ false → record { number = 0; empty = false; h = h'; x = x'; y = y' } ≡ joined w op h x y
-    unfolding joined all_cut
-    out_cut t = rw (number, eq-eqb n 0 zero, tested, t) (rw (is_h, is_x, is_y) refl)
+      pub out_empty : e ≡ true → {r : Joined} → r ≡ as_given 0 true h x y → r ≡ joined w op h x y
+      unfolding joined
+      out_empty t d = rw (number zero, tested, t) d
+
+      pub out_cut : e ≡ false → record { number = 0; empty = false; h = h'; x = x'; y = y' } ≡ joined w op h x y
+      unfolding joined all_cut
+      out_cut t = rw (number zero, tested, t) (rw (is_h, is_x, is_y, is_b) refl)

@@ -1,3 +1,4 @@
+pub mod SearchCuts
 pub mod SearchRefused
 pub mod SearchIsWidth
 pub mod Exact

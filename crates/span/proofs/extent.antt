@@ -1,4 +1,5 @@
 pub mod Ops
+pub mod SearchEnds
 pub mod Searched
 pub mod Spans
 pub mod Turn

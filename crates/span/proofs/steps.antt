@@ -1,3 +1,2 @@
-pub mod Bitwise
 pub mod Halves
 pub mod Settled

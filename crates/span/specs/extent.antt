@@ -1,2 +1,1 @@
 pub mod Span
-pub mod route

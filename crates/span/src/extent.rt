@@ -2,32 +2,53 @@
 
 ghost use Rattle.std.specs.Prelude.{◌≡◌};
 ghost use Rattle.word.specs.Word.{IsWidth};
-ghost use Rattle.span.specs.interval.Interval.{Words};
+ghost use Rattle.span.specs.interval.Interval.{Words, interval};
 ghost use Rattle.span.specs.interval.Op.{second};
-ghost use Rattle.span.specs.extent.Span.{smallest, span};
-ghost use Rattle.span.specs.steps.route.Step.{both};
-ghost use Rattle.span.specs.extent.route.Route.{ends};
+ghost use Rattle.span.specs.extent.Span.{largest, smallest, span};
 
 use crate::interval::{Interval, Op};
-use crate::steps::{Pair, Step, highest_bit};
+use crate::steps::{And, Bitwise, Or, Step, Turned, Xor};
 use word::Width;
 
-// An operation of two words, and the intervals that they are of.
-#[derive(Clone, Copy)]
-struct Over(Pair, Interval, Interval);
+/// The results of an operation over two intervals, from the smallest to the largest.
+pub fn span(width: Width, op: Op, x: Interval, y: Interval) -> Interval
+    requires width { IsWidth width.bits }
+    requires words { Words width.bits x × Words width.bits (second op y) }
+    ensures { result ≡ span width.bits op x y }
+{
+    match op {
+        Op::Not => x.turned(width.top()),
+        Op::And => ends::<And>(width, x, y),
+        Op::Or => ends::<Or>(width, x, y),
+        Op::Xor => ends::<Xor>(width, x, y),
+    }
+}
 
-// The smallest result of two words of the intervals.
-fn smallest(width: Width, pair: Pair, x: Interval, y: Interval) -> u64
+// From the smallest result to the largest: the smallest one of the dual over words turned round, turned back.
+#[tactic(auto, using(crate::proofs::extent::SearchEnds::wanted))]
+fn ends<B: Turned>(width: Width, x: Interval, y: Interval) -> Interval
     requires width { IsWidth width.bits }
     requires words { Words width.bits x × Words width.bits y }
-    ensures { result ≡ smallest width.bits (both pair) x y }
+    ensures { result ≡ interval (smallest width.bits B.value x y) (largest width.bits B.value x y) }
 {
-    let mut bits = width.bits;
+    let (u, v) = B::turned(width, x, y);
+    Interval {
+        low: smallest::<B>(width, x, y),
+        high: width.top() - smallest::<B::Dual>(width, u, v),
+    }
+}
+
+// The smallest result of two words of the intervals.
+fn smallest<B: Bitwise>(width: Width, x: Interval, y: Interval) -> u64
+    requires width { IsWidth width.bits }
+    requires words { Words width.bits x × Words width.bits y }
+    ensures { result ≡ smallest width.bits B.value x y }
+{
     let mut p = x;
     let mut q = y;
     let mut found = 0;
-    while 0 < bits {
-        match highest_bit(Width { bits }, pair, p, q) {
+    for bits in (1..=width.bits).rev() {
+        match B::step(Width { bits }, p, q) {
             Step::Settled(v) => return found + v,
             Step::Open(bit, a, b) => {
                 found += bit;
@@ -35,50 +56,6 @@ fn smallest(width: Width, pair: Pair, x: Interval, y: Interval) -> u64
                 q = b;
             }
         }
-        bits -= 1;
     }
     found
-}
-
-// The largest result is the smallest one of words turned round, turned back: OR is AND turned round, AND is OR, and XOR is XOR
-// with one word turned.
-pub fn span(width: Width, op: Op, x: Interval, y: Interval) -> Interval
-    requires width { IsWidth width.bits }
-    requires words { Words width.bits x × Words width.bits (second op y) }
-    ensures { result ≡ span width.bits op x y }
-{
-    let top = width.top();
-    match op {
-        Op::Not => x.turned(top),
-        Op::And => ends(
-            width,
-            Over(Pair::And, x, y),
-            Over(Pair::Or, x.turned(top), y.turned(top)),
-        ),
-        Op::Or => ends(
-            width,
-            Over(Pair::Or, x, y),
-            Over(Pair::And, x.turned(top), y.turned(top)),
-        ),
-        Op::Xor => ends(
-            width,
-            Over(Pair::Xor, x, y),
-            Over(Pair::Xor, x.turned(top), y),
-        ),
-    }
-}
-
-// From the smallest result of the one to the smallest of the other, turned back.
-fn ends(width: Width, least: Over, other: Over) -> Interval
-    requires width { IsWidth width.bits }
-    requires words { Words width.bits least.1 × Words width.bits least.2 }
-    requires words_2 { Words width.bits other.1 × Words width.bits other.2 }
-    ensures { result ≡ ends width.bits (both least.0) least.1 least.2 (both other.0) other.1 other.2 }
-{
-    let pair = least.0;
-    let turned = other.0;
-    Interval {
-        low: smallest(width, pair, least.1, least.2),
-        high: width.top() - smallest(width, turned, other.1, other.2),
-    }
 }

@@ -4,20 +4,23 @@
 
 pub mod extent;
 pub mod interval;
+pub mod refusal;
 pub mod steps;
 
 ghost use Rattle.std.specs.Prelude.{◌≡◌};
 ghost use Rattle.word.specs.Word.{IsWidth};
 ghost use Rattle.span.specs.interval.Interval.{Words};
 ghost use Rattle.span.specs.interval.Op.{second};
-ghost use Rattle.span.specs.Join.{all_within, any_hollow, as_given, is_width, joined, new_x, new_y, refused};
+ghost use Rattle.span.specs.Join.{any_hollow, as_given, joined, new_x, new_y};
 
 use crate::extent::span;
 pub use crate::interval::{Interval, Op};
+pub use crate::refusal::{Refusal, is_width};
 use word::Width;
 
-// What a join answers: 0 or the number of a refusal, whether a cut is empty, and the three intervals.
-#[derive(Clone, Copy)]
+/// What a join answers: 0 or the number of a refusal, whether a cut is empty, and the three intervals.
+// A number and a flag stay in it, since that is the answer that callers are promised: each place has its value in every case.
+#[derive(Clone, Copy, Debug, PartialEq, Eq)]
 pub struct Joined {
     pub number: u64,
     pub empty: bool,
@@ -26,15 +29,14 @@ pub struct Joined {
     pub y: Interval,
 }
 
-// Cuts the intervals by what each says of the others. Every cut reads the intervals as given.
+/// Cuts the intervals by what each says of the others. Every cut reads the intervals as given.
 pub fn join(width: u64, op: Op, h: Interval, x: Interval, y: Interval) -> Joined
     ensures { result ≡ joined width op h x y }
 {
-    let number = refused(width, h, x, op.second(y));
-    if number != 0 {
-        return as_given(number, false, h, x, y);
-    }
-    let bits = Width { bits: width };
+    let bits = match refusal::accepted(width, h, x, op.second(y)) {
+        Ok(bits) => bits,
+        Err(refusal) => return as_given(refusal.number(), false, h, x, y),
+    };
     let new_h = h.cut(span(bits, op, x, y));
     let new_x = cut_x(bits, op, h, x, y);
     let new_y = cut_y(bits, op, h, x, y);
@@ -50,6 +52,7 @@ pub fn join(width: u64, op: Op, h: Interval, x: Interval, y: Interval) -> Joined
     }
 }
 
+#[tactic(auto, unfolding(crate::specs::Join::as_given))]
 fn as_given(number: u64, empty: bool, h: Interval, x: Interval, y: Interval) -> Joined
     ensures { result ≡ as_given number empty h x y }
 {
@@ -62,64 +65,16 @@ fn as_given(number: u64, empty: bool, h: Interval, x: Interval, y: Interval) -> 
     }
 }
 
-// The number of the refusal, or 0.
-#[tactic(auto, using(crate::proofs::SearchRefused::wanted), unfolding(crate::specs::Join::refused))]
-fn refused(width: u64, h: Interval, x: Interval, y: Interval) -> u64
-    ensures { result ≡ refused width h x y }
-{
-    if !is_width(width) {
-        return 2;
-    }
-    let top = Width { bits: width }.top();
-    let unfit = !all_words(top, h, x, y);
-    let reversed = any_hollow(h, x, y);
-    if unfit {
-        return 5;
-    }
-    if reversed {
-        return 15;
-    }
-    0
-}
-
-// Whether it is a width from 1 to 64.
-#[tactic(auto, using(crate::proofs::SearchIsWidth::wanted), unfolding(crate::specs::Join::is_width))]
-pub fn is_width(width: u64) -> bool
-    ensures { result ≡ is_width width }
-{
-    if width < 1 {
-        return false;
-    }
-    width <= 64
-}
-
-// Whether no bound is above the top word.
-fn all_words(top: u64, h: Interval, x: Interval, y: Interval) -> bool
-    ensures { result ≡ all_within top h x y }
-{
-    if !h.within(top) {
-        return false;
-    }
-    if !x.within(top) {
-        return false;
-    }
-    y.within(top)
-}
-
-// Whether one of them has its low end above its high end.
+/// Whether one of them has its low end above its high end.
+#[tactic(auto, unfolding(crate::specs::Join::any_hollow))]
 pub fn any_hollow(h: Interval, x: Interval, y: Interval) -> bool
     ensures { result ≡ any_hollow h x y }
 {
-    if h.hollow() {
-        return true;
-    }
-    if x.hollow() {
-        return true;
-    }
-    y.hollow()
+    h.hollow() || x.hollow() || y.hollow()
 }
 
 // The interval of x, cut where the inverse operation cuts it.
+#[tactic(auto, using(crate::proofs::SearchCuts::wanted), unfolding(crate::specs::Join::new_x))]
 fn cut_x(width: Width, op: Op, h: Interval, x: Interval, y: Interval) -> Interval
     requires width { IsWidth width.bits }
     requires words { Words width.bits h × Words width.bits (second op y) }
@@ -132,6 +87,7 @@ fn cut_x(width: Width, op: Op, h: Interval, x: Interval, y: Interval) -> Interva
 }
 
 // The interval of y so.
+#[tactic(auto, using(crate::proofs::SearchCuts::wanted), unfolding(crate::specs::Join::new_y))]
 fn cut_y(width: Width, op: Op, h: Interval, x: Interval, y: Interval) -> Interval
     requires width { IsWidth width.bits }
     requires words { Words width.bits h × Words width.bits x }

@@ -3,7 +3,7 @@
 use crate::counts::Counts;
 use crate::draw;
 use crate::draw::{Limits, Next};
-use gate::{Four, Gate, Turned};
+use gate::{Four, Gate};
 use page::Opening;
 use rule::Rule;
 use sheet::{Answer, Call, Sheet};
@@ -205,11 +205,11 @@ fn refusal(width: u64, count: usize, limits: Limits) -> u64 {
 // The page with the rules of a gate, line by line.
 fn with(page: Page, limits: Limits) -> Page {
     match limits.gate().rules() {
-        Turned::Rules(four) => {
+        Ok(four) => {
             let three = with_three(page, four);
             with_rule(three, four.fourth)
         }
-        Turned::NotANumber => page,
+        Err(_) => page,
     }
 }
 
@@ -251,8 +251,8 @@ fn wrong(sheet: Sheet, page: Page) -> Tally {
 // The page with three of its rules.
 fn missing(page: Page) -> Page {
     match at_least(ONE).gate().rules() {
-        Turned::Rules(four) => with_three(page, four),
-        Turned::NotANumber => page,
+        Ok(four) => with_three(page, four),
+        Err(_) => page,
     }
 }
 

@@ -1,7 +1,6 @@
 // Drawn gates on readings, against the reading by integers.
 use crate::draw;
 use crate::draw::Limits;
-use gate::Turned;
 use std::num::wrapping_add_u64;
 use trial::trial_direct::draw::{SPREAD, next};
 use trial::trial_direct::rules::rule;
@@ -52,8 +51,8 @@ fn gated(seed: u64, looked_at: u64) -> Tally {
 // Whether the gate is turned into rules.
 fn turns(limits: Limits) -> bool {
     match limits.gate().rules() {
-        Turned::Rules(_) => true,
-        Turned::NotANumber => false,
+        Ok(_) => true,
+        Err(_) => false,
     }
 }
 
@@ -88,8 +87,8 @@ fn word(limits: Limits, seed: u64, k: u64) -> u64 {
 // Whether x meets the gate's rules.
 fn holds(limits: Limits, x: u64) -> bool {
     match limits.gate().rules() {
-        Turned::Rules(four) => direct::all_hold(four, x),
-        Turned::NotANumber => false,
+        Ok(four) => direct::all_hold(four, x),
+        Err(_) => false,
     }
 }
 

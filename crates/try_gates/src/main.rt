@@ -8,7 +8,7 @@
 
 mod made;
 
-use gate::{Four, Turned};
+use gate::Four;
 use trial::trial_gates::direct;
 use trial::trial_gates::made::gate;
 use trial::trial_tally::Tally;
@@ -56,13 +56,13 @@ fn gated(kind: u64, i: usize, j: usize, looked_at: u64) -> Tally {
     let turned = gate(kind, low, high).rules();
     let number = direct::limits(kind, low, high);
     match turned {
-        Turned::Rules(four) => {
+        Ok(four) => {
             if looked_at == direct::GATES {
                 return Tally::one(number);
             }
             words(kind, low, high, four, looked_at)
         }
-        Turned::NotANumber => {
+        Err(_) => {
             if looked_at == direct::GATES {
                 return Tally::one(!number);
             }
@@ -91,7 +91,7 @@ fn known() -> Tally {
 // What is expected, wrongly, of a word and the gate at least zero.
 fn wrong(x: u64, expected: bool) -> Tally {
     match gate(direct::LEAST, 0, 0).rules() {
-        Turned::Rules(four) => Tally::one(direct::all_hold(four, x) == expected),
-        Turned::NotANumber => Tally::none(),
+        Ok(four) => Tally::one(direct::all_hold(four, x) == expected),
+        Err(_) => Tally::none(),
     }
 }

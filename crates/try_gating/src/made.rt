@@ -1,5 +1,5 @@
 // Gates and sheets to try.
-use gate::{Gate, Span, Turned};
+use gate::{Gate, Span};
 use sheet::Sheet;
 use trial_calls::sheets::{added, case2};
 
@@ -24,10 +24,10 @@ pub fn filled(sheet: Sheet, n: usize) -> Sheet {
 // The sheet that is left by adding a gate's rules one by one.
 pub fn adds(sheet: Sheet, gate: Gate) -> Sheet {
     match gate.rules() {
-        Turned::Rules(four) => {
+        Ok(four) => {
             let lower = added(added(sheet, four.first), four.second);
             added(added(lower, four.third), four.fourth)
         }
-        Turned::NotANumber => sheet,
+        Err(_) => sheet,
     }
 }

@@ -5,7 +5,7 @@ use Prim.Native.Nat.{ℕ, suc, ◌+◌, ◌-◌, ◌*◌, ◌^◌}
 use lib.Dec.{leb}
 use borrow.Author.Tests.{leb-true}
 use Rattle.gate.specs.Value.{exponent, fraction, magnitude}
-use Rattle.watts.specs.declared.Limit.TheVariants.{Bits}
+use Rattle.std.specs.Prelude.{Some}
 use Rattle.watts.specs.Examples.{AllRight, examples}
 use Rattle.watts.specs.Watts.{INFINITY, limit_of, nearer, pattern, scaled, with_sign, worth}
 use Rattle.watts.proofs.Worth.{pattern_at}
@@ -13,9 +13,9 @@ use Rattle.watts.proofs.Worth.{pattern_at}
 -- p is the pattern below
 right : (minus : Bool) (digits places p : ℕ) → leb (suc p) INFINITY ≡ true → leb (worth p * 10 ^ places) (scaled digits) ≡ true
     → leb (suc (scaled digits)) (worth (p + 1) * 10 ^ places) ≡ true
-    → Bits (with_sign minus (pattern digits places)) ≡ Bits (with_sign minus (nearer (scaled digits - worth p * 10 ^ places) (worth (p + 1) * 10 ^ places - scaled digits) p))
+    → Some (with_sign minus (pattern digits places)) ≡ Some (with_sign minus (nearer (scaled digits - worth p * 10 ^ places) (worth (p + 1) * 10 ^ places - scaled digits) p))
 right minus digits places p a b c =
-    ap (λ (q : ℕ). Bits (with_sign minus q)) (pattern_at digits places p (leb-true _ _ a) (leb-true _ _ b) (leb-true _ _ c))
+    ap (λ (q : ℕ). Some (with_sign minus q)) (pattern_at digits places p (leb-true _ _ a) (leb-true _ _ b) (leb-true _ _ c))
 
 infixr 20 ◌then◌
 ◌then◌ : {A B : Type 0} → A → B → A × B

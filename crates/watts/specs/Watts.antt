@@ -1,12 +1,10 @@
 -- The single-precision number nearest to a decimal fraction, ties to even, by search over all patterns. Over whole numbers: what a pattern
 -- is worth is its value times 2^149, so digits / 10^places is compared with it as digits 2^149 with worth 10^places.
-use Rattle.std.specs.Prelude.{Bool, true, false, cond, ℕ, ◌+◌, ◌-◌, ◌*◌, ◌%◌, ◌^◌, leb, ltb}
+use Rattle.std.specs.Prelude.{Bool, true, false, cond, ℕ, ◌+◌, ◌-◌, ◌*◌, ◌%◌, ◌^◌, leb, ltb, Option, None, Some}
 use Rattle.std.specs.Prelude.{Some, None}
 use Rattle.word.specs.Search.{last}
 use Rattle.gate.specs.Value.{exponent, fraction, magnitude}
 use Rattle.digits.specs.numeral.Numeral.{PLACES}
-use Rattle.watts.specs.declared.Limit.{Limit}
-use Rattle.watts.specs.declared.Limit.TheVariants.{Bits, TooFine}
 
 -- the first pattern without a sign that is no number's with a value
 abbrev pub INFINITY : ℕ
@@ -39,6 +37,6 @@ unfoldable pub with_sign : Bool → ℕ → ℕ
 with_sign true p = 2 ^ 31 + p
 with_sign false p = p
 
--- the bits of a limit that is read
-unfoldable pub limit_of : (minus : Bool) (digits places : ℕ) → Limit
-limit_of minus digits places = cond (leb places PLACES) (Bits (with_sign minus (pattern digits places))) TooFine
+-- the bits of a limit that is read; none where it has more digits after the point
+unfoldable pub limit_of : (minus : Bool) (digits places : ℕ) → Option ℕ
+limit_of minus digits places = cond (leb places PLACES) (Some (with_sign minus (pattern digits places))) None

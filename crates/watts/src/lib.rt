@@ -9,13 +9,6 @@ ghost use Rattle.watts.specs.route.Route.{IsGrain, IsParts};
 
 use digits::numeral::Numeral;
 
-// The bits of a limit in watts, or that it has more digits after the point than are read.
-#[derive(Clone, Copy)]
-pub enum Limit {
-    Bits(u32),
-    TooFine,
-}
-
 // A power of ten, doubled so often.
 #[derive(Clone, Copy)]
 struct Grain {
@@ -42,18 +35,20 @@ const POINT: u64 = 149;
 // The sign bit.
 const SIGN: u64 = 0x8000_0000;
 
-// The number nearest to digits / 10^places; of two as near the one whose last bit is 0.
+/// The bits of the number nearest to digits / 10^places; of two as near the one whose last bit is 0. None where there are more digits
+/// after the point than are read.
 #[tactic(auto, using(crate::proofs::SearchNearest::wanted), unfolding(crate::specs::Watts::limit_of))]
-pub fn nearest(minus: bool, digits: u64, places: u64) -> Limit
+pub fn nearest(minus: bool, digits: u64, places: u64) -> Option<u32>
     ensures { result ≡ limit_of minus digits places }
 {
     if Numeral::PLACES < places {
-        return Limit::TooFine;
+        return None;
     }
-    Limit::Bits(with_sign(minus, pattern(digits, places)))
+    Some(with_sign(minus, pattern(digits, places)))
 }
 
 // A pattern with a sign.
+#[tactic(auto, unfolding(crate::specs::Watts::with_sign))]
 fn with_sign(minus: bool, p: u64) -> u32
     requires { p < 2 ^ 31 }
     ensures { result ≡ with_sign minus p }
@@ -72,24 +67,10 @@ fn pattern(digits: u64, places: u64) -> u64
     if digits == 0 {
         return 0;
     }
-    let grain = grain_of(digits, power(places));
+    let grain = grain_of(digits, 10_u64.pow(places as u32));
     let parts = parts_of(digits, grain.size);
     let below = (POINT + grain.doublings - parts.doublings) * LEAST + parts.whole;
     nearer(parts.rest, grain.size - parts.rest, below)
-}
-
-// 10^places.
-fn power(places: u64) -> u64
-    requires { places ≤ PLACES }
-    ensures { result ≡ 10 ^ places }
-{
-    let mut p = 1;
-    let mut i = 0;
-    while i < places {
-        p = p * 10;
-        i += 1;
-    }
-    p
 }
 
 // A power of ten, doubled until digits have no more than 24 places of it.
@@ -100,7 +81,7 @@ fn grain_of(digits: u64, power: u64) -> Grain
     let mut size = power;
     let mut doublings = 0;
     while PAST <= digits / size {
-        size = size * 2;
+        size *= 2;
         doublings += 1;
     }
     Grain { size, doublings }

@@ -1,19 +1,25 @@
 -- A route: the four rules without a search. One case serves all gates, since at least a limit is within it and the infinity above
 -- all, and at most a limit within the infinity below all and it.
-use Rattle.std.specs.Prelude.{cond, ℕ, ◌+◌, ◌%◌, ◌^◌, ◌≤◌, eqb, ltb}
+use Rattle.std.specs.Prelude.{cond, ℕ, ◌+◌, ◌%◌, ◌^◌, ◌≤◌, eqb, ltb, Float, Result, Ok, Err}
 use Rattle.std.specs.Float.{binary32}
-use Rattle.std.specs.Float.Ieee.{to_bits}
+use Rattle.std.specs.Float.Ieee.{is_nan, to_bits}
 use Rattle.word.specs.Word.{half, plus, top}
 use Rattle.gate.specs.declared.Four.{Four}
 use Rattle.gate.specs.declared.Gate.{Gate}
 use Rattle.gate.specs.declared.Gate.TheVariants.{AtLeast, AtMost, Within}
+use Rattle.gate.specs.declared.Refusal.{Refusal}
+use Rattle.gate.specs.declared.Refusal.TheVariants.{NotANumber}
 use Rattle.gate.specs.declared.Run.{Run}
-use Rattle.gate.specs.Gate.{four}
+use Rattle.gate.specs.Gate.{four, not_numbers}
 
 -- a pattern that is a number's: without the sign bit, not above that of an infinity
 pub record IsLimit (p : ℕ) : Type 0 where
   pub word : p ≤ top 32
   pub number : p % 2 ^ 31 ≤ 0x7f800000
+
+-- the bits of a limit that is a number
+unfoldable pub bits_of : Float → Result ℕ Refusal
+bits_of l = cond (is_nan l) (Err NotANumber) (Ok (to_bits binary32 l))
 
 -- the bits of a gate's two limits
 abbrev pub low_of : Gate → ℕ
@@ -25,6 +31,10 @@ abbrev pub high_of : Gate → ℕ
 high_of (AtLeast l) = 0x7f800000
 high_of (AtMost h) = to_bits binary32 h
 high_of (Within s) = to_bits binary32 s.high
+
+-- both, where they are numbers
+unfoldable pub limits_of : Gate → Result (ℕ × ℕ) Refusal
+limits_of g = cond (not_numbers g) (Err NotANumber) (Ok (low_of g, high_of g))
 
 -- the first word of the lower half that is at least the limit
 unfoldable pub from_of : ℕ → ℕ

@@ -5,7 +5,9 @@ use Prim.Native.Nat.{ℕ}
 use native.Mathlib.Omega.{arith}
 use Rattle.gate.specs.declared.Four.{Four}
 use Rattle.gate.specs.declared.Gate.{Gate}
-use Rattle.gate.specs.declared.Turned.TheVariants.{NotANumber, Rules}
+use Rattle.gate.specs.declared.Refusal.{Refusal}
+use Rattle.gate.specs.declared.Refusal.TheVariants.{NotANumber}
+use Rattle.std.specs.Prelude.{Ok, Err}
 use Rattle.gate.specs.Gate.{four_of, not_numbers, through, turned}
 use Rattle.sheet.specs.Statements.{Outcome}
 use Rattle.gating.specs.gate_refusal.route.Seen.{SeenFor}
@@ -14,31 +16,31 @@ use Rattle.gating.proofs.Gating.{limit_refused, refused_gate}
 use Rattle.gating.proofs.set.Goals as goal
 
 module _ (g : Gate) where
-  numbers : (f : Four) → turned g ≡ Rules f → (not_numbers g ≡ false) × (f ≡ four_of (through g))
+  numbers : (f : Four) → turned g ≡ Ok f → (not_numbers g ≡ false) × (f ≡ four_of (through g))
   unfolding turned
   numbers f = go (not_numbers g) refl
     where
-      go : (b : Bool) → not_numbers g ≡ b → cond b NotANumber (Rules (four_of (through g))) ≡ Rules f → (not_numbers g ≡ false) × (f ≡ four_of (through g))
+      go : (b : Bool) → not_numbers g ≡ b → cond b (Err NotANumber) (Ok (four_of (through g))) ≡ Ok f → (not_numbers g ≡ false) × (f ≡ four_of (through g))
       go true n e = let z : ◌≡◌ {A = ℕ} 0 1 = cc in absurd (omega arith)
       go false n e = (n, cc)
 
-  no_number : turned g ≡ NotANumber → not_numbers g ≡ true
+  no_number : {e : Refusal} → turned g ≡ Err e → not_numbers g ≡ true
   unfolding turned
-  no_number = go (not_numbers g) refl
+  no_number {e} = go (not_numbers g) refl
     where
-      go : (b : Bool) → not_numbers g ≡ b → cond b NotANumber (Rules (four_of (through g))) ≡ NotANumber → not_numbers g ≡ true
-      go true n e = n
-      go false n e = let z : ◌≡◌ {A = ℕ} 0 1 = cc in absurd (omega arith)
+      go : (b : Bool) → not_numbers g ≡ b → cond b (Err NotANumber) (Ok (four_of (through g))) ≡ Err e → not_numbers g ≡ true
+      go true n f = n
+      go false n f = let z : ◌≡◌ {A = ℕ} 0 1 = cc in absurd (omega arith)
 
-pub returns-in-Rules : goal.returns-in-Rules
+pub returns-in-Ok : goal.returns-in-Ok
 unfolding AddedFor
-returns-in-Rules c =
-    let n = numbers _ _ (sym c.rules-turned.ensures ∙ c.in-Rules.is) in
+returns-in-Ok c =
+    let n = numbers _ _ (sym c.rules.ensures ∙ c.in-Ok.is) in
     c.added.ensures _ n.0 n.1
 
-pub returns-in-NotANumber : goal.returns-in-NotANumber
+pub returns-in-Err-NotANumber : goal.returns-in-Err-NotANumber
 unfolding SeenFor Outcome
-returns-in-NotANumber c =
-    let n = no_number _ (sym c.rules-turned.ensures ∙ c.in-NotANumber.is) in
+returns-in-Err-NotANumber c =
+    let n = no_number _ (sym c.rules.ensures ∙ c.in-Err-NotANumber.is) in
     let seen = c.refusal_of.ensures _ n in
     refused_gate _ seen (limit_refused _ n seen)

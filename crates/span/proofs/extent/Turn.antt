@@ -1,6 +1,6 @@
 -- The largest result of an operation is the smallest one of its turned version over words turned round, turned back, since the
 -- two results always make up the top word. Assumes nothing.
-use mathlib.Core.Path.{◌≡◌, refl, ap₂, ◌∙◌}
+use mathlib.Core.Path.{◌≡◌, refl, ap, ap₂, ◌∙◌}
 use Prim.Native.Nat.{ℕ, ◌+◌, ◌-◌, ◌^◌, ◌≤◌, ◌<◌}
 use native.Mathlib.Omega.{arith}
 use lib.Bits.{bit_and, bit_or, bit_xor}
@@ -11,20 +11,21 @@ use Rattle.span.specs.interval.Interval.{Greatest, In, Least, Words, interval, t
 use Rattle.span.specs.extent.Span.{largest, smallest}
 use Rattle.span.specs.interval.Op.{result}
 use Rattle.span.specs.declared.interval.Op.TheVariants.{Not}
-use Rattle.span.proofs.steps.Bitwise.{Bitwise, and_bitwise, or_bitwise, xor_bitwise}
+use Rattle.span.specs.steps.route.Step.{Turns}
+use Rattle.span.specs.steps.Bitwise.{IsBitwise, and_bitwise, or_bitwise, xor_bitwise}
 use Rattle.span.proofs.extent.Ops.{and_turned, not_turns, or_turned, xor_turned}
 use Rattle.span.proofs.extent.Searched.{has_smallest, largest_is, smallest_is, smallest_word}
 
 -- m takes the words of x to those of u, and back
-record Turns (m : ℕ → ℕ) (x u : Interval) : Type 0 where
+record TurnsBack (m : ℕ → ℕ) (x u : Interval) : Type 0 where
   there : (a : ℕ) → In x a → In u (m a)
   back : (a : ℕ) → In u a → In x (m a)
   again : (a : ℕ) → In u a → m (m a) ≡ a
 
-stays : (x : Interval) → Turns (λ a. a) x x
+stays : (x : Interval) → TurnsBack (λ a. a) x x
 stays x = record { there = λ a i. i; back = λ a i. i; again = λ a i. refl }
 
-turns : (t : ℕ) (x : Interval) → x.low ≤ x.high → x.high ≤ t → Turns (λ a. t - a) x (turned t x)
+turns : (t : ℕ) (x : Interval) → x.low ≤ x.high → x.high ≤ t → TurnsBack (λ a. t - a) x (turned t x)
 unfolding turned
 turns t x o h =
     record {
@@ -37,7 +38,7 @@ turned_words : {w : ℕ} {x : Interval} → Words w x → Words w (turned (top w
 unfolding turned
 turned_words m = record { order = omega arith; top = omega arith }
 
-module _ (w : ℕ) (f g : ℕ → ℕ → ℕ) {m n : ℕ → ℕ} {x y u v : Interval} (tx : Turns m x u) (ty : Turns n y v)
+module _ (w : ℕ) (f g : ℕ → ℕ → ℕ) {m n : ℕ → ℕ} {x y u v : Interval} (tx : TurnsBack m x u) (ty : TurnsBack n y v)
     (sum : (a b : ℕ) → In x a → In y b → f a b + g (m a) (n b) ≡ top w) where
   greatest : {s : ℕ} → Least g u v s → Greatest f x y (top w - s)
   greatest {s} l =
@@ -52,7 +53,7 @@ module _ (w : ℕ) (f g : ℕ → ℕ → ℕ) {m n : ℕ → ℕ} {x y u v : In
         greatest = λ c d p q. omega (arith, sum c d p q, l.least (m c) (n d) (tx.there c p) (ty.there d q));
       }
 
-  largest_turned : Bitwise g → Words w u → Words w v → largest w f x y ≡ top w - smallest w g u v
+  largest_turned : IsBitwise g → Words w u → Words w v → largest w f x y ≡ top w - smallest w g u v
   largest_turned law mu mv =
       let t = top-suc w in
       largest_is f x y w _ (greatest (has_smallest g u v w mu.order mv.order words)) (omega (arith, smallest_word g u v w))
@@ -66,20 +67,44 @@ module _ {w : ℕ} {x y : Interval} (mx : Words w x) (my : Words w y) where
   word : {i : Interval} → Words w i → (a : ℕ) → In i a → a ≤ top w
   word m a k = omega (arith, m.top, k.high)
 
-  pub and_largest : largest w bit_and x y ≡ top w - smallest w bit_or (turned (top w) x) (turned (top w) y)
-  and_largest =
-      largest_turned w bit_and bit_or (turns _ x mx.order mx.top) (turns _ y my.order my.top)
-      (λ a b i j. and_turned w a b (word mx a i) (word my b j)) or_bitwise (turned_words mx) (turned_words my)
+  -- what the code has, at its top word t
+  module _ {t : ℕ} (h : t ≡ top w) {u : Interval} (is_u : u ≡ turned t x) where
+    round : (i : Interval) {o : Interval} → o ≡ turned t i → o ≡ turned (top w) i
+    round i e = e ∙ ap (λ (n : ℕ). turned n i) h
 
-  pub or_largest : largest w bit_or x y ≡ top w - smallest w bit_and (turned (top w) x) (turned (top w) y)
-  or_largest =
-      largest_turned w bit_or bit_and (turns _ x mx.order mx.top) (turns _ y my.order my.top)
-      (λ a b i j. or_turned w a b (word mx a i) (word my b j)) and_bitwise (turned_words mx) (turned_words my)
+    module _ {v : Interval} (is_v : v ≡ turned t y) where
+      pub and_turns : Turns w bit_and bit_or x y u v
+      and_turns =
+          rw (round x is_u, round y is_v)
+          (record {
+            x_words = turned_words mx;
+            y_words = turned_words my;
+            back =
+                largest_turned w bit_and bit_or (turns _ x mx.order mx.top) (turns _ y my.order my.top)
+                (λ a b i j. and_turned w a b (word mx a i) (word my b j)) or_bitwise (turned_words mx) (turned_words my);
+          })
 
-  pub xor_largest : largest w bit_xor x y ≡ top w - smallest w bit_xor (turned (top w) x) y
-  xor_largest =
-      largest_turned w bit_xor bit_xor (turns _ x mx.order mx.top) (stays y)
-      (λ a b i j. xor_turned w a b (word mx a i) (word my b j)) xor_bitwise (turned_words mx) my
+      pub or_turns : Turns w bit_or bit_and x y u v
+      or_turns =
+          rw (round x is_u, round y is_v)
+          (record {
+            x_words = turned_words mx;
+            y_words = turned_words my;
+            back =
+                largest_turned w bit_or bit_and (turns _ x mx.order mx.top) (turns _ y my.order my.top)
+                (λ a b i j. or_turned w a b (word mx a i) (word my b j)) and_bitwise (turned_words mx) (turned_words my);
+          })
+
+    pub xor_turns : Turns w bit_xor bit_xor x y u y
+    xor_turns =
+        rw (round x is_u)
+        (record {
+          x_words = turned_words mx;
+          y_words = my;
+          back =
+              largest_turned w bit_xor bit_xor (turns _ x mx.order mx.top) (stays y)
+              (λ a b i j. xor_turned w a b (word mx a i) (word my b j)) xor_bitwise (turned_words mx) my;
+        })
 
 -- NOT is the turn itself, whatever word stands for its y
 module _ {w : ℕ} {x : Interval} (mx : Words w x) where
@@ -115,7 +140,3 @@ module _ {w : ℕ} {x : Interval} (mx : Words w x) where
         greatest = λ c d p q. omega (arith, not_is c d p, p.low);
       })
       (omega (arith, top-suc w))
-
--- the same of the turn that the code makes, at its top word t
-pub turned_are : {w t : ℕ} {x u : Interval} → Words w x → t ≡ top w → u ≡ turned t x → Words w u
-turned_are m e d = rw (d, e) (turned_words m)

@@ -11,7 +11,7 @@ use Rattle.span.specs.declared.interval.Interval.{Interval}
 use Rattle.span.specs.interval.Interval.{Least, Words}
 use Rattle.span.specs.extent.Span.{smallest}
 use Rattle.span.specs.steps.route.Step.{Opens}
-use Rattle.span.proofs.steps.Bitwise.{Bitwise}
+use Rattle.span.specs.steps.Bitwise.{IsBitwise}
 use Rattle.span.proofs.extent.Searched.{smallest_is}
 use Rattle.span.proofs.steps.Settled.{nothing_left}
 
@@ -39,7 +39,7 @@ module _ {f : ℕ → ℕ → ℕ} {w : ℕ} {x y : Interval} where
         carries = λ v l. rw (add_assoc n b v) (way.carries (b + v) (o.carries v l));
       }
 
-  module _ (law : Bitwise f) (words : Words w x × Words w y) where
+  module _ (law : IsBitwise f) (words : Words w x × Words w y) where
     word : {v : ℕ} → Least f x y v → v < 2 ^ w
     word m =
         let t = top-suc w in

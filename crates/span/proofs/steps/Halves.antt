@@ -7,12 +7,12 @@ use Prim.Native.Nat.{ℕ, suc, ◌+◌, ◌-◌, ◌*◌, ◌≤◌, ◌<◌}
 use native.Mathlib.Nat.{mul-le-mul_right}
 use native.Mathlib.Decide.{dec_lt}
 use native.Mathlib.Omega.{arith}
-use Rattle.word.specs.Word.{IsWidth, half, top}
+use Rattle.word.specs.Word.{IsWidth, half}
 use Rattle.word.proofs.Widths.{halves, top-suc}
 use Rattle.span.specs.declared.interval.Interval.{Interval}
 use Rattle.span.specs.interval.Interval.{In, Least, Words, lower, upper}
 use Rattle.span.specs.steps.route.Step.{Opens}
-use Rattle.span.proofs.steps.Bitwise.{Bitwise}
+use Rattle.span.specs.steps.Bitwise.{IsBitwise}
 
 pub data Side : Type 0 where
   low : Side
@@ -79,7 +79,7 @@ unfolding lower upper half
 part_words w l low i m b = record { order = omega arith; top = omega (arith, top-suc (w - 1)) }
 part_words w l high i m b = record { order = omega arith; top = omega (arith, top-suc (w - 1), halves w l) }
 
-module _ {f : ℕ → ℕ → ℕ} (law : Bitwise f) {w : ℕ} (width : IsWidth w) {x y : Interval} (words : Words w x × Words w y) where
+module _ {f : ℕ → ℕ → ℕ} (law : IsBitwise f) {w : ℕ} (width : IsWidth w) {x y : Interval} (words : Words w x × Words w y) where
   top_of : {i : Interval} → Words w i → i.high < half w + half w
   top_of m = omega (arith, halves w width.low)
 

@@ -5,11 +5,11 @@ use native.Mathlib.Omega.{arith}
 use lib.Arith.{lt-one}
 use lib.Bits.{and_comm, and_le_l, and_shifted, bit_and, bit_or, bit_xor, or_add_and, or_block, or_comm, xor_self}
 use lib.Pow.{pow_pos}
-use Rattle.word.specs.Word.{half, top}
+use Rattle.word.specs.Word.{half}
 use Rattle.word.proofs.Widths.{halves, top-suc}
 use Rattle.span.specs.declared.interval.Interval.{Interval}
 use Rattle.span.specs.interval.Interval.{In, Least, Words}
-use Rattle.span.proofs.steps.Bitwise.{Bitwise}
+use Rattle.span.specs.steps.Bitwise.{IsBitwise}
 
 swapped : {f : ℕ → ℕ → ℕ} {x y : Interval} {v : ℕ} → ((a b : ℕ) → f a b ≡ f b a) → Least f y x v → Least f x y v
 swapped comm m =
@@ -67,7 +67,7 @@ pub or_low_x : (w : ℕ) {x y : Interval} → 1 ≤ w → In y (half w) → Word
 or_low_x w l m n h = swapped or_comm (or_low w l m n h)
 
 -- no bit is left
-pub nothing_left : {f : ℕ → ℕ → ℕ} → Bitwise f → {x y : Interval} → Words 0 x → Words 0 y → Least f x y 0
+pub nothing_left : {f : ℕ → ℕ → ℕ} → IsBitwise f → {x y : Interval} → Words 0 x → Words 0 y → Least f x y 0
 nothing_left law {x} {y} m n =
     let none = top-suc 0 in
     record {

@@ -1,6 +1,6 @@
 -- `grain_of` meets its contract. The loop's invariant: the power is doubled so often, and digits of 64 bits leave room for 24 places. The
 -- measure is what is left of that room. Assumes nothing.
-use Prim.Native.Nat.{◌-◌, ◌*◌, ◌≤◌}
+use Prim.Native.Nat.{◌*◌, ◌≤◌}
 use native.Mathlib.Nat.{div-lt_iff_lt-mul, le-div_iff_mul-le}
 use native.Mathlib.Omega.{arith}
 use Rattle.watts.proofs.Turns.{PAST, doubled_more, exponent_held}

@@ -1,7 +1,7 @@
 -- `parts_of` meets its contract. The loop's invariant: whole grains and the rest are the digits, doubled so often. The measure is the turns
 -- left. Assumes nothing.
 use mathlib.Core.Path.{sym, ◌∙◌}
-use Prim.Native.Nat.{ℕ, ◌-◌, ◌*◌, ◌/◌, ◌<◌}
+use Prim.Native.Nat.{ℕ, ◌*◌, ◌/◌, ◌<◌}
 use native.Mathlib.Nat.{div-add-mod', div-lt_iff_lt-mul, mod-lt, mul-one}
 use native.Mathlib.Omega.{arith}
 use Rattle.watts.proofs.Turns.{PAST, TURNS, place_more, turns_held}

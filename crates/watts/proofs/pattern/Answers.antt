@@ -14,7 +14,7 @@ returns-then-digits-eq0 c = (sym (ap (λ (n : ℕ). pattern n c.args.places) c.i
 
 pub grain_of-grain-requires : goal.grain_of-grain-requires
 grain_of-grain-requires c =
-    omega (arith, c.power.ensures, some 0 c.args.places, power_held c.args.places c.requires)
+    omega (arith, c.pow.ensures, some 0 c.args.places, power_held c.args.places c.requires)
 
 pub overflow_add-below : goal.overflow_add-below
 overflow_add-below c = omega arith
@@ -30,5 +30,5 @@ nearer-requires c = omega arith
 
 pub returns : goal.returns
 returns c =
-    let e = pattern_is c.args.digits c.args.places c.grain_of-grain.result.size c.grain_of-grain.result.doublings c.parts_of-parts.result.doublings c.parts_of-parts.result.whole c.parts_of-parts.result.rest (c.grain_of-grain.ensures.doubled ∙ ap (λ (n : ℕ). n * 2 ^ c.grain_of-grain.result.doublings) c.power.ensures) c.parts_of-parts.ensures.divided c.parts_of-parts.ensures.rest c.parts_of-parts.ensures.low c.parts_of-parts.ensures.high c.parts_of-parts.ensures.turns c.grain_of-grain.ensures.turns in
+    let e = pattern_is c.args.digits c.args.places c.grain_of-grain.result.size c.grain_of-grain.result.doublings c.parts_of-parts.result.doublings c.parts_of-parts.result.whole c.parts_of-parts.result.rest (c.grain_of-grain.ensures.doubled ∙ ap (λ (n : ℕ). n * 2 ^ c.grain_of-grain.result.doublings) c.pow.ensures) c.parts_of-parts.ensures.divided c.parts_of-parts.ensures.rest c.parts_of-parts.ensures.low c.parts_of-parts.ensures.high c.parts_of-parts.ensures.turns c.grain_of-grain.ensures.turns in
     (c.nearer.ensures ∙ sym e, omega (arith, c.nearer.ensures, nearer_most c.parts_of-parts.result.rest (c.grain_of-grain.result.size - c.parts_of-parts.result.rest) ((149 + c.grain_of-grain.result.doublings - c.parts_of-parts.result.doublings) * 2 ^ 23 + c.parts_of-parts.result.whole)))

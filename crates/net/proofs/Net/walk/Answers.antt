@@ -1,7 +1,7 @@
 -- `walk` meets its contract. The loop's invariant: what is left of the run comes to what the whole run comes to. The measure is the
 -- steps that may still be paid for. Assumes nothing.
 use mathlib.Core.Path.{◌≡◌}
-use Prim.Native.Nat.{ℕ, ◌-◌, ◌%◌, ◌≤◌, ◌<◌}
+use Prim.Native.Nat.{ℕ, ◌%◌, ◌≤◌, ◌<◌}
 use native.Mathlib.Nat.{mod-lt}
 use native.Mathlib.Omega.{arith}
 use Rattle.net.specs.net_tests.Fits.{JOINS}
@@ -32,13 +32,13 @@ returns-then-empty c = given_empty _ _ _ c.turns.invariant c.given.ensures c.if-
 pub nonzero_rem-turn : goal.nonzero_rem-turn
 nonzero_rem-turn c = omega (arith, unsteady (goal.at.nonzero_rem-turn c).Else-steady)
 
-pub offset_bounds-joins-turn : goal.offset_bounds-joins-turn
-offset_bounds-joins-turn c =
-    omega (arith, turn_below c.turns.steps c.args.self.joined (omega (arith, unsteady (goal.at.offset_bounds-joins-turn c).Else-steady)) c.requires.joins)
+pub offset_bounds-self-turn : goal.offset_bounds-self-turn
+offset_bounds-self-turn c =
+    omega (arith, turn_below c.turns.steps c.args.self.joined (omega (arith, unsteady (goal.at.offset_bounds-self-turn c).Else-steady)) c.requires.joins)
 
-pub bounds-joins-turn : goal.bounds-joins-turn
-bounds-joins-turn c =
-    turn_below c.turns.steps c.args.self.joined (omega (arith, unsteady (goal.at.bounds-joins-turn c).Else-steady)) c.requires.joins
+pub bounds-self-turn : goal.bounds-self-turn
+bounds-self-turn c =
+    turn_below c.turns.steps c.args.self.joined (omega (arith, unsteady (goal.at.bounds-self-turn c).Else-steady)) c.requires.joins
 
 pub step-next-requires : goal.step-next-requires
 step-next-requires c =

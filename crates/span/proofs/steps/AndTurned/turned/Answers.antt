@@ -1,0 +1,6 @@
+-- `And::turned` meets its contract. Assumes nothing.
+use Rattle.span.proofs.extent.Turn.{and_turns}
+use Rattle.span.proofs.steps.AndTurned.turned.Goals as goal
+
+pub returns : goal.returns
+returns c = and_turns c.requires.words.0 c.requires.words.1 c.top-top.ensures c.turned.ensures c.turned-2.ensures
