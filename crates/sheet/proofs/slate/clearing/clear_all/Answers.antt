@@ -10,12 +10,12 @@ use Rattle.page.specs.Page.{MARKS}
 use Rattle.sheet.specs.slate.route.Held.{Waits}
 use Rattle.sheet.proofs.slate.Cleared.{emptied, past_all, rules_cleared}
 use Rattle.sheet.proofs.slate.Holding.{rules_places, waits_if}
-use Rattle.std.proofs.lemmas.Bool.{not_from_false}
+use borrow.Author.Tests.{not-false}
 use Rattle.sheet.proofs.slate.clearing.clear_all.Goals.{Else-not-head}
 use Rattle.sheet.proofs.slate.clearing.clear_all.Goals as goal
 
 waits : (a : Else-not-head) → Waits a.args.head (rules_in a.args.rows.now) a.args.marks.now
-waits a = waits_if a.requires (not_from_false _ a.if-not-head.false)
+waits a = waits_if a.requires (not-false _ a.if-not-head.false)
 
 pub clear-requires : goal.clear-requires
 clear-requires c = (omega arith, omega arith, c.requires.room.rows_places)
