@@ -50,7 +50,10 @@ pub fn adds(edition: Edition, code: u64, digits: usize) -> bool
     let terms = edition.terms();
     let word = terms.digits;
     let end = C1 + word + word;
-    digits == end && code == terms.adds
+    if digits != end {
+        return false;
+    }
+    code == terms.adds
 }
 
 // The rule that the digits after an add's code write.

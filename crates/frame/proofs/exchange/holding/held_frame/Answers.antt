@@ -13,13 +13,10 @@ use Rattle.frame.proofs.exchange.holding.held_frame.Goals as goal
 whole : (s : Start) → Whole s.args.begun
 whole s = s.well_formed.0.1.1.0.1.0.1
 
-pub returns-then-len-gt-LONGEST : goal.returns-then-len-gt-LONGEST
+pub returns-then-begun-gt-LONGEST : goal.returns-then-begun-gt-LONGEST
 unfolding begun_line
-returns-then-len-gt-LONGEST c =
-    too_long _ (omega (arith, whole (goal.at.returns-then-len-gt-LONGEST c).Start, length-take c.args.begun.len c.args.begun.bytes))
-
-pub slice_bounds-bytes-end : goal.slice_bounds-bytes-end
-slice_bounds-bytes-end c = omega (arith, whole (goal.at.slice_bounds-bytes-end c).Start)
+returns-then-begun-gt-LONGEST c =
+    too_long _ (omega (arith, whole (goal.at.returns-then-begun-gt-LONGEST c).Start, length-take c.args.begun.len c.args.begun.bytes))
 
 pub slice_bounds-decode-end : goal.slice_bounds-decode-end
 slice_bounds-decode-end c = sym (length-take-le _ _ (omega (arith, whole (goal.at.slice_bounds-decode-end c).Start)))
