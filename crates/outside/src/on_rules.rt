@@ -6,7 +6,7 @@ ghost use Rattle.outside.specs.handing.Handed.{rule_in, weigh_number, weighed};
 use crate::handing::NUMBERS;
 use word::Width;
 
-// Whether a word meets a rule.
+/// Whether a word meets a rule.
 pub fn meets(width: u64, rule: &[u64; NUMBERS], word: u64, meets: &mut u64) -> u64
     ensures value { result ≡ weigh_number width (rule_in rule.now) word }
     ensures meets_after { meets.new ≡ weighed width (rule_in rule.now) word }

@@ -11,7 +11,7 @@ use lib.Seq.{length-take-le, take_all}
 use Rattle.rule.specs.declared.Rule.{Rule}
 use Rattle.page.specs.declared.Opening.{Opening}
 use Rattle.batch.specs.adds.route.Few.{few}
-use Rattle.batch.proofs.adds.Read.{few_high}
+use Rattle.batch.proofs.Few.{few_high}
 use Rattle.batch.specs.declared.course.Batch.{Batch}
 use Rattle.batch.specs.course.Batch.{Batched, Ending, Gives, MOST, batch}
 use Rattle.batch.specs.course.route.Route.{batch_at}

@@ -1,11 +1,14 @@
 -- The rules looked at: a list is copied place by place, and as many as it has are those. What the batch answers, in numbers. Assumes nothing.
 use mathlib.Core.Path.{◌≡◌, refl, sym, ap, ◌∙◌}
 use mathlib.Core.List.{List, [], ◌∷◌, ◌++◌, append_assoc}
-use Prim.Native.Nat.{ℕ, zero, suc, ◌-◌, ◌≤◌, ◌<◌}
+use mathlib.Core.Bool.{Bool, true, false}
+use Prim.Native.Nat.{ℕ, zero, suc, min, ◌-◌, ◌≤◌, ◌<◌}
 use native.Mathlib.Numerals.{unary_clauses}
 use native.Mathlib.Omega.{arith}
 use lib.ListN.{get_or, length, replicate, set, take}
-use lib.Seq.{length-take-le, set_at, take-suc}
+use lib.Seq.{length-take-le, set_at, take_all, take-suc}
+use lib.Dec.{leb}
+use borrow.Author.Tests.{leb-false, leb-true}
 use Rattle.rule.specs.declared.Rule.{Rule}
 use Rattle.page.specs.declared.Opening.{Opening}
 use Rattle.page.specs.Page.{padded}
@@ -26,6 +29,19 @@ filled {A} n z d us i h l =
     ∙ sym (append_assoc (take i us) (u ∷ []) (replicate (n - suc i) z))
     ∙ ap (λ (l : List A). l ++ replicate (n - suc i) z) (sym (take-suc us i d h))
     ∙ ap (λ (k : ℕ). take (suc i) us ++ replicate (n - k) z) (sym (length-take-le (suc i) us h))
+
+-- as many are read as there are, or as there are places
+pub all_read : {A : Type 0} (n i : ℕ) (us : List A) → i ≡ min (length us) n → take i us ≡ take n us
+all_read n i us e = go (leb (length us) n) refl
+  where
+    go : (t : Bool) → leb (length us) n ≡ t → take i us ≡ take n us
+    go true h =
+        let l : length us ≤ n = leb-true (length us) n h in
+        take_all i us (omega (arith, e)) ∙ sym (take_all n us l)
+    go false h =
+        let l : n < length us = leb-false (length us) n h in
+        let k : i ≡ n = omega (arith, e) in
+        ap (λ (j : ℕ). take j us) k
 
 -- the copy begins as the list does
 pub as_read : {A : Type 0} (k n : ℕ) (z : A) (us : List A) → k ≤ n → k ≤ length us → take k (padded n z (take n us)) ≡ take k us
