@@ -5,6 +5,7 @@ ghost use Rattle.net.specs.net_tests.Fits.{JOINS};
 ghost use Rattle.outside.specs.net_words.Laid.{laid_over};
 ghost use Rattle.outside.specs.net_joins.Joined.{join_of, no_join};
 
+use crate::over::lay_over;
 use net::net_step::Join;
 use net::net_tests::JOINS;
 use span::Op;
@@ -20,9 +21,7 @@ pub fn joins_in(rows: &[[u64; 4]]) -> [Join; JOINS]
         y: 0,
     };
     let mut joins = [none; JOINS];
-    for (place, row) in rows[..rows.len().min(JOINS)].iter().enumerate() {
-        joins[place] = join_of(row);
-    }
+    lay_over(rows, &mut joins, join_of);
     joins
 }
 

@@ -6,6 +6,7 @@ ghost use Rattle.outside.specs.on_words.Joins.{interval_in};
 ghost use Rattle.outside.specs.net_words.Laid.{laid_over, no_word, row_of};
 
 use crate::on_words::{interval_in, row_of};
+use crate::over::lay_over;
 use net::net_step::WORDS;
 use span::Interval;
 
@@ -14,9 +15,7 @@ pub fn words_in(rows: &[[u64; 2]]) -> [Interval; WORDS]
     ensures { result ≡ laid_over (map interval_in rows.now) (replicate WORDS no_word) }
 {
     let mut words = [Interval { low: 0, high: 0 }; WORDS];
-    for (place, row) in rows[..rows.len().min(WORDS)].iter().enumerate() {
-        words[place] = interval_in(row);
-    }
+    lay_over(rows, &mut words, interval_in);
     words
 }
 
@@ -24,7 +23,5 @@ pub fn words_in(rows: &[[u64; 2]]) -> [Interval; WORDS]
 pub fn put(rows: &mut [[u64; 2]], words: [Interval; WORDS])
     ensures { rows.new ≡ laid_over (map row_of words) rows.old }
 {
-    for (place, word) in words[..rows.len().min(WORDS)].iter().enumerate() {
-        rows[place] = row_of(*word);
-    }
+    lay_over(&words, rows, row_of);
 }

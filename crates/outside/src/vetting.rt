@@ -8,6 +8,7 @@ ghost use Rattle.outside.specs.handing.Handed.{opening_of, rules_in};
 ghost use Rattle.outside.specs.vetting.Vetted.{Vetted};
 
 use crate::handing::{NUMBERS, rule_in};
+use crate::over::lay_over;
 use batch::Batch;
 use rule::Rule;
 
@@ -44,8 +45,6 @@ fn first_rules(rules: &[[u64; NUMBERS]]) -> [Rule; Batch::MOST]
     ensures { result ≡ padded MOST no_rule (take MOST (rules_in rules.now)) }
 {
     let mut first = [Rule::NONE; Batch::MOST];
-    for (place, row) in rules[..rules.len().min(Batch::MOST)].iter().enumerate() {
-        first[place] = rule_in(row);
-    }
+    lay_over(rules, &mut first, rule_in);
     first
 }

@@ -36,14 +36,14 @@ module _ {A : Type 0} (l m : List A) where
       go false h = under (omega (arith, leb-false (length l) (length m) h))
 
 -- the first n rows of a list, read one after another into places that were so at the start
-module _ {A B : Type 0} (f : A → B) (rows : List A) (d : A) (start : List B) (n : ℕ) (few : n ≡ min (length rows) (length start)) where
+module _ {A B : Type 0} (f : A → B) (rows : List A) (start : List B) (n : ℕ) (few : n ≡ min (length rows) (length start)) where
   many : n ≤ length rows
   many = omega (arith, few)
 
   -- one row more is read
-  pub laid_more : (i : ℕ) → i < length (take n rows) → {x : B} → x ≡ f (get_or (take n rows) i d) → {at : List B} → at ≡ take i (map f rows) ++ drop i start
+  pub laid_more : (d : A) (i : ℕ) → i < length (take n rows) → {x : B} → x ≡ f (get_or (take n rows) i d) → {at : List B} → at ≡ take i (map f rows) ++ drop i start
       → set at i x ≡ take (i + 1) (map f rows) ++ drop (i + 1) start
-  laid_more i h p q =
+  laid_more d i h p q =
       let size : length (map f rows) ≡ length rows = length-map rows f in
       let long : length (take n rows) ≡ n = length-take-le n rows many in
       ap₂ (λ (l : List B) (v : B). set l i v) q (p ∙ ap f (get_or-take n rows i d (omega arith)) ∙ sym (get_or-map f rows i d))

@@ -19,7 +19,7 @@ pub fn join(width: u64, op: u64, words: &mut [[u64; 2]; 3], empty: &mut u64) -> 
         interval_in(&words[1]),
         interval_in(&words[2]),
     );
-    *words = [row_of(said.h), row_of(said.x), row_of(said.y)];
+    *words = [row_of(&said.h), row_of(&said.x), row_of(&said.y)];
     *empty = said.empty as u64;
     said.number
 }
@@ -35,8 +35,8 @@ pub fn interval_in(row: &[u64; 2]) -> Interval
 }
 
 /// The row of an interval.
-pub fn row_of(word: Interval) -> [u64; 2]
-    ensures { result ≡ row_of word }
+pub fn row_of(word: &Interval) -> [u64; 2]
+    ensures { result ≡ row_of word.now }
 {
     [word.low, word.high]
 }
