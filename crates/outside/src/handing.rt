@@ -1,6 +1,6 @@
 // What a caller outside hands in, as numbers: rules, four numbers each, and the numbers of editions.
 
-ghost use Rattle.std.specs.Prelude.{◌≡◌};
+ghost use Rattle.std.specs.Prelude.{◌≡◌, MatchResult};
 ghost use Rattle.outside.specs.handing.Handed.{edition_of, opening_of, rule_in, weigh_number};
 
 use page::Opening;
@@ -42,17 +42,17 @@ pub fn opening(width: u64, edition: u64) -> Opening
     }
 }
 
-/// The number with which a rule and a word at a width are refused, or 0.
-pub fn refusal_of(width: u64, rule: Rule, word: u64) -> u64
-    ensures { result ≡ weigh_number width rule word }
+/// The width at which a word is held to a rule, or the number with which they are refused.
+pub fn weighable(width: u64, rule: Rule, word: u64) -> Result<Width, u64>
+    ensures { MatchResult result (λ w. (w.bits ≡ width) × (weigh_number width rule word ≡ 0)) (λ n. (n ≡ weigh_number width rule word) × (n ≡ 0 → ⊥)) }
 {
     if width < 1 || Width::LIMIT < width {
-        return 2;
+        return Err(2);
     }
     let bits = Width { bits: width };
     let number = rule::accept::refusal_of(rule, bits);
     if number != 0 {
-        return number;
+        return Err(number);
     }
-    if bits.top() < word { 5 } else { 0 }
+    if bits.top() < word { Err(5) } else { Ok(bits) }
 }
