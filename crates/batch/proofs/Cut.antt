@@ -1,18 +1,16 @@
 -- The batch of the rules that are read is the batch of the whole list: an accepted add leaves one rule more on the page, so that the rule
 -- after as many as a sheet takes is refused at the latest, and the rules past it change nothing. Assumes nothing.
 use mathlib.Core.Path.{◌≡◌, refl, sym, ap, ◌∙◌, subst}
-use mathlib.Core.List.{List, [], ◌∷◌, ◌++◌}
+use mathlib.Core.List.{List, [], ◌∷◌}
 use Prim.Native.Nat.{ℕ, zero, suc, ◌+◌, ◌≤◌, ◌<◌}
 use native.Mathlib.Decide.{dec_lt, ℕ_discrete}
-use native.Mathlib.Numerals.{add-one}
 use native.Mathlib.Omega.{arith}
 use borrow.Author.Tests.{eq-eqb, le-ltb, lt-ltb, ne_eqb}
-use lib.ListN.{get_or, length, length-append, set, take}
-use lib.Seq.{take_all, take-suc, take-suc-set}
+use lib.ListN.{length, length-append, take}
+use lib.Seq.{take_all}
 use Rattle.word.specs.declared.Edition.{Edition}
 use Rattle.rule.specs.declared.Rule.{Rule}
 use Rattle.rule.specs.Meaning.{RULES}
-use Rattle.rule.specs.accept.Accept.{no_rule}
 use Rattle.page.specs.Calls.{add, changed, open_at, refusal, written}
 use Rattle.page.specs.declared.Opening.{Opening}
 use Rattle.page.specs.Page.{OpenPage, a_rule, new_page, no_page, page, rules_on, with_entries}
@@ -70,13 +68,6 @@ module _ (g : Opening) (us : List Rule) (m : ℕ) where
       go : Dec (MOST < n) → batch_at g (take (few n) us) n m ≡ batch g us m
       go (yes l) = rw (lt-ltb MOST n l) (first_read l)
       go (no l) = rw (le-ltb MOST n (omega arith)) (all_read (omega arith))
-
--- a rule more
-pub one_more : (us list : List Rule) (i : ℕ) → i < length us → i < length list → take i list ≡ take i us
-    → take (i + 1) (set list i (get_or us i no_rule)) ≡ take (i + 1) us
-one_more us list i h p e =
-    let u : Rule = get_or us i no_rule in
-    rw (add-one i) (take-suc-set list i u p ∙ ap (λ (l : List Rule). l ++ u ∷ []) e ∙ sym (take-suc us i no_rule h))
 
 -- what the batch of the rules that are read gives, the batch gives
 pub read_so : (g : Opening) (us list : List Rule) {b b' : List ℕ} {r : Batch} → take (few (length us)) list ≡ take (few (length us)) us

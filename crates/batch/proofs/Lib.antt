@@ -1,4 +1,5 @@
 pub mod Cut
+pub mod Few
 pub mod OneByOne
 pub mod Place
 pub mod There

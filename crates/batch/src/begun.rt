@@ -1,42 +1,36 @@
 // A batch on its slate before it is asked: the blank sheet is laid out, opened and given each rule in order, up to the first refusal.
 
-ghost use Rattle.std.specs.Prelude.{take};
+ghost use Rattle.std.specs.Prelude.{MatchResult};
 ghost use Rattle.sheet.specs.slate.route.Held.{Held, Room};
 ghost use Rattle.sheet.specs.route.Held.{packed};
-ghost use Rattle.batch.specs.adds.route.Few.{few};
-ghost use Rattle.batch.specs.begun.route.Begun.{Begun};
+ghost use Rattle.batch.specs.begun.route.Begun.{Begun, StoppedAt};
 
-pub use crate::adds::Course;
-use crate::adds::{add_all, few};
+use crate::adds::{Stop, add_all};
 use page::Opening;
 use rule::Rule;
 use search::rows::NUMBERS;
-use sheet::{Sheet, laid};
+use sheet::{Head, Sheet, laid};
 
-// Opens the blank sheet and adds the rules that are read, up to the first refusal. A refused opening is said at how many rules were given.
+/// Opens the blank sheet and adds the rules, up to the first refusal. A refused opening is said at how many rules were given.
 pub fn begin(
     opening: Opening,
-    rules: [Rule; Course::MOST],
+    rules: &[Rule],
     given: usize,
     rows: &mut [[u64; NUMBERS]; Rule::LIMIT],
     marks: &mut [usize; Sheet::MARKS],
-) -> Course
+) -> Result<Head, Stop>
     requires { Room rows.old marks.old }
-    ensures begun { Begun opening (take (few given) rules) given (packed result.head rows.new marks.new) result.number result.place }
-    ensures held { Held result.head rows.new marks.new }
+    ensures { MatchResult result (λ h. Held h rows.new marks.new × Begun opening rules.now (packed h rows.new marks.new)) (λ s. StoppedAt opening rules.now given s.number s.place) }
 {
-    let count = few(given);
-    let head = laid::lay_out(Sheet::blank(), &mut *rows, &mut *marks);
-    let said = laid::open(head, &mut *rows, &mut *marks, opening);
+    let head = laid::lay_out(Sheet::blank(), rows, marks);
+    let said = laid::open(head, rows, marks, opening);
     let number = said.number;
-    let head = said.head;
     let is_refused = number != 0;
     if is_refused {
-        return Course {
+        return Err(Stop {
             number,
-            head,
             place: given,
-        };
+        });
     }
-    add_all(head, &mut *rows, &mut *marks, rules, count)
+    add_all(said.head, rows, marks, rules)
 }

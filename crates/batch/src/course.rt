@@ -1,17 +1,18 @@
 // A batch on its slate: a sheet is opened there, given each rule in order, and asked. What the batch call answers is said here.
 
-ghost use Rattle.std.specs.Prelude.{◌≡◌, length, take};
+ghost use Rattle.std.specs.Prelude.{length, take};
 ghost use Rattle.batch.specs.adds.route.Few.{few};
-ghost use Rattle.batch.specs.course.Batch.{Gives, batches};
+ghost use Rattle.batch.specs.course.Batch.{Gives};
 ghost use Rattle.batch.specs.course.route.Route.{batch_at};
 
-use crate::begun::{Course, begin};
+use crate::adds::few;
+use crate::begun::begin;
 use page::Opening;
 use rule::Rule;
 use search::rows::NUMBERS;
 use sheet::{Reply, Sheet, laid};
 
-// What a batch answers: what the last call answered, and the place of the rule that was refused, or the list's length.
+/// What a batch answers: what the last call answered, and the place of the rule that was refused, or the list's length.
 #[derive(Clone, Copy)]
 pub struct Batch {
     pub reply: Reply,
@@ -19,12 +20,12 @@ pub struct Batch {
 }
 
 impl Batch {
-    // One rule more than a sheet takes.
-    pub const MOST: usize = Course::MOST;
+    /// One rule more than a sheet takes.
+    pub const MOST: usize = Rule::LIMIT + 1;
 }
 
-// The batch call on a list of so many rules, of which an array has the first: all of them, or as many as are read. A refused opening is said
-// at the list's length.
+/// The batch call on a list of so many rules, of which an array has the first: all of them, or as many as are read. A refused opening
+/// is said at the list's length.
 pub fn beginning(
     opening: Opening,
     rules: [Rule; Batch::MOST],
@@ -33,23 +34,24 @@ pub fn beginning(
 ) -> Batch
     ensures { Gives (batch_at opening (take (few given) rules) given (length out.old)) out.old out.new result }
 {
-    let mut rows = [[0; NUMBERS]; Rule::LIMIT];
-    let mut marks: [usize; Sheet::MARKS] = [0; Sheet::MARKS];
-    let course = begin(opening, rules, given, &mut rows, &mut marks);
-    let stopped = course.number;
-    let head = course.head;
-    let place = course.place;
-    let is_refused = stopped != 0;
-    if is_refused {
-        return placed(sheet::refusal(stopped), place);
-    }
-    let reply = laid::ask(head, &rows, &mut *out);
-    placed(reply, place)
+    let count = few(given);
+    answered(opening, &rules[..count], given, out)
 }
 
-// What a batch answers, with the place beside it.
-fn placed(reply: Reply, place: usize) -> Batch
-    ensures { result ≡ batches reply place }
+/// The batch of the rules that are lent, where so many were given: a refused opening is said there.
+pub fn answered(opening: Opening, rules: &[Rule], given: usize, out: &mut [u64]) -> Batch
+    ensures { Gives (batch_at opening rules.now given (length out.old)) out.old out.new result }
 {
-    Batch { reply, place }
+    let mut rows = [[0; NUMBERS]; Rule::LIMIT];
+    let mut marks: [usize; Sheet::MARKS] = [0; Sheet::MARKS];
+    match begin(opening, rules, given, &mut rows, &mut marks) {
+        Ok(head) => Batch {
+            reply: laid::ask(head, &rows, out),
+            place: rules.len(),
+        },
+        Err(stop) => Batch {
+            reply: sheet::refusal(stop.number),
+            place: stop.place,
+        },
+    }
 }

@@ -4,15 +4,14 @@ ghost use Rattle.std.specs.Prelude.{take};
 ghost use Rattle.batch.specs.course.Batch.{Batched};
 
 use crate::adds::few;
-use crate::course::Batch;
+use crate::course::{Batch, answered};
 use page::Opening;
 use rule::Rule;
 
-// The batch call on the first rules of an array. A caller of `run` lends a list of records, and has to be proved by hand; a
-// caller of this has not. A count above the array's length is that length.
+/// The batch call on the first rules of an array. A count above the array's length is that length.
 pub fn first(opening: Opening, rules: [Rule; Batch::MOST], count: usize, out: &mut [u64]) -> Batch
     ensures { Batched opening (take count rules) out.old out.new result }
 {
     let given = few(count);
-    crate::course::beginning(opening, rules, given, &mut *out)
+    answered(opening, &rules[..given], given, out)
 }

@@ -9,7 +9,7 @@ ghost use Rattle.outside.specs.vetting.Vetted.{Vetted};
 
 use outside::handing::NUMBERS;
 
-// Whether a word meets a rule.
+/// Whether a word meets a rule.
 pub fn branchmetal_meets(width: u64, rule: &[u64; NUMBERS], word: u64, meets: &mut u64) -> u64
     ensures value { result ≡ weigh_number width (rule_in rule.now) word }
     ensures meets_after { meets.new ≡ weighed width (rule_in rule.now) word }
@@ -17,7 +17,7 @@ pub fn branchmetal_meets(width: u64, rule: &[u64; NUMBERS], word: u64, meets: &m
     outside::on_rules::meets(width, rule, word, meets)
 }
 
-// Vets a list: the batch call.
+/// Vets a list: the batch call.
 pub fn branchmetal_vet(
     width: u64,
     edition: u64,
@@ -30,7 +30,7 @@ pub fn branchmetal_vet(
     outside::vetting::vet(width, edition, rules, links, answer)
 }
 
-// Checks a chain of any maker against a list.
+/// Checks a chain of any maker against a list.
 pub fn branchmetal_check(
     width: u64,
     edition: u64,
@@ -44,7 +44,7 @@ pub fn branchmetal_check(
     outside::on_lists::check(width, edition, rules, links, answer)
 }
 
-// Counts the words that fit a list.
+/// Counts the words that fit a list.
 pub fn branchmetal_count(
     width: u64,
     edition: u64,
@@ -57,7 +57,7 @@ pub fn branchmetal_count(
     outside::on_counts::count(width, edition, rules, answer)
 }
 
-// Lists the words that fit a list of rules, from a start on.
+/// Lists the words that fit a list of rules, from a start on.
 pub fn branchmetal_list(
     width: u64,
     edition: u64,

@@ -10,21 +10,21 @@ ghost use Rattle.keeping.specs.on_kept.Told.{Asked, Counted, Listed};
 
 use outside::handing::NUMBERS;
 
-// The blank sheet.
+/// The blank sheet.
 pub fn branchmetal_sheet_blank(sheet: &mut [u64; keeping::NUMBERS])
     ensures { sheet.new ≡ numbers_of blank }
 {
     keeping::on_sheets::blank(sheet)
 }
 
-// Opens a sheet.
+/// Opens a sheet.
 pub fn branchmetal_sheet_open(sheet: &mut [u64; keeping::NUMBERS], width: u64, edition: u64) -> u64
     ensures { Opened (opening_of width edition) sheet.old sheet.new result }
 {
     keeping::on_sheets::open(sheet, width, edition)
 }
 
-// Adds a rule.
+/// Adds a rule.
 pub fn branchmetal_sheet_add(
     sheet: &mut [u64; keeping::NUMBERS],
     edition: u64,
@@ -35,28 +35,28 @@ pub fn branchmetal_sheet_add(
     keeping::on_sheets::add(sheet, edition, rule)
 }
 
-// Sets a mark.
+/// Sets a mark.
 pub fn branchmetal_sheet_mark(sheet: &mut [u64; keeping::NUMBERS]) -> u64
     ensures { Changed mark sheet.old sheet.new result }
 {
     keeping::on_sheets::mark(sheet)
 }
 
-// Goes back to the newest mark.
+/// Goes back to the newest mark.
 pub fn branchmetal_sheet_back(sheet: &mut [u64; keeping::NUMBERS]) -> u64
     ensures { Changed back sheet.old sheet.new result }
 {
     keeping::on_sheets::back(sheet)
 }
 
-// Brings back what was most recently taken back.
+/// Brings back what was most recently taken back.
 pub fn branchmetal_sheet_forward(sheet: &mut [u64; keeping::NUMBERS]) -> u64
     ensures { Changed forward sheet.old sheet.new result }
 {
     keeping::on_sheets::forward(sheet)
 }
 
-// Sets a gate.
+/// Sets a gate.
 pub fn branchmetal_sheet_gate(
     sheet: &mut [u64; keeping::NUMBERS],
     kind: u64,
@@ -68,7 +68,7 @@ pub fn branchmetal_sheet_gate(
     keeping::on_sheets::gate(sheet, kind, low, high)
 }
 
-// Asks.
+/// Asks.
 pub fn branchmetal_sheet_ask(
     sheet: &[u64; keeping::NUMBERS],
     links: &mut [u64],
@@ -79,14 +79,14 @@ pub fn branchmetal_sheet_ask(
     keeping::on_kept::ask(sheet, links, answer)
 }
 
-// Counts the words that fit.
+/// Counts the words that fit.
 pub fn branchmetal_sheet_count(sheet: &[u64; keeping::NUMBERS], answer: &mut [u64; 2]) -> u64
     ensures { Counted sheet.now answer.new result }
 {
     keeping::on_kept::count(sheet, answer)
 }
 
-// Lists the words that fit, from a start on.
+/// Lists the words that fit, from a start on.
 pub fn branchmetal_sheet_list(
     sheet: &[u64; keeping::NUMBERS],
     start: u64,

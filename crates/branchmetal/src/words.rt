@@ -9,7 +9,7 @@ ghost use Rattle.outside.specs.on_nets.Nets.{Ran};
 use gate::Gate;
 use outside::handing::NUMBERS;
 
-// Writes the four rules of a gate.
+/// Writes the four rules of a gate.
 pub fn branchmetal_gate_rules(
     kind: u64,
     low: u32,
@@ -22,7 +22,7 @@ pub fn branchmetal_gate_rules(
     outside::on_words::gate_rules(kind, low, high, rules)
 }
 
-// Cuts the intervals of three words by what each says of the others.
+/// Cuts the intervals of three words by what each says of the others.
 pub fn branchmetal_join(width: u64, op: u64, words: &mut [[u64; 2]; 3], empty: &mut u64) -> u64
     ensures value { result ≡ (join_in width op words.old).number }
     ensures words_after { words.new ≡ join_rows (join_in width op words.old) }
@@ -31,7 +31,7 @@ pub fn branchmetal_join(width: u64, op: u64, words: &mut [[u64; 2]; 3], empty: &
     outside::on_words::join(width, op, words, empty)
 }
 
-// Cuts the intervals of a net of words by its joins, for as many steps as are paid for.
+/// Cuts the intervals of a net of words by its joins, for as many steps as are paid for.
 pub fn branchmetal_net(
     width: u64,
     words: &mut [[u64; 2]],

@@ -1,15 +1,15 @@
 // The calls without a sheet to keep.
 ghost use Rattle.std.specs.Prelude.{◌≡◌};
-ghost use Rattle.handing.specs.Handed.{opening_of, rule_in, rules_in, weigh_number, weighed};
-ghost use Rattle.making.specs.Made.{makes};
-ghost use Rattle.on_lists.specs.Lists.{check_numbers};
-ghost use Rattle.on_counts.specs.Counts.{count_numbers, share_in};
-ghost use Rattle.on_listings.specs.Listings.{ListedIn};
-ghost use Rattle.vetting.specs.Vetted.{Vetted};
+ghost use Rattle.outside.specs.handing.Handed.{opening_of, rule_in, rules_in, weigh_number, weighed};
+ghost use Rattle.outside.specs.making.Made.{makes};
+ghost use Rattle.outside.specs.on_lists.Lists.{check_numbers};
+ghost use Rattle.outside.specs.on_counts.Counts.{count_numbers, share_in};
+ghost use Rattle.outside.specs.on_listings.Listings.{ListedIn};
+ghost use Rattle.outside.specs.vetting.Vetted.{Vetted};
 
-use handing::NUMBERS;
+use outside::handing::NUMBERS;
 
-// Whether a word meets a rule.
+/// Whether a word meets a rule.
 #[unsafe(no_mangle)]
 pub extern "C" fn branchmetal_meets(
     width: u64,
@@ -23,7 +23,7 @@ pub extern "C" fn branchmetal_meets(
     branchmetal::lists::branchmetal_meets(width, rule, word, meets)
 }
 
-// Vets a list: the batch call.
+/// Vets a list: the batch call.
 #[unsafe(no_mangle)]
 pub extern "C" fn branchmetal_vet(
     width: u64,
@@ -37,7 +37,7 @@ pub extern "C" fn branchmetal_vet(
     branchmetal::lists::branchmetal_vet(width, edition, rules, links, answer)
 }
 
-// Checks a chain of any maker against a list.
+/// Checks a chain of any maker against a list.
 #[unsafe(no_mangle)]
 pub extern "C" fn branchmetal_check(
     width: u64,
@@ -52,7 +52,7 @@ pub extern "C" fn branchmetal_check(
     branchmetal::lists::branchmetal_check(width, edition, rules, links, answer)
 }
 
-// Counts the words that fit a list.
+/// Counts the words that fit a list.
 #[unsafe(no_mangle)]
 pub extern "C" fn branchmetal_count(
     width: u64,
@@ -66,7 +66,7 @@ pub extern "C" fn branchmetal_count(
     branchmetal::lists::branchmetal_count(width, edition, rules, answer)
 }
 
-// Lists the words that fit a list of rules, from a start on.
+/// Lists the words that fit a list of rules, from a start on.
 #[unsafe(no_mangle)]
 pub extern "C" fn branchmetal_list(
     width: u64,

@@ -2,15 +2,15 @@
 ghost use Rattle.std.specs.Prelude.{◌≡◌};
 ghost use Rattle.page.specs.Calls.{add, back, forward, mark, set_gate};
 ghost use Rattle.sheet.specs.Record.{blank};
-ghost use Rattle.handing.specs.Handed.{edition_of, opening_of, rule_in};
-ghost use Rattle.on_words.specs.Gates.{gate_of};
-ghost use Rattle.kept_numbers.specs.Numbers.{numbers_of};
-ghost use Rattle.kept_changes.specs.Changed.{Changed, Opened};
-ghost use Rattle.on_kept.specs.Told.{Asked, Counted, Listed};
+ghost use Rattle.outside.specs.handing.Handed.{edition_of, opening_of, rule_in};
+ghost use Rattle.outside.specs.on_words.Gates.{gate_of};
+ghost use Rattle.keeping.specs.kept_numbers.Numbers.{numbers_of};
+ghost use Rattle.keeping.specs.kept_changes.Changed.{Changed, Opened};
+ghost use Rattle.keeping.specs.on_kept.Told.{Asked, Counted, Listed};
 
-use handing::NUMBERS;
+use outside::handing::NUMBERS;
 
-// The blank sheet.
+/// The blank sheet.
 #[unsafe(no_mangle)]
 pub extern "C" fn branchmetal_sheet_blank(sheet: &mut [u64; keeping::NUMBERS])
     ensures { sheet.new ≡ numbers_of blank }
@@ -18,7 +18,7 @@ pub extern "C" fn branchmetal_sheet_blank(sheet: &mut [u64; keeping::NUMBERS])
     branchmetal::sheets::branchmetal_sheet_blank(sheet)
 }
 
-// Opens a sheet.
+/// Opens a sheet.
 #[unsafe(no_mangle)]
 pub extern "C" fn branchmetal_sheet_open(
     sheet: &mut [u64; keeping::NUMBERS],
@@ -30,7 +30,7 @@ pub extern "C" fn branchmetal_sheet_open(
     branchmetal::sheets::branchmetal_sheet_open(sheet, width, edition)
 }
 
-// Adds a rule.
+/// Adds a rule.
 #[unsafe(no_mangle)]
 pub extern "C" fn branchmetal_sheet_add(
     sheet: &mut [u64; keeping::NUMBERS],
@@ -42,7 +42,7 @@ pub extern "C" fn branchmetal_sheet_add(
     branchmetal::sheets::branchmetal_sheet_add(sheet, edition, rule)
 }
 
-// Sets a mark.
+/// Sets a mark.
 #[unsafe(no_mangle)]
 pub extern "C" fn branchmetal_sheet_mark(sheet: &mut [u64; keeping::NUMBERS]) -> u64
     ensures { Changed mark sheet.old sheet.new result }
@@ -50,7 +50,7 @@ pub extern "C" fn branchmetal_sheet_mark(sheet: &mut [u64; keeping::NUMBERS]) ->
     branchmetal::sheets::branchmetal_sheet_mark(sheet)
 }
 
-// Goes back to the newest mark.
+/// Goes back to the newest mark.
 #[unsafe(no_mangle)]
 pub extern "C" fn branchmetal_sheet_back(sheet: &mut [u64; keeping::NUMBERS]) -> u64
     ensures { Changed back sheet.old sheet.new result }
@@ -58,7 +58,7 @@ pub extern "C" fn branchmetal_sheet_back(sheet: &mut [u64; keeping::NUMBERS]) ->
     branchmetal::sheets::branchmetal_sheet_back(sheet)
 }
 
-// Brings back what was most recently taken back.
+/// Brings back what was most recently taken back.
 #[unsafe(no_mangle)]
 pub extern "C" fn branchmetal_sheet_forward(sheet: &mut [u64; keeping::NUMBERS]) -> u64
     ensures { Changed forward sheet.old sheet.new result }
@@ -66,7 +66,7 @@ pub extern "C" fn branchmetal_sheet_forward(sheet: &mut [u64; keeping::NUMBERS])
     branchmetal::sheets::branchmetal_sheet_forward(sheet)
 }
 
-// Sets a gate.
+/// Sets a gate.
 #[unsafe(no_mangle)]
 pub extern "C" fn branchmetal_sheet_gate(
     sheet: &mut [u64; keeping::NUMBERS],
@@ -79,7 +79,7 @@ pub extern "C" fn branchmetal_sheet_gate(
     branchmetal::sheets::branchmetal_sheet_gate(sheet, kind, low, high)
 }
 
-// Asks.
+/// Asks.
 #[unsafe(no_mangle)]
 pub extern "C" fn branchmetal_sheet_ask(
     sheet: &[u64; keeping::NUMBERS],
@@ -91,7 +91,7 @@ pub extern "C" fn branchmetal_sheet_ask(
     branchmetal::sheets::branchmetal_sheet_ask(sheet, links, answer)
 }
 
-// Counts the words that fit.
+/// Counts the words that fit.
 #[unsafe(no_mangle)]
 pub extern "C" fn branchmetal_sheet_count(
     sheet: &[u64; keeping::NUMBERS],
@@ -102,7 +102,7 @@ pub extern "C" fn branchmetal_sheet_count(
     branchmetal::sheets::branchmetal_sheet_count(sheet, answer)
 }
 
-// Lists the words that fit, from a start on.
+/// Lists the words that fit, from a start on.
 #[unsafe(no_mangle)]
 pub extern "C" fn branchmetal_sheet_list(
     sheet: &[u64; keeping::NUMBERS],

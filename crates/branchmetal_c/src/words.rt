@@ -1,15 +1,15 @@
 // The rules of a gate, joins of words, and nets of them.
 ghost use Rattle.std.specs.Prelude.{◌≡◌};
 ghost use Rattle.gate.specs.Gate.{turned};
-ghost use Rattle.handing.specs.Handed.{number_of};
-ghost use Rattle.on_words.specs.Gates.{gate_number, gate_of, gate_rows};
-ghost use Rattle.on_words.specs.Joins.{join_in, join_rows};
-ghost use Rattle.on_nets.specs.Nets.{Ran};
+ghost use Rattle.outside.specs.handing.Handed.{number_of};
+ghost use Rattle.outside.specs.on_words.Gates.{gate_number, gate_of, gate_rows};
+ghost use Rattle.outside.specs.on_words.Joins.{join_in, join_rows};
+ghost use Rattle.outside.specs.on_nets.Nets.{Ran};
 
 use gate::Gate;
-use handing::NUMBERS;
+use outside::handing::NUMBERS;
 
-// Writes the four rules of a gate.
+/// Writes the four rules of a gate.
 #[unsafe(no_mangle)]
 pub extern "C" fn branchmetal_gate_rules(
     kind: u64,
@@ -23,7 +23,7 @@ pub extern "C" fn branchmetal_gate_rules(
     branchmetal::words::branchmetal_gate_rules(kind, low, high, rules)
 }
 
-// Cuts the intervals of three words by what each says of the others.
+/// Cuts the intervals of three words by what each says of the others.
 #[unsafe(no_mangle)]
 pub extern "C" fn branchmetal_join(
     width: u64,
@@ -38,7 +38,7 @@ pub extern "C" fn branchmetal_join(
     branchmetal::words::branchmetal_join(width, op, words, empty)
 }
 
-// Cuts the intervals of a net of words by its joins, for as many steps as are paid for.
+/// Cuts the intervals of a net of words by its joins, for as many steps as are paid for.
 #[unsafe(no_mangle)]
 pub extern "C" fn branchmetal_net(
     width: u64,

@@ -8,38 +8,34 @@ ghost use Rattle.sheet.specs.Record.{blank};
 ghost use Rattle.keeping.specs.kept_numbers.Numbers.{numbers_of};
 ghost use Rattle.keeping.specs.kept_changes.Changed.{Changed};
 
+use crate::kept_put::written;
+use crate::{keep, read};
 use sheet::Sheet;
 
-// The blank sheet.
+/// The blank sheet.
 pub fn blank(numbers: &mut [u64; crate::NUMBERS])
     ensures { numbers.new ≡ numbers_of blank }
 {
-    *numbers = crate::kept_put::written(Sheet::blank());
+    *numbers = written(Sheet::blank());
 }
 
-// Sets a mark.
+/// Sets a mark.
 pub fn mark(numbers: &mut [u64; crate::NUMBERS]) -> u64
     ensures { Changed mark numbers.old numbers.new result }
 {
-    let given = *numbers;
-    let answer = crate::read(given).mark();
-    crate::keep(&mut *numbers, answer)
+    keep(numbers, read(*numbers).mark())
 }
 
-// Goes back to the newest mark.
+/// Goes back to the newest mark.
 pub fn back(numbers: &mut [u64; crate::NUMBERS]) -> u64
     ensures { Changed back numbers.old numbers.new result }
 {
-    let given = *numbers;
-    let answer = crate::read(given).back();
-    crate::keep(&mut *numbers, answer)
+    keep(numbers, read(*numbers).back())
 }
 
-// Brings back what was most recently taken back.
+/// Brings back what was most recently taken back.
 pub fn forward(numbers: &mut [u64; crate::NUMBERS]) -> u64
     ensures { Changed forward numbers.old numbers.new result }
 {
-    let given = *numbers;
-    let answer = crate::read(given).forward();
-    crate::keep(&mut *numbers, answer)
+    keep(numbers, read(*numbers).forward())
 }

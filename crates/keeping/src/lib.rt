@@ -4,10 +4,10 @@
 
 pub mod bare_calls;
 pub mod kept_changes;
-pub mod kept_head;
+mod kept_head;
 pub mod kept_numbers;
 pub mod kept_put;
-pub mod kept_read;
+mod kept_read;
 pub mod on_kept;
 pub mod on_sheets;
 
@@ -15,48 +15,45 @@ ghost use Rattle.std.specs.Prelude.{◌≡◌, cond, eqb, length};
 ghost use Rattle.keeping.specs.kept_numbers.Numbers.{NUMBERS, numbers_of};
 ghost use Rattle.keeping.specs.kept_numbers.route.Reading.{sheet_in};
 
+use crate::kept_head::opening_in;
+use crate::kept_put::written;
+use crate::kept_read::{marks_in, rules_in};
 use search::verdict::Kept;
 use sheet::{Answer, Sheet};
 
 pub const NUMBERS: usize = crate::kept_numbers::NUMBERS;
 
-// The record that the numbers are. They come by value, so that there are as many.
+/// The record that the numbers are. They come by value, so that there are as many.
 pub fn read(numbers: [u64; NUMBERS]) -> Sheet
     ensures value { result ≡ sheet_in numbers }
     ensures numbers_len { length numbers ≡ NUMBERS }
 {
-    let rules = crate::kept_read::rules_in(&numbers);
-    let marks = crate::kept_read::marks_in(&numbers);
-    let opening = crate::kept_head::opening_in(numbers[0], numbers[1]);
-    let edition = opening.edition;
-    let kept = Kept {
-        verdict: numbers[6],
-        smallest: numbers[7],
-        largest: numbers[8],
-    };
+    let opening = opening_in(numbers[0], numbers[1]);
     Sheet {
         width: opening.width,
-        rules,
+        rules: rules_in(&numbers),
         count: numbers[2] as usize,
-        marks,
+        marks: marks_in(&numbers),
         marked: numbers[3] as usize,
-        kept,
+        kept: Kept {
+            verdict: numbers[6],
+            smallest: numbers[7],
+            largest: numbers[8],
+        },
         given: numbers[4] as usize,
         waiting: numbers[5] as usize,
-        edition,
+        edition: opening.edition,
     }
 }
 
-// Writes the sheet of an answer down where the call was accepted, and answers its number.
+/// Writes the sheet of an answer down where the call was accepted, and answers its number.
 #[tactic(auto, using(crate::proofs::SearchKeep::wanted))]
 pub fn keep(numbers: &mut [u64; NUMBERS], answer: Answer) -> u64
     ensures value { result ≡ answer.number }
     ensures numbers_after { numbers.new ≡ cond (eqb answer.number 0) (numbers_of answer.sheet) numbers.old }
 {
-    if answer.number != 0 {
-        return answer.number;
+    if answer.number == 0 {
+        *numbers = written(answer.sheet);
     }
-    let sheet = answer.sheet;
-    *numbers = crate::kept_put::written(sheet);
-    0
+    answer.number
 }

@@ -3,12 +3,13 @@
 
 ghost use Rattle.keeping.specs.on_kept.Told.{Asked, Counted, Listed};
 
-// Says what is kept and, for "none", writes the chain.
+use crate::read;
+
+/// Says what is kept and, for "none", writes the chain.
 pub fn ask(numbers: &[u64; crate::NUMBERS], links: &mut [u64], answer: &mut [u64; 4]) -> u64
     ensures { Asked numbers.now links.old links.new answer.new result }
 {
-    let given = *numbers;
-    let reply = crate::read(given).ask(&mut *links);
+    let reply = read(*numbers).ask(links);
     let kept = reply.kept;
     *answer = [
         kept.verdict,
@@ -19,18 +20,16 @@ pub fn ask(numbers: &[u64; crate::NUMBERS], links: &mut [u64], answer: &mut [u64
     reply.number
 }
 
-// Counts the words that fit the sheet.
+/// Counts the words that fit the sheet.
 pub fn count(numbers: &[u64; crate::NUMBERS], answer: &mut [u64; 2]) -> u64
     ensures { Counted numbers.now answer.new result }
 {
-    let given = *numbers;
-    let sheet = crate::read(given);
-    let share = counting::count(sheet);
+    let share = counting::count(read(*numbers));
     *answer = [share.quotient, share.remainder];
     share.number
 }
 
-// Lists the words that fit the sheet, from a start on.
+/// Lists the words that fit the sheet, from a start on.
 pub fn list(
     numbers: &[u64; crate::NUMBERS],
     start: u64,
@@ -39,9 +38,7 @@ pub fn list(
 ) -> u64
     ensures { Listed numbers.now start words.old words.new written.new result }
 {
-    let given = *numbers;
-    let sheet = crate::read(given);
-    let listing = listing::list(sheet, start, &mut *words);
+    let listing = listing::list(read(*numbers), start, words);
     *written = listing.written as u64;
     listing.number
 }

@@ -8,33 +8,30 @@ ghost use Rattle.outside.specs.on_words.Gates.{gate_of};
 ghost use Rattle.keeping.specs.kept_changes.Changed.{Changed, Opened};
 
 pub use crate::bare_calls::{back, blank, forward, mark};
-use outside::handing::NUMBERS;
+use crate::{keep, read};
+use outside::handing::{NUMBERS, edition_of, opening, rule_in};
+use outside::on_words::gate_of;
 use sheet::Sheet;
 
-// Opens a sheet. The old numbers are not read.
+/// Opens a sheet. The old numbers are not read.
 pub fn open(numbers: &mut [u64; crate::NUMBERS], width: u64, edition: u64) -> u64
     ensures { Opened (opening_of width edition) numbers.old numbers.new result }
 {
-    let answer = Sheet::blank().open(outside::handing::opening(width, edition));
-    crate::keep(&mut *numbers, answer)
+    keep(numbers, Sheet::blank().open(opening(width, edition)))
 }
 
-// Adds a rule, of an edition.
+/// Adds a rule, of an edition.
 pub fn add(numbers: &mut [u64; crate::NUMBERS], edition: u64, rule: &[u64; NUMBERS]) -> u64
     ensures { Changed (add (edition_of edition) (rule_in rule.now)) numbers.old numbers.new result }
 {
-    let asked = outside::handing::rule_in(rule);
-    let given = *numbers;
-    let answer = crate::read(given).add(outside::handing::edition_of(edition), asked);
-    crate::keep(&mut *numbers, answer)
+    let answer = read(*numbers).add(edition_of(edition), rule_in(rule));
+    keep(numbers, answer)
 }
 
-// Sets a gate, from the bits of its limits.
+/// Sets a gate, from the bits of its limits.
 pub fn gate(numbers: &mut [u64; crate::NUMBERS], kind: u64, low: u32, high: u32) -> u64
     ensures { Changed (set_gate (gate_of kind low high)) numbers.old numbers.new result }
 {
-    let given = *numbers;
-    let sheet = crate::read(given);
-    let answer = gating::set(sheet, outside::on_words::gate_of(kind, low, high));
-    crate::keep(&mut *numbers, answer)
+    let answer = gating::set(read(*numbers), gate_of(kind, low, high));
+    keep(numbers, answer)
 }

@@ -1,16 +1,16 @@
 // What a caller outside hands in, as numbers: rules, four numbers each, and the numbers of editions.
 
-ghost use Rattle.std.specs.Prelude.{◌≡◌, [], ◌<◌, get_or, length};
+ghost use Rattle.std.specs.Prelude.{◌≡◌, MatchResult};
 ghost use Rattle.outside.specs.handing.Handed.{edition_of, opening_of, rule_in, weigh_number};
 
 use page::Opening;
 use rule::Rule;
 use word::{Edition, Width};
 
-// Form, sense and two constants are a rule.
+/// Form, sense and two constants are a rule.
 pub const NUMBERS: usize = 4;
 
-// The rule that four numbers are.
+/// The rule that four numbers are.
 pub fn rule_in(numbers: &[u64; NUMBERS]) -> Rule
     ensures { result ≡ rule_in numbers.now }
 {
@@ -22,57 +22,37 @@ pub fn rule_in(numbers: &[u64; NUMBERS]) -> Rule
     }
 }
 
-// The rule at a place of a list.
-pub fn rule_at(rules: &[[u64; NUMBERS]], i: usize) -> Rule
-    requires { i < length rules.now }
-    ensures { result ≡ rule_in (get_or rules.now i []) }
-{
-    Rule {
-        form: rules[i][0],
-        sense: rules[i][1],
-        c1: rules[i][2],
-        c2: rules[i][3],
-    }
-}
-
-// The edition of a number.
+/// The edition of a number.
 pub fn edition_of(number: u64) -> Edition
     ensures { result ≡ edition_of number }
 {
-    if number == 0 {
-        return Edition::Old;
+    match number {
+        0 => Edition::Old,
+        _ => Edition::New,
     }
-    Edition::New
 }
 
-// What a caller opens a sheet with: a width, and the number of an edition.
+/// What a caller opens a sheet with: a width, and the number of an edition.
 pub fn opening(width: u64, edition: u64) -> Opening
     ensures { result ≡ opening_of width edition }
 {
-    let named = edition_of(edition);
     Opening {
         width,
-        edition: named,
+        edition: edition_of(edition),
     }
 }
 
-// The number with which a rule and a word at a width are refused, or 0.
-pub fn refusal_of(width: u64, rule: Rule, word: u64) -> u64
-    ensures { result ≡ weigh_number width rule word }
+/// The width at which a word is held to a rule, or the number with which they are refused.
+pub fn weighable(width: u64, rule: Rule, word: u64) -> Result<Width, u64>
+    ensures { MatchResult result (λ w. (w.bits ≡ width) × (weigh_number width rule word ≡ 0)) (λ n. (n ≡ weigh_number width rule word) × (n ≡ 0 → ⊥)) }
 {
-    if width < 1 {
-        return 2;
-    }
-    if Width::LIMIT < width {
-        return 2;
+    if width < 1 || Width::LIMIT < width {
+        return Err(2);
     }
     let bits = Width { bits: width };
     let number = rule::accept::refusal_of(rule, bits);
     if number != 0 {
-        return number;
+        return Err(number);
     }
-    if word <= bits.top() {
-        return 0;
-    }
-    5
+    if bits.top() < word { Err(5) } else { Ok(bits) }
 }

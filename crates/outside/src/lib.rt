@@ -12,4 +12,5 @@ pub mod on_lists;
 pub mod on_nets;
 pub mod on_rules;
 pub mod on_words;
+pub mod over;
 pub mod vetting;

@@ -4,49 +4,38 @@ ghost use Rattle.std.specs.Prelude.{◌≡◌};
 ghost use Rattle.outside.specs.handing.Handed.{rules_in};
 ghost use Rattle.outside.specs.making.Made.{given, makes};
 
-use crate::handing::NUMBERS;
+use crate::handing::{NUMBERS, rule_in};
 use page::Opening;
 use sheet::Sheet;
 
-// The number of the first refusal or 0, the place of the rule that was refused or the list's length, and the sheet as it is then.
+/// The first refusal of a list: its number, and the place of the rule that was refused, or the list's length.
 #[derive(Clone, Copy)]
-pub struct Made {
+pub struct Refused {
     pub number: u64,
     pub place: usize,
-    pub sheet: Sheet,
 }
 
-// Opens a sheet and adds each rule in order. The adds are of the opening's edition.
-pub fn make(opening: Opening, rules: &[[u64; NUMBERS]]) -> Made
+/// Opens a sheet and adds each rule in order. The adds are of the opening's edition.
+pub fn make(opening: Opening, rules: &[[u64; NUMBERS]]) -> Result<Sheet, Refused>
     ensures { result ≡ given (makes opening (rules_in rules.now)) }
 {
     let opened = Sheet::blank().open(opening);
-    let mut sheet = opened.sheet;
     if opened.number != 0 {
-        return Made {
+        return Err(Refused {
             number: opened.number,
             place: rules.len(),
-            sheet,
-        };
+        });
     }
-    let mut place = 0;
-    while place < rules.len() {
-        let edition = opening.edition;
-        let answer = sheet.add(edition, crate::handing::rule_at(rules, place));
+    let mut sheet = opened.sheet;
+    for (place, row) in rules.iter().enumerate() {
+        let answer = sheet.add(opening.edition, rule_in(row));
         if answer.number != 0 {
-            return Made {
+            return Err(Refused {
                 number: answer.number,
                 place,
-                sheet,
-            };
+            });
         }
-        let next = answer.sheet;
-        sheet = next;
-        place += 1;
+        sheet = answer.sheet;
     }
-    Made {
-        number: 0,
-        place,
-        sheet,
-    }
+    Ok(sheet)
 }

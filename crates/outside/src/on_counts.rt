@@ -8,18 +8,20 @@ ghost use Rattle.outside.specs.on_counts.Counts.{count_numbers, share_in};
 use crate::handing::NUMBERS;
 use crate::list_made::made_of;
 
-// Counts the words that fit a list.
+/// Counts the words that fit a list.
 pub fn count(width: u64, edition: u64, rules: &[[u64; NUMBERS]], answer: &mut [u64; 3]) -> u64
     ensures value { result ≡ (share_in (makes (opening_of width edition) (rules_in rules.now))).number }
     ensures answer_after { answer.new ≡ count_numbers (makes (opening_of width edition) (rules_in rules.now)) }
 {
-    let made = made_of(width, edition, rules);
-    let place = made.place as u64;
-    if made.number != 0 {
-        *answer = [0, 0, place];
-        return made.number;
+    match made_of(width, edition, rules) {
+        Ok(sheet) => {
+            let share = counting::count(sheet);
+            *answer = [share.quotient, share.remainder, rules.len() as u64];
+            share.number
+        }
+        Err(refused) => {
+            *answer = [0, 0, refused.place as u64];
+            refused.number
+        }
     }
-    let share = counting::count(made.sheet);
-    *answer = [share.quotient, share.remainder, place];
-    share.number
 }

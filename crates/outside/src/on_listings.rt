@@ -8,7 +8,7 @@ ghost use Rattle.outside.specs.on_listings.Listings.{ListedIn};
 use crate::handing::NUMBERS;
 use crate::list_made::made_of;
 
-// Lists the words that fit a list of rules, from a start on.
+/// Lists the words that fit a list of rules, from a start on.
 pub fn list(
     width: u64,
     edition: u64,
@@ -19,14 +19,15 @@ pub fn list(
 ) -> u64
     ensures { ListedIn (makes (opening_of width edition) (rules_in rules.now)) start words.old words.new answer.new result }
 {
-    let made = made_of(width, edition, rules);
-    let place = made.place as u64;
-    if made.number != 0 {
-        *answer = [0, place];
-        return made.number;
+    match made_of(width, edition, rules) {
+        Ok(sheet) => {
+            let listing = listing::list(sheet, start, words);
+            *answer = [listing.written as u64, rules.len() as u64];
+            listing.number
+        }
+        Err(refused) => {
+            *answer = [0, refused.place as u64];
+            refused.number
+        }
     }
-    let listing = listing::list(made.sheet, start, &mut *words);
-    let written = listing.written as u64;
-    *answer = [written, place];
-    listing.number
 }

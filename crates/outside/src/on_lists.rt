@@ -8,7 +8,7 @@ ghost use Rattle.outside.specs.on_lists.Lists.{check_numbers};
 use crate::handing::NUMBERS;
 use crate::list_made::made_of;
 
-// Checks a chain of any maker against a list.
+/// Checks a chain of any maker against a list.
 pub fn check(
     width: u64,
     edition: u64,
@@ -19,13 +19,15 @@ pub fn check(
     ensures value { result ≡ (makes (opening_of width edition) (rules_in rules.now)).number }
     ensures answer_after { answer.new ≡ check_numbers (makes (opening_of width edition) (rules_in rules.now)) links.now }
 {
-    let made = made_of(width, edition, rules);
-    let place = made.place as u64;
-    if made.number != 0 {
-        *answer = [false as u64, place];
-        return made.number;
+    match made_of(width, edition, rules) {
+        Ok(sheet) => {
+            let yes = checker::accepts(sheet, links);
+            *answer = [yes as u64, rules.len() as u64];
+            0
+        }
+        Err(refused) => {
+            *answer = [false as u64, refused.place as u64];
+            refused.number
+        }
     }
-    let yes = checker::accepts(made.sheet, links) as u64;
-    *answer = [yes, place];
-    0
 }

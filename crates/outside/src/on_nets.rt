@@ -4,6 +4,8 @@ ghost use Rattle.std.specs.Prelude.{◌≡◌};
 ghost use Rattle.net.specs.Net.{number};
 ghost use Rattle.outside.specs.on_nets.Nets.{Ran, told};
 
+use crate::net_joins::joins_in;
+use crate::net_words::{put, words_in};
 use net::{Ended, Net};
 
 // What each way to end is told as; a refusal has its number, and 0 here.
@@ -13,7 +15,7 @@ const STEADY: u64 = 1;
 
 const SPENT: u64 = 2;
 
-// Cuts the intervals of a net, a row each, for as many steps as are paid for. A refusal leaves them as they came.
+/// Cuts the intervals of a net, a row each, for as many steps as are paid for. A refusal leaves them as they came.
 pub fn run(
     width: u64,
     words: &mut [[u64; 2]],
@@ -23,24 +25,20 @@ pub fn run(
 ) -> u64
     ensures { Ran width words.old joins.now pay words.new answer.new result }
 {
-    let intervals = crate::net_words::words_in(&*words);
-    let links = crate::net_joins::joins_in(joins);
     let net = Net {
         width,
-        words: intervals,
+        words: words_in(words),
         count: words.len(),
-        joins: links,
+        joins: joins_in(joins),
         joined: joins.len(),
     };
     let said = net.run(pay);
-    let left = said.words;
-    let ended = said.ended;
-    *answer = [told(ended), said.steps];
-    let number = refusal_of(ended);
+    *answer = [told(said.ended), said.steps];
+    let number = refusal_of(said.ended);
     if number != 0 {
         return number;
     }
-    crate::net_words::put(&mut *words, left);
+    put(words, said.words);
     0
 }
 

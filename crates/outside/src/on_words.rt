@@ -4,4 +4,4 @@ mod gates;
 mod joins;
 
 pub use gates::{gate_of, gate_rules};
-pub use joins::{join, op_of};
+pub use joins::{interval_in, join, op_of, row_of};

@@ -7,11 +7,12 @@ ghost use Rattle.batch.specs.course.Batch.{MOST};
 ghost use Rattle.outside.specs.handing.Handed.{opening_of, rules_in};
 ghost use Rattle.outside.specs.vetting.Vetted.{Vetted};
 
-use crate::handing::NUMBERS;
+use crate::handing::{NUMBERS, rule_in};
+use crate::over::lay_over;
 use batch::Batch;
 use rule::Rule;
 
-// Vets a list: the batch call.
+/// Vets a list: the batch call.
 pub fn vet(
     width: u64,
     edition: u64,
@@ -21,12 +22,11 @@ pub fn vet(
 ) -> u64
     ensures { Vetted (opening_of width edition) (rules_in rules.now) links.old links.new answer.new result }
 {
-    let first = first_rules(rules);
     let said = batch::beginning(
         crate::handing::opening(width, edition),
-        first,
+        first_rules(rules),
         rules.len(),
-        &mut *links,
+        links,
     );
     let reply = said.reply;
     let kept = reply.kept;
@@ -45,13 +45,6 @@ fn first_rules(rules: &[[u64; NUMBERS]]) -> [Rule; Batch::MOST]
     ensures { result ≡ padded MOST no_rule (take MOST (rules_in rules.now)) }
 {
     let mut first = [Rule::NONE; Batch::MOST];
-    let mut i = 0;
-    while i < Batch::MOST {
-        if rules.len() <= i {
-            return first;
-        }
-        first[i] = crate::handing::rule_at(rules, i);
-        i += 1;
-    }
+    lay_over(rules, &mut first, rule_in);
     first
 }

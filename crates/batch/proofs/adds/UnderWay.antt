@@ -2,11 +2,10 @@
 -- less to add, and a refused one is where they stop. Assumes nothing.
 use mathlib.Core.Path.{◌≡◌, sym, ap, ◌∙◌, subst}
 use mathlib.Core.List.{List, ◌∷◌}
-use Prim.Native.Nat.{ℕ, suc, ◌+◌, ◌≤◌, ◌<◌}
+use Prim.Native.Nat.{ℕ, suc, ◌+◌, ◌<◌}
 use native.Mathlib.Numerals.{add-one}
-use native.Mathlib.Omega.{arith}
-use lib.ListN.{drop, get_or, length, take}
-use lib.Seq.{drop-cons, get_or-take, length-take-le}
+use lib.ListN.{drop, get_or, length}
+use lib.Seq.{drop-cons}
 use Rattle.word.specs.declared.Edition.{Edition}
 use Rattle.rule.specs.declared.Rule.{Rule}
 use Rattle.rule.specs.accept.Accept.{no_rule}
@@ -55,11 +54,3 @@ module _ (e : Edition) (us : List Rule) where
 
     pub stop_way : Stopped e us pg n i (packed h rows marks)
     stop_way = record { on = w.on; this = u; left = drop (i + 1) us; went = to_add; refuses = number_is; gives = sheet_is }
-
--- the first so many rules of a list
-module _ (rules : List Rule) (n i : ℕ) (h : i < n) where
-  pub first_at : get_or (take n rules) i no_rule ≡ get_or rules i no_rule
-  first_at = get_or-take n rules i no_rule h
-
-  pub first_inside : n ≤ length rules → i < length (take n rules)
-  first_inside l = omega (arith, length-take-le n rules l)

@@ -11,7 +11,7 @@ use lib.Seq.{length-take-le, take_all}
 use Rattle.rule.specs.declared.Rule.{Rule}
 use Rattle.page.specs.declared.Opening.{Opening}
 use Rattle.batch.specs.adds.route.Few.{few}
-use Rattle.batch.proofs.adds.Read.{few_high}
+use Rattle.batch.proofs.Few.{few_high}
 use Rattle.batch.specs.declared.course.Batch.{Batch}
 use Rattle.batch.specs.course.Batch.{Batched, Ending, Gives, MOST, batch}
 use Rattle.batch.specs.course.route.Route.{batch_at}
@@ -25,16 +25,13 @@ module _ (rules : List Rule) (long : length rules ≡ MOST) where
       go (no l) = rw (le-ltb MOST n (omega arith))
 
   -- where as many rules are given as are read
-  pub first_so : (g : Opening) (n k : ℕ) {b b' : List ℕ} {r : Batch} → k ≡ few n → Gives (batch_at g (take (few k) rules) k (length b)) b b' r
+  pub first_so : (g : Opening) (n k : ℕ) {b b' : List ℕ} {r : Batch} → k ≡ few n → Gives (batch_at g (take k rules) k (length b)) b b' r
       → Batched g (take n rules) b b' r
   unfolding batch_at batch
-  first_so g n k {b} {b'} {r} e f = subst (λ (o : Ending). Gives o b b' r) (λ i. batch_at g (same i) (size i) (length b)) f
+  first_so g n k {b} {b'} {r} e f = subst (λ (o : Ending). Gives o b b' r) (λ i. batch_at g (first i) (size i) (length b)) f
     where
       first : take k rules ≡ take n rules
       first = ap (λ (j : ℕ). take j rules) e ∙ all_read n
-
-      same : take (few k) rules ≡ take n rules
-      same = all_read k ∙ first
 
       size : k ≡ length (take n rules)
       size = sym (length-take-le k rules (omega (arith, e, few_high n, long))) ∙ ap length first

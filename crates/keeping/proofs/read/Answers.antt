@@ -10,9 +10,9 @@ unfolding sheet_in
 returns c = record {
   value = (λ i. record {
     width = (c.opening_in-opening.ensures i).width;
-    rules = c.rules_in-rules.ensures i;
+    rules = c.rules_in.ensures i;
     count = get_or c.args.numbers 2 0;
-    marks = c.marks_in-marks.ensures i;
+    marks = c.marks_in.ensures i;
     marked = get_or c.args.numbers 3 0;
     kept = keeps (get_or c.args.numbers 6 0) (get_or c.args.numbers 7 0) (get_or c.args.numbers 8 0);
     given = get_or c.args.numbers 4 0;

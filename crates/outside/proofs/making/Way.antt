@@ -3,6 +3,7 @@
 use mathlib.Core.Path.{◌≡◌, refl, sym, ap, ◌∙◌}
 use mathlib.Core.List.{List, ◌∷◌}
 use Prim.Native.Nat.{ℕ, ◌+◌, ◌≤◌, ◌<◌}
+use Rattle.std.specs.Prelude.{Result, Ok, Err}
 use native.Mathlib.Numerals.{add-one}
 use borrow.Author.Tests.{eq-eqb, ne_eqb}
 use lib.ListN.{drop, drop_of_length-le, get_or, length}
@@ -17,14 +18,19 @@ use Rattle.sheet.specs.declared.Answer.{Answer}
 use Rattle.sheet.specs.declared.Sheet.{Sheet}
 use Rattle.sheet.specs.Record.{blank, fresh}
 use Rattle.sheet.specs.Statements.{Outcome, answers}
-use Rattle.page.proofs.Refusals.{after_refused}
 use Rattle.sheet.proofs.demands.Demand.{after_reached, outcome_on}
-use Rattle.outside.specs.declared.making.Made.{Made}
-use Rattle.outside.specs.making.Made.{adding, given, makes, making}
+use Rattle.outside.specs.declared.making.Refused.{Refused}
+use Rattle.outside.specs.making.Made.{Making, adding, given, makes, making}
 use Rattle.outside.specs.making.route.Way.{Under}
 
-abbrev pub made_of : (number place : ℕ) → Sheet → Made
-made_of k i s = record { number = k; place = i; sheet = s }
+abbrev pub refused_at : (number place : ℕ) → Result Sheet Refused
+refused_at k i = Err (record { number = k; place = i })
+
+given_ok : (m : Making) → m.number ≡ 0 → Ok (fresh m.on) ≡ given m
+given_ok m z = rw (eq-eqb m.number 0 z)
+
+given_err : (m : Making) → (m.number ≡ 0 → ⊥) → refused_at m.number m.place ≡ given m
+given_err m n = rw (ne_eqb m.number 0 n)
 
 module _ (g : Opening) (us : List Rule) where
   -- ---- the opening
@@ -45,12 +51,12 @@ module _ (g : Opening) (us : List Rule) where
     unfolding fresh
     answered = outcome_on no_page refl start opens o
 
-    pub refused_opening : (a.number ≡ 0 → ⊥) → made_of a.number (length us) a.sheet ≡ given (makes g us)
+    pub refused_opening : (a.number ≡ 0 → ⊥) → refused_at a.number (length us) ≡ given (makes g us)
     refused_opening n =
         let k : ℕ = refusal no_page opens in
         let z : k ≡ 0 → ⊥ = λ e. n (ap (λ (b : Answer). b.number) answered ∙ e) in
-        ap (λ (b : Answer). made_of b.number (length us) b.sheet) answered
-        ∙ ap (λ (pg : Page). made_of k (length us) (fresh pg)) (after_refused no_page opens z)
+        ap (λ (b : Answer). refused_at b.number (length us)) answered
+        ∙ given_err (making k (length us) no_page) z
         ∙ sym (ap given (open_stops z))
 
     pub opened : a.number ≡ 0 → Under g us 0 a.sheet
@@ -64,10 +70,11 @@ module _ (g : Opening) (us : List Rule) where
   -- ---- a rule
 
   module _ (i : ℕ) (s : Sheet) (way : Under g us i s) where
-    pub all_added : length us ≤ i → made_of 0 i s ≡ given (makes g us)
+    pub all_added : length us ≤ i → Ok s ≡ given (makes g us)
     unfolding adding
     all_added l =
-        ap (made_of 0 i) way.gives
+        ap (λ (t : Sheet). Ok t) way.gives
+        ∙ given_ok (making 0 i way.on) refl
         ∙ sym (ap given (way.whole ∙ ap (adding g.edition way.on i) (drop_of_length-le us l)))
 
     module _ (within : i < length us) (a : Answer) (o : Outcome s (add g.edition (get_or us i no_rule)) a) where
@@ -92,10 +99,11 @@ module _ (g : Opening) (us : List Rule) where
       unfolding adding
       add_stops n = rw (ne_eqb (refusal pg adds) 0 n)
 
-      pub refused_rule : (a.number ≡ 0 → ⊥) → made_of a.number i s ≡ given (makes g us)
+      pub refused_rule : (a.number ≡ 0 → ⊥) → refused_at a.number i ≡ given (makes g us)
       refused_rule n =
           let number : a.number ≡ refusal pg adds = ap (λ (b : Answer). b.number) says in
-          (λ j. made_of (number j) i (way.gives j)) ∙ sym (ap given (comes_to ∙ add_stops (λ e. n (number ∙ e))))
+          let z : refusal pg adds ≡ 0 → ⊥ = λ e. n (number ∙ e) in
+          ap (λ (k : ℕ). refused_at k i) number ∙ given_err (making (refusal pg adds) i pg) z ∙ sym (ap given (comes_to ∙ add_stops z))
 
       pub added : a.number ≡ 0 → Under g us (i + 1) a.sheet
       added z = record {

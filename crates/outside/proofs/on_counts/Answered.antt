@@ -7,20 +7,22 @@ use borrow.Author.Tests.{eq-eqb, ne_eqb}
 use Rattle.page.specs.Reached.{Reached}
 use Rattle.counting.specs.declared.Share.{Share}
 use Rattle.counting.specs.Counted.{Counted, share_of}
-use Rattle.outside.specs.declared.making.Made.{Made}
-use Rattle.outside.specs.making.Made.{Making, given}
-use Rattle.outside.proofs.list_made.Parts.{made, none, number, place, sheet}
+use Rattle.sheet.specs.declared.Sheet.{Sheet}
+use Rattle.outside.specs.declared.making.Refused.{Refused}
+use Rattle.outside.specs.making.Made.{Making}
+use Rattle.outside.proofs.list_made.Parts.{Made, Stopped}
 use Rattle.outside.specs.on_counts.Counts.{count_numbers, share_in}
 
-module _ (d : Made) (m : Making) (e : d ≡ given m) where
-  pub refused_count : (d.number ≡ 0 → ⊥) → (d.number ≡ (share_in m).number) × (0 ∷ 0 ∷ d.place ∷ [] ≡ count_numbers m)
+module _ (m : Making) where
+  pub refused_count : {x : Refused} → Stopped m x → (x.number ≡ (share_in m).number) × (0 ∷ 0 ∷ x.place ∷ [] ≡ count_numbers m)
   unfolding count_numbers share_in
-  refused_count n = (rw (ne_eqb m.number 0 (none d m e n)) (number d m e), rw (ne_eqb m.number 0 (none d m e n)) (ap (λ (i : ℕ). 0 ∷ 0 ∷ i ∷ []) (place d m e)))
+  refused_count h = (rw (ne_eqb m.number 0 h.refused) h.number, rw (ne_eqb m.number 0 h.refused) (ap (λ (i : ℕ). 0 ∷ 0 ∷ i ∷ []) h.place))
 
-  pub counted : d.number ≡ 0 → Reached m.on → (s : Share) → Counted d.sheet s → (s.number ≡ (share_in m).number) × (s.quotient ∷ s.remainder ∷ d.place ∷ [] ≡ count_numbers m)
+  pub counted : {t : Sheet} → Made m t → Reached m.on → {n : ℕ} → n ≡ m.place → (s : Share) → Counted t s
+      → (s.number ≡ (share_in m).number) × (s.quotient ∷ s.remainder ∷ n ∷ [] ≡ count_numbers m)
   unfolding count_numbers share_in
-  counted z h s p =
-      let q : s ≡ share_of m.on = p.on_page m.on h (sheet d m e) in (
-        rw (eq-eqb m.number 0 (made d m e z)) (ap (λ (x : Share). x.number) q),
-        rw (eq-eqb m.number 0 (made d m e z)) (ap₂ (λ (x : Share) (i : ℕ). x.quotient ∷ x.remainder ∷ i ∷ []) q (place d m e)),
+  counted made h place s p =
+      let q : s ≡ share_of m.on = p.on_page m.on h made.sheet in (
+        rw (eq-eqb m.number 0 made.number) (ap (λ (x : Share). x.number) q),
+        rw (eq-eqb m.number 0 made.number) (ap₂ (λ (x : Share) (i : ℕ). x.quotient ∷ x.remainder ∷ i ∷ []) q place),
       )

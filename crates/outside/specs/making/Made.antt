@@ -1,12 +1,13 @@
 -- What a list of rules makes of a fresh page: the calls of a batch without the asking.
-use Rattle.std.specs.Prelude.{cond, List, [], ◌∷◌, ℕ, ◌+◌, eqb, length}
+use Rattle.std.specs.Prelude.{Result, Ok, Err, cond, List, [], ◌∷◌, ℕ, ◌+◌, eqb, length}
 use Rattle.word.specs.declared.Edition.{Edition}
 use Rattle.rule.specs.declared.Rule.{Rule}
 use Rattle.page.specs.Calls.{add, after, open_at, refusal}
 use Rattle.page.specs.declared.Opening.{Opening}
 use Rattle.page.specs.Page.{Page, no_page}
 use Rattle.sheet.specs.Record.{fresh}
-use Rattle.outside.specs.declared.making.Made.{Made}
+use Rattle.sheet.specs.declared.Sheet.{Sheet}
+use Rattle.outside.specs.declared.making.Refused.{Refused}
 
 -- the number of the first refusal or 0, "at which rule", and the page as it is then
 pub record Making : Type 0 where
@@ -30,6 +31,6 @@ makes g us =
     let k : ℕ = refusal no_page (open_at g) in
     cond (eqb k 0) (adding g.edition (after no_page (open_at g)) 0 us) (making k (length us) no_page)
 
--- that as numbers and a sheet
-abbrev pub given : Making → Made
-given m = record { number = m.number; place = m.place; sheet = fresh m.on }
+-- that as a sheet, or the first refusal
+abbrev pub given : Making → Result Sheet Refused
+given m = cond (eqb m.number 0) (Ok (fresh m.on)) (Err (record { number = m.number; place = m.place }))

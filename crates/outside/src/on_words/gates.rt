@@ -6,41 +6,37 @@ ghost use Rattle.gate.specs.Gate.{turned};
 ghost use Rattle.outside.specs.on_words.Gates.{gate_number, gate_of, gate_rows, row_of, rows_of};
 
 use crate::handing::NUMBERS;
-use gate::{Four, Gate, Refusal, Span};
+use gate::{Four, Gate, Span, Turned};
 use rule::Rule;
 
-// Writes the rules of a gate, a row each. A refusal writes nothing.
+/// Writes the rules of a gate, a row each. A refusal writes nothing.
 #[tactic(auto, unfolding(crate::specs::on_words::Gates::gate_number, crate::specs::on_words::Gates::gate_rows))]
 pub fn gate_rules(kind: u64, low: u32, high: u32, rules: &mut [[u64; NUMBERS]; Gate::RULES]) -> u64
     ensures value { result ≡ gate_number (turned (gate_of kind low high)) }
     ensures rules_after { rules.new ≡ gate_rows (turned (gate_of kind low high)) rules.old }
 {
     match gate_of(kind, low, high).rules() {
-        Ok(four) => {
+        Turned::Rules(four) => {
             *rules = rows_of(four);
             0
         }
-        Err(Refusal::NotANumber) => 14,
+        Turned::NotANumber => 14,
     }
 }
 
-// The gate of a kind.
+/// The gate of a kind.
 #[tactic(auto, using(crate::proofs::on_words::SearchGatesGateOf::wanted))]
 pub fn gate_of(kind: u64, low: u32, high: u32) -> Gate
     ensures { result ≡ gate_of kind low high }
 {
-    let least = watts(low);
-    let most = watts(high);
-    if kind == 0 {
-        return Gate::AtLeast(least);
+    match kind {
+        0 => Gate::AtLeast(watts(low)),
+        1 => Gate::AtMost(watts(high)),
+        _ => Gate::Within(Span {
+            low: watts(low),
+            high: watts(high),
+        }),
     }
-    if kind == 1 {
-        return Gate::AtMost(most);
-    }
-    Gate::Within(Span {
-        low: least,
-        high: most,
-    })
 }
 
 // The float of a pattern: the language makes none of a pattern that is not a number's.

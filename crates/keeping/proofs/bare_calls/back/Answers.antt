@@ -7,4 +7,4 @@ use Rattle.keeping.proofs.bare_calls.back.Goals as goal
 pub returns : goal.returns
 unfolding Outcome
 returns c =
-    changed c.args.numbers.now c.read.ensures.numbers_len back c.read.ensures.value c.back-answer.result c.back-answer.ensures c.keep.ensures.value c.keep.ensures.numbers_after
+    changed c.args.numbers.now c.read.ensures.numbers_len back c.read.ensures.value c.back.result c.back.ensures c.keep.ensures.value c.keep.ensures.numbers_after

@@ -7,4 +7,4 @@ use Rattle.keeping.proofs.bare_calls.forward.Goals as goal
 pub returns : goal.returns
 unfolding Outcome
 returns c =
-    changed c.args.numbers.now c.read.ensures.numbers_len forward c.read.ensures.value c.forward-answer.result c.forward-answer.ensures c.keep.ensures.value c.keep.ensures.numbers_after
+    changed c.args.numbers.now c.read.ensures.numbers_len forward c.read.ensures.value c.forward.result c.forward.ensures c.keep.ensures.value c.keep.ensures.numbers_after

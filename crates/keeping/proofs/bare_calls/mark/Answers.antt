@@ -7,4 +7,4 @@ use Rattle.keeping.proofs.bare_calls.mark.Goals as goal
 pub returns : goal.returns
 unfolding Outcome
 returns c =
-    changed c.args.numbers.now c.read.ensures.numbers_len mark c.read.ensures.value c.mark-answer.result c.mark-answer.ensures c.keep.ensures.value c.keep.ensures.numbers_after
+    changed c.args.numbers.now c.read.ensures.numbers_len mark c.read.ensures.value c.mark.result c.mark.ensures c.keep.ensures.value c.keep.ensures.numbers_after

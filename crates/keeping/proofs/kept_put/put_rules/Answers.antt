@@ -1,9 +1,8 @@
 -- `put_rules` meets its contract. The loop's invariant: the rules passed are put, and the other numbers are as they were. Assumes nothing.
 use mathlib.Core.Path.{◌≡◌, ap, ◌∙◌}
 use mathlib.Core.List.{List}
-use Prim.Native.Nat.{ℕ, ◌+◌, ◌*◌, ◌-◌, ◌≤◌}
+use Prim.Native.Nat.{ℕ, ◌+◌, ◌*◌, ◌≤◌}
 use native.Mathlib.Omega.{arith}
-use borrow.Author.Rules.{rules}
 use lib.ListN.{get_or, length, set}
 use lib.Seq.{paste, paste-zero}
 use Rattle.rule.specs.Meaning.{RULES}
@@ -13,25 +12,20 @@ use Rattle.keeping.proofs.kept_numbers.Flat.{flat-length}
 use Rattle.keeping.proofs.kept_put.Placed.{put_last, rule_put}
 use Rattle.keeping.proofs.kept_put.put_rules.Goals as goal
 
-pub loop-i-init : goal.loop-i-init
-loop-i-init c = (omega arith, paste-zero c.args.numbers.now RULES_AT (flat c.args.rules))
+pub loop-place-init : goal.loop-place-init
+loop-place-init c = paste-zero c.args.numbers.now RULES_AT (flat c.args.rules)
 
-pub loop-i-smaller : goal.loop-i-smaller
-loop-i-smaller c = omega arith
-
-pub loop-i-preserved : goal.loop-i-preserved
-loop-i-preserved c =
-    let r = get_or c.args.rules c.loop-i.i no_rule in
-    let at = RULES_AT + 4 * c.loop-i.i in (
-      omega arith,
-      ap (λ (x : List ℕ). set (set (set (set x at r.form) (at + 1) r.sense) (at + 2) r.c1) (at + 3) r.c2) c.loop-i.invariant.1
-          ∙ rule_put c.args.numbers.now c.requires c.args.rules (omega arith) c.loop-i.i (omega arith),
-    )
+pub loop-place-preserved : goal.loop-place-preserved
+loop-place-preserved c =
+    let r = get_or c.args.rules c.loop-place.place no_rule in
+    let at = RULES_AT + 4 * c.loop-place.place in
+    ap (λ (x : List ℕ). set (set (set (set x at r.form) (at + 1) r.sense) (at + 2) r.c1) (at + 3) r.c2) c.loop-place.invariant
+    ∙ rule_put c.args.numbers.now (omega arith) c.args.rules (omega arith) c.loop-place.place (omega arith)
 
 pub returns : goal.returns
 returns c =
-    let e : c.loop-i.i ≡ RULES = omega arith in
+    let e : c.loop-place.place ≡ RULES = omega arith in
     let full : length (flat c.args.rules) ≤ 4 * RULES = omega (arith, flat-length c.args.rules) in
-    c.loop-i.invariant.1
+    c.loop-place.invariant
     ∙ ap (λ (i : ℕ). paste c.args.numbers.now RULES_AT (flat c.args.rules) (4 * i)) e
-    ∙ put_last c.args.numbers.now RULES_AT (flat c.args.rules) (4 * RULES) full (omega (arith, c.requires))
+    ∙ put_last c.args.numbers.now RULES_AT (flat c.args.rules) (4 * RULES) full (omega arith)

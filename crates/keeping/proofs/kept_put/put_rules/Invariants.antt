@@ -1,13 +1,9 @@
 use mathlib.Core.Path.{◌≡◌}
-use Prim.Native.Nat.{◌*◌, ◌-◌, ◌≤◌}
-use borrow.Author.Rules.{rules}
+use Prim.Native.Nat.{◌*◌}
 use lib.Seq.{paste}
-use Rattle.rule.specs.Meaning.{RULES}
 use Rattle.keeping.specs.kept_numbers.Numbers.{RULES_AT, flat}
 use Rattle.keeping.proofs.kept_put.put_rules.Given as goal
 
-abbrev pub invariant-loop-i : goal.invariant-loop-i
-invariant-loop-i l = (l.i ≤ RULES) × (l.numbers ≡ paste l.initial.numbers RULES_AT (flat l.rules) (4 * l.i))
-
-abbrev pub decreases-loop-i : goal.decreases-loop-i
-decreases-loop-i l = RULES - l.i
+-- the rules passed are put, and the other numbers are as they were
+abbrev pub invariant-loop-place : goal.invariant-loop-place
+invariant-loop-place l = l.numbers ≡ paste l.initial.numbers RULES_AT (flat l.fn.rules) (4 * l.place)

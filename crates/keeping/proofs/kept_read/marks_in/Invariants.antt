@@ -1,13 +1,9 @@
 use mathlib.Core.Path.{◌≡◌}
 use mathlib.Core.List.{◌++◌}
-use Prim.Native.Nat.{◌-◌, ◌≤◌}
 use lib.ListN.{drop, take}
-use Rattle.page.specs.Page.{MARKS}
 use Rattle.keeping.specs.kept_numbers.route.Reading.{marks_in}
 use Rattle.keeping.proofs.kept_read.marks_in.Given as goal
 
-abbrev pub invariant-loop-i : goal.invariant-loop-i
-invariant-loop-i l = (l.i ≤ MARKS) × (l.marks ≡ take l.i (marks_in l.numbers) ++ drop l.i l.initial.marks)
-
-abbrev pub decreases-loop-i : goal.decreases-loop-i
-decreases-loop-i l = MARKS - l.i
+-- the marks passed are read, and the other places are as they were
+abbrev pub invariant-loop-place : goal.invariant-loop-place
+invariant-loop-place l = l.marks ≡ take l.place (marks_in l.fn.numbers) ++ drop l.place l.initial.marks

@@ -1,14 +1,9 @@
 use mathlib.Core.Path.{◌≡◌}
 use mathlib.Core.List.{◌++◌}
-use Prim.Native.Nat.{◌-◌, ◌≤◌}
-use borrow.Author.Rules.{rules}
 use lib.ListN.{drop, take}
-use Rattle.rule.specs.Meaning.{RULES}
 use Rattle.keeping.specs.kept_numbers.route.Reading.{rules_in}
 use Rattle.keeping.proofs.kept_read.rules_in.Given as goal
 
-abbrev pub invariant-loop-i : goal.invariant-loop-i
-invariant-loop-i l = (l.i ≤ RULES) × (l.rules ≡ take l.i (rules_in l.numbers) ++ drop l.i l.initial.rules)
-
-abbrev pub decreases-loop-i : goal.decreases-loop-i
-decreases-loop-i l = RULES - l.i
+-- the rules passed are read, and the other places are as they were
+abbrev pub invariant-loop-place : goal.invariant-loop-place
+invariant-loop-place l = l.rules ≡ take l.place (rules_in l.fn.numbers) ++ drop l.place l.initial.rules

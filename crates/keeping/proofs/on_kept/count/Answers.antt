@@ -4,4 +4,4 @@ use Rattle.keeping.proofs.on_kept.count.Goals as goal
 
 pub returns : goal.returns
 returns c =
-    counts c.args.numbers.now c.read-sheet.ensures.numbers_len c.read-sheet.result c.read-sheet.ensures.value c.count-share.result c.count-share.ensures
+    counts c.args.numbers.now c.read.ensures.numbers_len c.read.result c.read.ensures.value c.count-share.result c.count-share.ensures

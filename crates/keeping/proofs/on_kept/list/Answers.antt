@@ -4,4 +4,4 @@ use Rattle.keeping.proofs.on_kept.list.Goals as goal
 
 pub returns : goal.returns
 returns c =
-    lists c.args.numbers.now c.read-sheet.ensures.numbers_len c.read-sheet.result c.read-sheet.ensures.value c.list-listing.result c.list-listing.ensures
+    lists c.args.numbers.now c.read.ensures.numbers_len c.read.result c.read.ensures.value c.list-listing.result c.list-listing.ensures

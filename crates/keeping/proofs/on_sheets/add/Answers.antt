@@ -10,5 +10,5 @@ pub returns : goal.returns
 unfolding Outcome
 returns c =
     changed c.args.numbers.now c.read.ensures.numbers_len (add (edition_of c.args.edition) (rule_in c.args.rule.now)) c.read.ensures.value c.add-answer.result
-    (subst (λ (x : Call). Outcome c.read.result x c.add-answer.result) (λ j. add (c.edition_of.ensures j) (c.rule_in-asked.ensures j)) c.add-answer.ensures)
+    (subst (λ (x : Call). Outcome c.read.result x c.add-answer.result) (λ j. add (c.edition_of.ensures j) (c.rule_in.ensures j)) c.add-answer.ensures)
     c.keep.ensures.value c.keep.ensures.numbers_after

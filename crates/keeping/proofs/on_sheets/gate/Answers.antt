@@ -9,6 +9,6 @@ use Rattle.keeping.proofs.on_sheets.gate.Goals as goal
 pub returns : goal.returns
 unfolding Outcome
 returns c =
-    changed c.args.numbers.now c.read-sheet.ensures.numbers_len (set_gate (gate_of c.args.kind c.args.low c.args.high)) c.read-sheet.ensures.value c.set-answer.result
-    (subst (λ (x : Call). Outcome c.read-sheet.result x c.set-answer.result) (ap set_gate c.gate_of.ensures) c.set-answer.ensures)
+    changed c.args.numbers.now c.read.ensures.numbers_len (set_gate (gate_of c.args.kind c.args.low c.args.high)) c.read.ensures.value c.set-answer.result
+    (subst (λ (x : Call). Outcome c.read.result x c.set-answer.result) (ap set_gate c.gate_of.ensures) c.set-answer.ensures)
     c.keep.ensures.value c.keep.ensures.numbers_after

@@ -9,5 +9,5 @@ use Rattle.keeping.proofs.on_sheets.open.Goals as goal
 pub returns : goal.returns
 unfolding Outcome
 returns c =
-    opens (opening_of c.args.width c.args.edition) c.blank.result c.open-answer.result (c.open-answer.ensures ∙ ap (λ (x : Opening). opened c.blank.result x) c.opening.ensures)
+    opens (opening_of c.args.width c.args.edition) c.blank.result c.«open».result (c.«open».ensures ∙ ap (λ (x : Opening). opened c.blank.result x) c.opening.ensures)
     c.keep.ensures.value c.keep.ensures.numbers_after

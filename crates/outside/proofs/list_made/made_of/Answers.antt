@@ -1,6 +1,5 @@
 -- `made_of` meets its contract: the opening is made of its numbers first. Assumes nothing.
 use mathlib.Core.Path.{ap, ◌∙◌}
-use borrow.Author.Rules.{rules}
 use Rattle.page.specs.declared.Opening.{Opening}
 use Rattle.outside.specs.handing.Handed.{rules_in}
 use Rattle.outside.specs.making.Made.{given, makes}

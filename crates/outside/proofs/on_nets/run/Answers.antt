@@ -14,9 +14,9 @@ said c =
     ∙ (λ j. ran
     (record {
       width = c.args.width;
-      words = c.words_in-intervals.ensures j;
+      words = c.words_in.ensures j;
       count = length c.args.words.now;
-      joins = c.joins_in-links.ensures j;
+      joins = c.joins_in.ensures j;
       joined = length c.args.joins.now;
     })
     c.args.pay)
