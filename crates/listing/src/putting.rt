@@ -26,7 +26,7 @@ pub fn put_section(section: Section, force: InForce, p: u64, out: &mut [u64], pl
     let last = section.to;
     let fixed = force.fixed;
     if free(fixed) {
-        return put_run(Run { from: p, to: last }, &mut *out, place);
+        return put_run(Run { from: p, to: last }, out, place);
     }
     let Found::At(first) = fixed.next(force.width, p) else {
         return place;
