@@ -8,6 +8,7 @@ use Prim.Native.Nat.{ℕ, suc, ◌-◌, ◌≤◌, ◌<◌}
 use native.Mathlib.Omega.{arith}
 use lib.Dec.{eqb, ltb}
 use lib.ListN.{length}
+use Rattle.std.specs.Prelude.{Result, Ok, Err}
 use Rattle.word.specs.declared.Found.{Found}
 use Rattle.word.specs.declared.Found.TheVariants.{At, Nothing}
 use Rattle.word.specs.Word.{top}
@@ -23,10 +24,13 @@ use Rattle.chain.specs.declared.Link.{Link}
 use Rattle.chain.specs.Links.{BITS, nth}
 use Rattle.checker.proofs.covering.EveryWord.{misses}
 use Rattle.checker.proofs.covering.Reasons.{lawful_at}
-use Rattle.checker.specs.declared.finding.Finding.{Finding}
-use Rattle.checker.specs.declared.finding.Finding.TheVariants.{BitRule, MeetsBits, MeetsRule, NoRule, Yes}
+use Rattle.checker.specs.declared.finding.Breach.{Breach}
+use Rattle.checker.specs.declared.finding.Breach.TheVariants.{BitRule, MeetsBits, MeetsRule, NoRule}
 use Rattle.checker.specs.finding.Clauses.{first_broken, reason_clauses, smallest, the_word}
 use Rattle.checker.proofs.reason.Meeting.{none_pass, some_pass}
+
+abbrev err : Breach → Result Unit Breach
+err f = Err f
 
 -- ---- what its reason shows, by the tests: the number of a rule, 255, form 7, and whether every word misses
 
@@ -34,13 +38,13 @@ module _ (w : ℕ) (rs : List Rule) (i : ℕ) (l : Link) where
   abbrev r : Rule
   r = nth rs l.reason
 
-  by_reason : (a b c d g : Bool) → Finding
+  by_reason : (a b c d g : Bool) → Result Unit Breach
   by_reason a b c d g =
       cond (a || b)
       (cond (not a || not c)
-      (cond (not a || d) (cond (not b || g) Yes (MeetsBits i (smallest (meets7 w rs) l))) (MeetsRule i (smallest (meets w r) l)))
-      (BitRule i))
-      (NoRule i)
+      (cond (not a || d) (cond (not b || g) (Ok tt) (Err (MeetsBits i (smallest (meets7 w rs) l)))) (Err (MeetsRule i (smallest (meets w r) l))))
+      (Err (BitRule i)))
+      (Err (NoRule i))
 
   reasons_as : {a b c d g : Bool} → ltb l.reason (length rs) ≡ a → eqb l.reason BITS ≡ b → eqb r.form 7 ≡ c
       → misses (meets w r) l.from l.to ≡ d → misses (meets7 w rs) l.from l.to ≡ g → by_reason a b c d g ≡ first_broken (reason_clauses w rs i l)
@@ -48,33 +52,33 @@ module _ (w : ℕ) (rs : List Rule) (i : ℕ) (l : Link) where
   reasons_as p q s u v = sym (λ k. by_reason (p k) (q k) (s k) (u k) (v k))
 
   module _ (other : ltb l.reason (length rs) ≡ false) where
-    pub no_rule : eqb l.reason BITS ≡ false → NoRule i ≡ first_broken (reason_clauses w rs i l)
+    pub no_rule : eqb l.reason BITS ≡ false → Err (NoRule i) ≡ first_broken (reason_clauses w rs i l)
     unfolding by_reason
     no_rule e = reasons_as other e refl refl refl
 
-    pub bits_missed : eqb l.reason BITS ≡ true → first (meets7 w rs) (suc l.to - l.from) l.from ≡ Nothing → Yes ≡ first_broken (reason_clauses w rs i l)
+    pub bits_missed : eqb l.reason BITS ≡ true → first (meets7 w rs) (suc l.to - l.from) l.from ≡ Nothing → Ok tt ≡ first_broken (reason_clauses w rs i l)
     unfolding by_reason
     bits_missed e n = reasons_as other e refl refl (none_pass (meets7 w rs) l.from l.to n)
 
-    pub bits_met : (x : ℕ) → eqb l.reason BITS ≡ true → first (meets7 w rs) (suc l.to - l.from) l.from ≡ At x → MeetsBits i x ≡ first_broken (reason_clauses w rs i l)
+    pub bits_met : (x : ℕ) → eqb l.reason BITS ≡ true → first (meets7 w rs) (suc l.to - l.from) l.from ≡ At x → Err (MeetsBits i x) ≡ first_broken (reason_clauses w rs i l)
     unfolding by_reason smallest the_word
     bits_met x e n =
-        ap (λ (o : Found). MeetsBits i (the_word o)) (sym n) ∙ reasons_as other e refl refl (some_pass (meets7 w rs) l.from l.to x n)
+        ap (λ (o : Found). err (MeetsBits i (the_word o))) (sym n) ∙ reasons_as other e refl refl (some_pass (meets7 w rs) l.from l.to x n)
 
   module _ (named : ltb l.reason (length rs) ≡ true) where
-    pub bit_rule : eqb r.form 7 ≡ true → BitRule i ≡ first_broken (reason_clauses w rs i l)
+    pub bit_rule : eqb r.form 7 ≡ true → Err (BitRule i) ≡ first_broken (reason_clauses w rs i l)
     unfolding by_reason
     bit_rule e = reasons_as named refl e refl refl
 
     pub rule_missed : eqb l.reason BITS ≡ false → eqb r.form 7 ≡ false → first (meets w r) (suc l.to - l.from) l.from ≡ Nothing
-        → Yes ≡ first_broken (reason_clauses w rs i l)
+        → Ok tt ≡ first_broken (reason_clauses w rs i l)
     unfolding by_reason
     rule_missed b e n = reasons_as named b e (none_pass (meets w r) l.from l.to n) refl
 
-    pub rule_met : (x : ℕ) → eqb r.form 7 ≡ false → first (meets w r) (suc l.to - l.from) l.from ≡ At x → MeetsRule i x ≡ first_broken (reason_clauses w rs i l)
+    pub rule_met : (x : ℕ) → eqb r.form 7 ≡ false → first (meets w r) (suc l.to - l.from) l.from ≡ At x → Err (MeetsRule i x) ≡ first_broken (reason_clauses w rs i l)
     unfolding by_reason smallest the_word
     rule_met x e n =
-        ap (λ (o : Found). MeetsRule i (the_word o)) (sym n) ∙ reasons_as named refl e (some_pass (meets w r) l.from l.to x n) refl
+        ap (λ (o : Found). err (MeetsRule i (the_word o))) (sym n) ∙ reasons_as named refl e (some_pass (meets w r) l.from l.to x n) refl
 
 -- ---- the words that bands and bits find
 
