@@ -1,24 +1,24 @@
 // What is found of a chain whose reasons may be names: a name that several rules in force share, as the four of a gate do, stands for the first of them that all words of the link
 // fail, and for the first of them where there is none.
 ghost use Rattle.std.specs.Prelude.{◌≡◌, length};
+ghost use Rattle.std.specs.Result.{is_ok};
 ghost use Rattle.io.specs.Counts.{IsPrefixLen};
-ghost use Rattle.checker.specs.finding.Clauses.{is_yes};
 ghost use Rattle.checker.specs.Check.{accepts};
 ghost use Rattle.checker.specs.clause.Finding.{finding};
 ghost use Rattle.vet.specs.checking.route.Room.{chain_of, room_of};
 
 use crate::gathering::{LENT, LINKS, ROOM};
 use chain::Link;
-use checker::clause::Finding;
+use checker::finding::Breach;
 use naming::MOST;
 use rule::Rule;
 use sheet::Sheet;
 use word::Found;
 
-// What is found of so many links. It is yes just where the check says yes.
-pub fn found_of(sheet: Sheet, links: [u64; LENT], n: usize) -> Finding
+// What is found of so many links. All is well just where the check says yes.
+pub fn found_of(sheet: Sheet, links: [u64; LENT], n: usize) -> Result<(), Breach>
     ensures value { result ≡ finding sheet (chain_of n links) }
-    ensures result_value { is_yes result ≡ accepts sheet (chain_of n links) }
+    ensures result_value { is_ok result ≡ accepts sheet (chain_of n links) }
 {
     let end = room_of(n, &links);
     checker::clause::first(sheet, &links[..end])
@@ -40,10 +40,10 @@ fn room_of(n: usize, links: &[u64]) -> usize
 }
 
 // The link whose reason is a name and which the rule does not show that the name stands for.
-pub fn unshown(found: Finding, links: &[u64; LENT]) -> Found {
+pub fn unshown(found: Result<(), Breach>, links: &[u64; LENT]) -> Found {
     match found {
-        Finding::BitRule { link } => if_named(links, link),
-        Finding::MeetsRule { link, word: _ } => if_named(links, link),
+        Err(Breach::BitRule { link }) => if_named(links, link),
+        Err(Breach::MeetsRule { link, word: _ }) => if_named(links, link),
         _ => Found::Nothing,
     }
 }
