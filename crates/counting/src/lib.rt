@@ -13,6 +13,7 @@ use sheet::Sheet;
 
 /// What a count answers: 0 or the number of a refusal, and how many words fit as quotient and remainder by 2^32, since a free word of
 /// 64 bits has 2^64.
+// The number stands beside the count, since the calls for other languages hand all three on as they are.
 #[derive(Clone, Copy, PartialEq, Eq)]
 pub struct Share {
     pub number: u64,

@@ -14,6 +14,7 @@ use search::rows::NUMBERS;
 use sheet::Sheet;
 
 /// What a listing answers: 0 or the number of a refusal, and how many words were written.
+// The number stands beside the count, since the calls for other languages hand both on as they are.
 #[derive(Clone, Copy, PartialEq, Eq)]
 pub struct Listing {
     pub number: u64,

@@ -32,7 +32,7 @@ pub fill-written-requires : goal.fill-written-requires
 fill-written-requires c =
     let e = own (goal.at.fill-written-requires c).Else-is_refused in
     let w = swept_so c.look-found.ensures e in
-    record { width = width_so c.look-found.ensures e; start_bound = (omega (arith, c.top.ensures, c.if-is_high.false), w.lie); tidy = w.tidy }
+    record { width = width_so c.look-found.ensures e; start_bound = (omega (arith, c.top.ensures), w.lie); tidy = w.tidy }
 
 pub returns : goal.returns
 returns c =
