@@ -64,14 +64,15 @@ pub fn shows(
     let reason = link.reason;
     if reason < force.count as u64 {
         let place = reason as usize;
-        if search::rows::rule_at(rows, place).form == 7 {
-            return Err(Breach::BitRule { link: number });
-        }
         let top = force.width.top();
         let band = search::rows::band_at(rows, place, false, top);
+        // the band of a form 7 rule holds every word, so that the form is looked at only where a word is found
         let Found::At(word) = held(band, top, link.from, link.to) else {
             return Ok(());
         };
+        if search::rows::rule_at(rows, place).form == 7 {
+            return Err(Breach::BitRule { link: number });
+        }
         return Err(Breach::MeetsRule { link: number, word });
     }
     let is_no_rule = reason != Link::BITS;

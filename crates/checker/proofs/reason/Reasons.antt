@@ -17,7 +17,7 @@ use Rattle.word.proofs.Search.{first_same}
 use Rattle.rule.specs.declared.Rule.{Rule}
 use Rattle.rule.specs.Meaning.{AllLawful, meets, meets7}
 use Rattle.rule.specs.band.route.Band.{band_of, holds}
-use Rattle.rule.proofs.band.Law.{band_law}
+use Rattle.rule.proofs.band.Law.{band_law, bit_band}
 use Rattle.rule.specs.bits.route.Fixed.{fixed_bits, has_bits}
 use Rattle.rule.proofs.bits.Joined.{fixed_bits_lem}
 use Rattle.chain.specs.declared.Link.{Link}
@@ -27,7 +27,7 @@ use Rattle.checker.proofs.covering.Reasons.{lawful_at}
 use Rattle.checker.specs.declared.finding.Breach.{Breach}
 use Rattle.checker.specs.declared.finding.Breach.TheVariants.{BitRule, MeetsBits, MeetsRule, NoRule}
 use Rattle.checker.specs.finding.Clauses.{first_broken, reason_clauses, smallest, the_word}
-use Rattle.checker.proofs.reason.Meeting.{none_pass, some_pass}
+use Rattle.checker.proofs.reason.Meeting.{at_once, none_pass, some_pass}
 
 abbrev err : Breach → Result Unit Breach
 err f = Err f
@@ -88,3 +88,8 @@ module _ (w : ℕ) (width : 1 ≤ w) (rs : List Rule) (lawful : AllLawful w rs) 
 
   pub by_bits : first (has_bits (fixed_bits rs)) (suc q - p) p ≡ first (meets7 w rs) (suc q - p) p
   by_bits = first_same _ _ (suc q - p) p (λ y a b. fixed_bits_lem w rs y lawful)
+
+  -- every word has the band of a form 7 rule
+  pub bits_first : (i : ℕ) → i < length rs → p ≤ q → (nth rs i).form ≡ 7 → At p ≡ first (holds (band_of w (nth rs i))) (suc q - p) p
+  bits_first i h o e =
+      at_once (holds (band_of w (nth rs i))) p q (top w) o word (bit_band w width (nth rs i) (lawful_at w rs i h lawful) p (omega arith) e)
