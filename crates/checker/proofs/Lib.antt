@@ -3,3 +3,4 @@ pub mod Held
 pub mod NoFit
 pub mod Worked
 pub mod Written
+pub mod covering

@@ -10,12 +10,12 @@ ghost use Rattle.search.specs.rows.route.OfRules.{OfLawful};
 ghost use Rattle.search.specs.rows.route.Rows.{bands_in, rules_in};
 ghost use Rattle.checker.specs.finding.Clauses.{first_broken, reason_clauses};
 
-use crate::finding::Finding;
+use crate::finding::Breach;
 use chain::Link;
 use rule::Rule;
 use rule::band::Band;
 use rule::bits::Fixed;
-use search::rows::InForce;
+use search::rows::{InForce, NUMBERS};
 use word::Width;
 
 // The smallest word from one to another that a band holds: the first, or the one after the run of failing words around it.
@@ -48,41 +48,39 @@ fn having(fixed: Fixed, width: Width, from: u64, to: u64) -> Option<u64>
     Some(next)
 }
 
-// The clauses on the reason of a link that lies as it may.
+/// The clauses on the reason of a link that lies as it may.
 pub fn shows(
     link: Link,
     number: usize,
-    rows: &[[u64; search::rows::NUMBERS]; Rule::LIMIT],
+    rows: &[[u64; NUMBERS]; Rule::LIMIT],
     force: InForce,
-) -> Finding
+) -> Result<(), Breach>
     requires width { IsWidth force.width.bits }
     requires lie { Lie (top force.width.bits) force.count (bands_in rows.now) }
     requires of_lawful { OfLawful force.width.bits (take force.count (bands_in rows.now)) force.fixed (take force.count (rules_in rows.now)) }
     requires tidy { Tidy force.fixed × (link.from ≤ link.to) × (link.to ≤ top force.width.bits) }
     ensures { result ≡ first_broken (reason_clauses force.width.bits (take force.count (rules_in rows.now)) number link) }
 {
-    let n = force.count;
-    let fixed = force.fixed;
-    let width = force.width;
     let reason = link.reason;
-    if reason < n as u64 {
+    if reason < force.count as u64 {
         let place = reason as usize;
-        if search::rows::rule_at(rows, place).form == 7 {
-            return Finding::BitRule { link: number };
-        }
-        let top = width.top();
+        let top = force.width.top();
         let band = search::rows::band_at(rows, place, false, top);
+        // the band of a form 7 rule holds every word, so that the form is looked at only where a word is found
         let Some(word) = held(band, top, link.from, link.to) else {
-            return Finding::Yes;
+            return Ok(());
         };
-        return Finding::MeetsRule { link: number, word };
+        if search::rows::rule_at(rows, place).form == 7 {
+            return Err(Breach::BitRule { link: number });
+        }
+        return Err(Breach::MeetsRule { link: number, word });
     }
     let is_no_rule = reason != Link::BITS;
     if is_no_rule {
-        return Finding::NoRule { link: number };
+        return Err(Breach::NoRule { link: number });
     }
-    let Some(word) = having(fixed, width, link.from, link.to) else {
-        return Finding::Yes;
+    let Some(word) = having(force.fixed, force.width, link.from, link.to) else {
+        return Ok(());
     };
-    Finding::MeetsBits { link: number, word }
+    Err(Breach::MeetsBits { link: number, word })
 }

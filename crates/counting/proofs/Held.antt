@@ -1,8 +1,7 @@
 -- The ways out of a count: refused before the table, and counted. Assumes nothing.
-use mathlib.Core.Path.{◌≡◌, refl, sym, ap, ap₂, ◌∙◌, subst}
+use mathlib.Core.Path.{◌≡◌, refl, sym, ap, ◌∙◌, subst}
 use mathlib.Core.List.{List}
 use Prim.Native.Nat.{ℕ, suc, ◌^◌}
-use native.Mathlib.Decide.{ℕ_discrete}
 use native.Mathlib.Omega.{arith}
 use lib.ListN.{take}
 use Rattle.word.specs.Word.{top}
@@ -23,8 +22,6 @@ use Rattle.sheet.specs.laid_force.route.Found.{FoundIn}
 use Rattle.sheet.proofs.laid_force.Force.{page_width, passes_so, standing}
 use Rattle.counting.specs.fitting.Words.{how_many}
 use Rattle.counting.proofs.fitting.Passing.{count_same}
-use Rattle.counting.specs.declared.tally.Total.{Total}
-use Rattle.counting.specs.tally.route.Total.{totals}
 use Rattle.counting.specs.declared.Share.{Share}
 use Rattle.counting.specs.Counted.{Counted, count_grounds, share_of}
 use Rattle.counting.specs.Share.{shares}
@@ -38,7 +35,7 @@ counted_on pg h {s} e {r} q =
     }
 
 -- refused before the table
-refused_count : {s : Sheet} {n : ℕ} → Stands s n → (n ≡ 0 → ⊥) → Counted s (shares n 0)
+pub refused_count : {s : Sheet} {n : ℕ} → Stands s n → (n ≡ 0 → ⊥) → Counted s (shares n 0)
 unfolding share_of count_grounds first_that_applies is_blank
 refused_count (no_sheet i) z =
     record { no_sheet = λ n. refl; on_page = λ pg h e. absurd (i (record { on = pg; reached = h; gives = e })) }
@@ -59,19 +56,6 @@ module _ {s : Sheet} {f : Found} {rows : List (List ℕ)} (found : FoundIn s f r
       count_same _ fit (suc (top w)) 0 (λ y a b. passes_so found e y (omega arith))
       ∙ ap (λ (k : ℕ). count fit k 0) (top-suc w ∙ ap (λ (v : ℕ). 2 ^ v) (page_width found e))
 
-  tallied : Counted s (shares 0 (count (passes (take f.force.count (bands_in rows)) f.force.fixed) (suc (top w)) 0))
+  pub tallied : Counted s (shares 0 (count (passes (take f.force.count (bands_in rows)) f.force.fixed) (suc (top w)) 0))
   unfolding share_of count_grounds first_that_applies is_blank width_of rules_of entries_of
   tallied = let p = standing found e in counted_on (page on) p.reached p.gives (ap (shares 0) many)
-
--- what a count answers of a number and a total
-abbrev shared : ℕ → Total → Share
-shared n t = record { number = n; quotient = t.quotient; remainder = t.remainder }
-
-pub counted : {s : Sheet} {f : Found} {rows : List (List ℕ)} → FoundIn s f rows → {t : Total}
-    → (f.number ≡ 0 → t ≡ totals (count (passes (take f.force.count (bands_in rows)) f.force.fixed) (suc (top f.force.width.bits)) 0))
-    → ((f.number ≡ 0 → ⊥) → t ≡ totals 0) → Counted s (shared f.number t)
-counted {s} {f} {rows} found {t} some none = go (ℕ_discrete f.number 0)
-  where
-    go : Dec (f.number ≡ 0) → Counted s (shared f.number t)
-    go (yes e) = subst (Counted s) (sym (ap₂ shared e (some e))) (tallied found e)
-    go (no z) = subst (Counted s) (sym (ap (shared f.number) (none z))) (refused_count found.stands z)

@@ -9,38 +9,32 @@ ghost use Rattle.search.specs.rows.route.Rows.{bands_in};
 ghost use Rattle.counting.specs.tally.route.Total.{totals};
 
 use rule::Rule;
-use rule::bits::Fixed;
-use word::Width;
+use search::rows::{InForce, NUMBERS};
 
 mod adding;
 
-// How many words there are, as quotient and remainder by `UNIT`.
-#[derive(Clone, Copy)]
+/// How many words there are, as quotient and remainder by `UNIT`.
+#[derive(Clone, Copy, PartialEq, Eq)]
 pub struct Total {
     pub quotient: u64,
     pub remainder: u64,
 }
 
-// How many words the first n bands hold that have the bits. It looks at no more sections than n bands can have, whatever the width.
-pub fn words(
-    rows: &[[u64; search::rows::NUMBERS]; Rule::LIMIT],
-    n: usize,
-    fixed: Fixed,
-    width: Width,
-) -> Total
-    requires width { IsWidth width.bits }
-    requires lie { Lie (top width.bits) n (bands_in rows.now) }
-    requires tidy { Tidy fixed }
-    ensures { result ≡ totals (count (passes (take n (bands_in rows.now)) fixed) (suc (top width.bits)) 0) }
+/// How many words the bands in force hold that have the bits. It looks at no more sections than they can have, whatever the width.
+pub fn words(rows: &[[u64; NUMBERS]; Rule::LIMIT], force: InForce) -> Total
+    requires width { IsWidth force.width.bits }
+    requires lie { Lie (top force.width.bits) force.count (bands_in rows.now) }
+    requires tidy { Tidy force.fixed }
+    ensures { result ≡ totals (count (passes (take force.count (bands_in rows.now)) force.fixed) (suc (top force.width.bits)) 0) }
 {
-    let top = width.top();
-    let most = search::section::most(n);
+    let top = force.width.top();
+    let most = search::section::most(force.count);
     let mut total = Total::none();
     let mut p = 0;
     for _ in 0..most {
-        let section = search::section::at(rows, n, top, p);
+        let section = search::section::at(rows, force.count, top, p);
         if section.held {
-            total = total.with(fixed, p, section.to);
+            total = total.with(force.fixed, p, section.to);
         }
         if section.to == top {
             return total;

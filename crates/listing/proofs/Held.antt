@@ -1,8 +1,7 @@
 -- The ways out of a listing: refused before the table, refused for its start, and listed. Assumes nothing.
-use mathlib.Core.Path.{◌≡◌, refl, sym, ap, ap₂, ◌∙◌, subst, subst₂}
+use mathlib.Core.Path.{◌≡◌, refl, sym, ap, ap₂, ◌∙◌, subst}
 use mathlib.Core.List.{List, []}
 use Prim.Native.Nat.{ℕ, suc, ◌-◌, ◌^◌, ◌≤◌, ◌<◌}
-use native.Mathlib.Decide.{ℕ_discrete}
 use native.Mathlib.Omega.{arith}
 use lib.ListN.{length, take}
 use Rattle.word.specs.Search.{passing}
@@ -24,7 +23,7 @@ use Rattle.counting.proofs.fitting.Passing.{passing_same}
 use Rattle.listing.specs.list_refusal.Grounds.{list_number}
 use Rattle.listing.specs.list_refusal.route.Seen.{StartSeen, before_table, high_start, own_start}
 use Rattle.listing.proofs.list_refusal.Numbers.{blank_number, high_number, own_number}
-use Rattle.listing.specs.listed_rows.route.Filled.{Filled, words_in}
+use Rattle.listing.specs.filling.route.Filled.{words_in}
 use Rattle.listing.specs.declared.Listing.{Listing}
 use Rattle.listing.specs.Listed.{Listed, list_on, listings}
 
@@ -59,18 +58,12 @@ refused_before (no_sheet i) z p b =
 refused_before (blank_sheet e) z p b = listed_on no_page start e (rw (blank_number p) (refl, refl))
 refused_before (on_page q) z p b = absurd (z refl)
 
--- what is not refused has a page, and the start is a word of it
-pub passed : {n w p k : ℕ} → StartSeen n w p k → k ≡ 0 → (n ≡ 0) × (p ≤ top w)
-passed (before_table d) z = absurd (d z)
-passed (high_start e l) z = absurd (omega arith)
-passed (own_start e l) z = (e, l)
-
 module _ {s : Sheet} {f : Found} {rows : List (List ℕ)} (found : FoundIn s f rows) (p : ℕ) (b : List ℕ) where
   abbrev wide : ℕ
   wide = f.force.width.bits
 
   -- a refusal, whatever its number
-  refused_list : {n : ℕ} → StartSeen f.number wide p n → (n ≡ 0 → ⊥) → Listed s p b b (listings n 0)
+  pub refused_list : {n : ℕ} → StartSeen f.number wide p n → (n ≡ 0 → ⊥) → Listed s p b b (listings n 0)
   refused_list (before_table d) z = refused_before found.stands d p b
   refused_list (high_start e l) z =
       let q = standing found e in
@@ -94,7 +87,7 @@ module _ {s : Sheet} {f : Found} {rows : List (List ℕ)} (found : FoundIn s f r
         ∙ ap (λ (k : ℕ). passing fit (k - p) p) (top-suc wide ∙ ap (λ (v : ℕ). 2 ^ v) (page_width found e)))
         ∙ sym (own_words on p (length b) (subst (λ (w : ℕ). p ≤ top w) (page_width found e) l))
 
-    own_list : {n : ℕ} {b' : List ℕ} → n ≡ length (words_in rows f.force p (length b)) → b' ≡ at_start (words_in rows f.force p (length b)) b
+    pub own_list : {n : ℕ} {b' : List ℕ} → n ≡ length (words_in rows f.force p (length b)) → b' ≡ at_start (words_in rows f.force p (length b)) b
         → Listed s p b b' (listings 0 n)
     own_list c d =
         let q = standing found e in
@@ -103,17 +96,3 @@ module _ {s : Sheet} {f : Found} {rows : List (List ℕ)} (found : FoundIn s f r
           ap (listings 0) (c ∙ ap length all) ∙ ap (λ (n : ℕ). listings n (length (list_on (page on) p (length b)))) (sym (own_number on p low)),
           d ∙ ap (λ (xs : List ℕ). at_start xs b) all,
         )
-
--- by the number with which it is refused, or 0
-pub listed : {s : Sheet} {f : Found} {rows : List (List ℕ)} → FoundIn s f rows → {p n m : ℕ} {b b' : List ℕ} → StartSeen f.number f.force.width.bits p n
-    → Filled n (words_in rows f.force p (length b)) b b' m → Listed s p b b' (listings n m)
-listed {s} {f} {rows} found {p} {n} {m} {b} {b'} seen filled = go (ℕ_discrete n 0)
-  where
-    go : Dec (n ≡ 0) → Listed s p b b' (listings n m)
-    go (yes e) =
-        let own = passed seen e in
-        let said = filled.listed e in
-        subst (λ (k : ℕ). Listed s p b b' (listings k m)) (sym e) (own_list found p b own.0 own.1 said.0 said.1)
-    go (no z) =
-        let said = filled.refused z in
-        subst₂ (λ (k : ℕ) (c : List ℕ). Listed s p b c (listings n k)) (sym said.0) (sym said.1) (refused_list found p b seen z)

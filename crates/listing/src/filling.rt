@@ -1,20 +1,20 @@
 // Words that pass bands and bits, written into a lent buffer in rising order, section by section.
 
-ghost use Rattle.std.specs.Prelude.{◌≡◌, suc, ◌-◌, ◌≤◌, length, take};
-ghost use Rattle.word.specs.Search.{passing};
+ghost use Rattle.std.specs.Prelude.{◌≡◌, ◌≤◌, length};
 ghost use Rattle.word.specs.Word.{IsWidth, top};
 ghost use Rattle.rule.specs.bits.route.Fixed.{Tidy};
-ghost use Rattle.search.specs.rows.route.Bands.{Lie, passes};
+ghost use Rattle.search.specs.rows.route.Bands.{Lie};
 ghost use Rattle.search.specs.rows.route.Rows.{bands_in};
 ghost use Rattle.counting.specs.fitting.Words.{at_start};
+ghost use Rattle.listing.specs.filling.route.Filled.{words_in};
 
 use rule::Rule;
-use search::rows::InForce;
+use search::rows::{InForce, NUMBERS};
 
-// Writes the words from a start on that the bands in force hold and that have the bits, as many as the buffer holds, and says how many.
-// It looks at no more sections than there can be.
+/// Writes the words from a start on that the bands in force hold and that have the bits, as many as the buffer holds, and says how many.
+/// It looks at no more sections than there can be.
 pub fn fill(
-    rows: &[[u64; search::rows::NUMBERS]; Rule::LIMIT],
+    rows: &[[u64; NUMBERS]; Rule::LIMIT],
     force: InForce,
     start: u64,
     out: &mut [u64],
@@ -22,8 +22,8 @@ pub fn fill(
     requires width { IsWidth force.width.bits }
     requires start_bound { (start ≤ top force.width.bits) × Lie (top force.width.bits) force.count (bands_in rows.now) }
     requires tidy { Tidy force.fixed }
-    ensures value { result ≡ length (take (length out.old) (passing (passes (take force.count (bands_in rows.now)) force.fixed) (suc (top force.width.bits) - start) start)) }
-    ensures out_after { out.new ≡ at_start (take (length out.old) (passing (passes (take force.count (bands_in rows.now)) force.fixed) (suc (top force.width.bits) - start) start)) out.old }
+    ensures value { result ≡ length (words_in rows.now force start (length out.old)) }
+    ensures out_after { out.new ≡ at_start (words_in rows.now force start (length out.old)) out.old }
 {
     let n = force.count;
     let top = force.width.top();
@@ -32,7 +32,7 @@ pub fn fill(
     let mut at = 0;
     for _ in 0..most {
         let section = search::section::at(rows, n, top, p);
-        at = crate::putting::put_section(section, force, p, &mut *out, at);
+        at = crate::putting::put_section(section, force, p, out, at);
         if section.to == top {
             return at;
         }

@@ -10,8 +10,8 @@ use rule::bits::Fixed;
 use search::rows::InForce;
 use search::section::Section;
 
-// Writes the words of a section from p on that have the bits, where the bands hold it, from a place of the buffer on, and says which
-// place comes after them. The first is looked for, and the others follow one from another.
+/// Writes the words of a section from p on that have the bits, where the bands hold it, from a place of the buffer on, and says which
+/// place comes after them. The first is looked for, and the others follow one from another.
 pub fn put_section(section: Section, force: InForce, p: u64, out: &mut [u64], place: usize) -> usize
     requires width { IsWidth force.width.bits }
     requires p_le_to { (p ≤ section.to) × (section.to ≤ top force.width.bits) }
@@ -25,13 +25,14 @@ pub fn put_section(section: Section, force: InForce, p: u64, out: &mut [u64], pl
     let last = section.to;
     let fixed = force.fixed;
     if free(fixed) {
-        return put_run(Run { from: p, to: last }, &mut *out, place);
+        return put_run(Run { from: p, to: last }, out, place);
     }
     let Some(first) = fixed.next(force.width, p) else {
         return place;
     };
     let mut x = first;
     let mut at = place;
+    // Each word is found from the one before it, and the place goes back to the caller: an iterator of words is no plainer.
     while at < out.len() {
         if last < x {
             return at;
@@ -65,6 +66,7 @@ fn put_run(words: Run, out: &mut [u64], place: usize) -> usize
     let last = words.to;
     let mut x = words.from;
     let mut at = place;
+    // The place has to be known after the last word, and a run of 2^64 words has no length: a zip of places and words is no plainer.
     while at < out.len() {
         out[at] = x;
         at += 1;

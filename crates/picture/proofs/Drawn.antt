@@ -8,6 +8,7 @@ use native.Mathlib.Omega.{arith}
 use borrow.Author.Tests.{eq-eqb, ltb-true, not-true}
 use lib.Dec.{eqb, ltb}
 use lib.ListN.{length, length-map, length-set, set, take}
+use Rattle.std.specs.Prelude.{Option, Some, None}
 use Rattle.word.specs.Word.{IsWidth, top}
 use Rattle.word.proofs.Tests.{both_pass}
 use Rattle.rule.specs.declared.Rule.{Rule}
@@ -35,8 +36,6 @@ use Rattle.picture.specs.declared.shade.Cell.TheVariants.{Fails, Meets, Nowhere,
 use Rattle.picture.specs.shade.Cell.{cell_of}
 use Rattle.picture.specs.column.Column.{columns, words_of}
 use Rattle.picture.proofs.column.Columns.{column_ends}
-use Rattle.picture.specs.declared.Shown.{Shown}
-use Rattle.picture.specs.declared.Shown.TheVariants.{Nothing, Words}
 use Rattle.picture.specs.Picture.{all_cell, column_cell, drawable, rule_cell}
 use Rattle.picture.specs.route.Shown.{shown}
 
@@ -92,9 +91,9 @@ unfolding fixed_bits fixed_from
 alone_tidy r = fixed_tidy (r ∷ [])
 
 -- a column's cell, by how its words go
-abbrev pub cells : (Run → Cell) → Shown → Cell
-cells k (Words v) = k v
-cells k Nothing = Nowhere
+abbrev pub cells : (Run → Cell) → Option Run → Cell
+cells k (Some v) = k v
+cells k None = Nowhere
 
 -- words of a sheet that is not blank, in order
 pub record Laid (h : Head) (v : Run) : Type 0 where
@@ -118,12 +117,12 @@ module _ {h : Head} {rows : List (List ℕ)} {marks : List ℕ} (held : Held h r
   unfolding drawable packed
   drawn_so = sym (ap (λ (b : Bool). b && (not (eqb w 0) && ltb c (columns w))) (packed_told h rows marks ∙ sym held.tested))
 
-  module _ {s : Shown} (e : s ≡ shown h.stands w c) where
+  module _ {s : Option Run} (e : s ≡ shown h.stands w c) where
     pub all_shown : cells (λ r. cell_of (fits w own) r.from r.to) s ≡ all_cell (packed h rows marks) c
     unfolding shown all_cell column_cell packed
     all_shown = ap (cells _) e ∙ go test ∙ ap (λ (b : Bool). cond b (column_cell w c (fits w own)) Nowhere) drawn_so
       where
-        go : (b : Bool) → cells (λ r. cell_of (fits w own) r.from r.to) (cond b (Words (words_of w c)) Nothing) ≡ cond b (column_cell w c (fits w own)) Nowhere
+        go : (b : Bool) → cells (λ r. cell_of (fits w own) r.from r.to) (cond b (Some (words_of w c)) None) ≡ cond b (column_cell w c (fits w own)) Nowhere
         go true = refl
         go false = refl
 
@@ -136,21 +135,21 @@ module _ {h : Head} {rows : List (List ℕ)} {marks : List ℕ} (held : Held h r
         ∙ ap₂ (λ (a b : Bool). cond (a && b) (column_cell w c (meets w (nth own i))) Nowhere) drawn_so (sym t)
       where
         go : (b : Bool)
-            → cells (λ r. cond u (cell_of (meets w (nth own i)) r.from r.to) Nowhere) (cond b (Words (words_of w c)) Nothing)
+            → cells (λ r. cond u (cell_of (meets w (nth own i)) r.from r.to) Nowhere) (cond b (Some (words_of w c)) None)
             ≡ cond (b && u) (column_cell w c (meets w (nth own i))) Nowhere
         go true = refl
         go false = refl
 
   -- words that are shown are in order and within the width, of a sheet that is not blank
-  pub words_so : {v : Run} → Words v ≡ shown h.stands w c → Laid h v
+  pub words_so : {v : Run} → Some v ≡ shown h.stands w c → Laid h v
   unfolding shown
   words_so {v = v} s = go test refl s
     where
-      run : Shown → Run
-      run (Words r) = r
-      run Nothing = v
+      run : Option Run → Run
+      run (Some r) = r
+      run None = v
 
-      go : (b : Bool) → b ≡ test → Words v ≡ cond b (Words (words_of w c)) Nothing → Laid h v
+      go : (b : Bool) → b ≡ test → Some v ≡ cond b (Some (words_of w c)) None → Laid h v
       go true p e =
           let (a, r) = both_pass h.stands _ (sym p) in
           let (b, d) = both_pass (not (eqb w 0)) _ r in

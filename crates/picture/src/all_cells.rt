@@ -4,29 +4,26 @@ ghost use Rattle.std.specs.Prelude.{◌≡◌};
 ghost use Rattle.picture.specs.Picture.{all_cell};
 
 use crate::shade::Cell;
-use crate::{Shown, words_of};
+use crate::words_of;
 use rule::Rule;
 use search::rows::{InForce, NUMBERS};
 use sheet::Sheet;
 use word::Width;
 
-// A column by all rules in force: any record, and any number.
+/// A column by all rules in force: any record, and any number.
 pub fn all_at(sheet: Sheet, column: u64) -> Cell
     ensures { result ≡ all_cell sheet column }
 {
     let mut rows = [[0; NUMBERS]; Rule::LIMIT];
     let head = sheet::laid_rows::lay_out(sheet, &mut rows);
     let bits = head.opening.width;
-    let count = head.counts.count;
-    let fixed = head.fixed;
-    let Shown::Words(words) = words_of(head.stands, bits, column) else {
+    let Some(words) = words_of(head.stands, bits, column) else {
         return Cell::Nowhere;
     };
-    let width = Width { bits };
     let force = InForce {
-        count,
-        fixed,
-        width,
+        count: head.counts.count,
+        fixed: head.fixed,
+        width: Width { bits },
     };
     crate::shade::stretch(&rows, force, words)
 }

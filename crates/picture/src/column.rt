@@ -7,12 +7,12 @@ ghost use Rattle.picture.specs.column.Column.{columns, size, words_of};
 use rule::band::Run;
 use word::Width;
 
-// As many columns as a picture has at most, which are the words of so many bits.
+/// As many columns as a picture has at most, which are the words of so many bits.
 pub const COLUMNS: u64 = 64;
 
 const BITS: u64 = 6;
 
-// How many columns there are.
+/// How many columns there are.
 pub fn count(width: Width) -> u64
     requires { IsWidth width.bits }
     ensures { result ≡ columns width.bits }
@@ -37,7 +37,7 @@ fn size(width: Width) -> u64
     rest.top() + 1
 }
 
-// The words of a column.
+/// The words of a column.
 pub fn words(width: Width, column: u64) -> Run
     requires width { IsWidth width.bits }
     requires column_bound { column < columns width.bits }

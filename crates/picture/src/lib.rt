@@ -19,49 +19,36 @@ use rule::bits::Fixed;
 use search::rows::{InForce, NUMBERS};
 use word::Width;
 
-// What there is to draw of a column: its words, or nothing.
-#[derive(Clone, Copy)]
-pub enum Shown {
-    Words(Run),
-    Nothing,
-}
-
-// A column's words, where there is a sheet that is not blank and such a column.
+/// A column's words, where there is a sheet that is not blank and such a column.
 #[tactic(auto, using(crate::proofs::SearchWordsOf::wanted), unfolding(crate::specs::route::Shown::shown))]
-pub fn words_of(stands: bool, bits: u64, column: u64) -> Shown
+pub fn words_of(stands: bool, bits: u64, column: u64) -> Option<Run>
     requires { stands ≡ true → (bits ≡ 0 → ⊥) → IsWidth bits }
     ensures { result ≡ shown stands bits column }
 {
-    if !stands {
-        return Shown::Nothing;
-    }
-    if bits == 0 {
-        return Shown::Nothing;
+    if !stands || bits == 0 {
+        return None;
     }
     let width = Width { bits };
-    if crate::column::count(width) <= column {
-        return Shown::Nothing;
+    if column::count(width) <= column {
+        return None;
     }
-    Shown::Words(crate::column::words(width, column))
+    Some(column::words(width, column))
 }
 
-// The words from one to another by a rule alone.
-pub fn alone(rule: Rule, width: Width, from: u64, to: u64) -> Cell
+/// Words in a row by a rule alone.
+pub fn alone(rule: Rule, width: Width, words: Run) -> Cell
     requires width { IsWidth width.bits }
-    requires lawful { Lawful width.bits rule × (from ≤ to) × (to ≤ top width.bits) }
-    ensures { result ≡ cell_of (meets width.bits rule) from to }
+    requires lawful { Lawful width.bits rule × (words.from ≤ words.to) × (words.to ≤ top width.bits) }
+    ensures { result ≡ cell_of (meets width.bits rule) words.from words.to }
 {
     let mut rows = [[0; NUMBERS]; Rule::LIMIT];
     let band = Band::of(rule, width);
     search::rows::put(&mut rows, 0, rule, band);
     let fixed = Fixed::Bits { mask: 0, value: 0 };
-    crate::shade::stretch(
-        &rows,
-        InForce {
-            count: 1,
-            fixed: fixed.with(rule),
-            width,
-        },
-        Run { from, to },
-    )
+    let force = InForce {
+        count: 1,
+        fixed: fixed.with(rule),
+        width,
+    };
+    shade::stretch(&rows, force, words)
 }

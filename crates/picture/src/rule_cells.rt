@@ -4,13 +4,13 @@ ghost use Rattle.std.specs.Prelude.{◌≡◌};
 ghost use Rattle.picture.specs.Picture.{rule_cell};
 
 use crate::shade::Cell;
-use crate::{Shown, alone, words_of};
+use crate::{alone, words_of};
 use rule::Rule;
 use search::rows::NUMBERS;
 use sheet::Sheet;
 use word::Width;
 
-// A column by one rule in force, by its number.
+/// A column by one rule in force, by its number.
 pub fn rule_at(sheet: Sheet, number: usize, column: u64) -> Cell
     ensures { result ≡ rule_cell sheet number column }
 {
@@ -18,13 +18,12 @@ pub fn rule_at(sheet: Sheet, number: usize, column: u64) -> Cell
     let head = sheet::laid_rows::lay_out(sheet, &mut rows);
     let bits = head.opening.width;
     let in_force = head.counts.count;
-    let Shown::Words(words) = words_of(head.stands, bits, column) else {
+    let Some(words) = words_of(head.stands, bits, column) else {
         return Cell::Nowhere;
     };
     if in_force <= number {
         return Cell::Nowhere;
     }
-    let width = Width { bits };
     let rule = search::rows::rule_at(&rows, number);
-    alone(rule, width, words.from, words.to)
+    alone(rule, Width { bits }, words)
 }

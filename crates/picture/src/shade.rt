@@ -11,10 +11,10 @@ ghost use Rattle.picture.specs.shade.Cell.{cell_of};
 use rule::Rule;
 use rule::band::Run;
 use rule::bits::Fixed;
-use search::rows::InForce;
+use search::rows::{InForce, NUMBERS};
 
-// A cell of a picture. Where there is no sheet, no such rule or no such column, there is none.
-#[derive(Clone, Copy)]
+/// A cell of a picture. Where there is no sheet, no such rule or no such column, there is none.
+#[derive(Clone, Copy, PartialEq, Eq)]
 pub enum Cell {
     Fails,
     Meets,
@@ -22,12 +22,8 @@ pub enum Cell {
     Nowhere,
 }
 
-// Words in a row, by the bands in force and the bits.
-pub fn stretch(
-    rows: &[[u64; search::rows::NUMBERS]; Rule::LIMIT],
-    force: InForce,
-    words: Run,
-) -> Cell
+/// Words in a row, by the bands in force and the bits.
+pub fn stretch(rows: &[[u64; NUMBERS]; Rule::LIMIT], force: InForce, words: Run) -> Cell
     requires width { IsWidth force.width.bits }
     requires lie { Lie (top force.width.bits) force.count (bands_in rows.now) }
     requires tidy { Tidy force.fixed × (words.from ≤ words.to) × (words.to ≤ top force.width.bits) }
@@ -47,31 +43,21 @@ pub fn stretch(
 
 // Whether every word of a row passes: the section that begins with it is held as far, and all its words have the bits.
 #[tactic(auto, using(crate::proofs::shade::SearchAllPass::wanted))]
-fn all_pass(rows: &[[u64; search::rows::NUMBERS]; Rule::LIMIT], force: InForce, words: Run) -> bool
+fn all_pass(rows: &[[u64; NUMBERS]; Rule::LIMIT], force: InForce, words: Run) -> bool
     requires width { IsWidth force.width.bits }
     requires lie { Lie (top force.width.bits) force.count (bands_in rows.now) }
     requires tidy { Tidy force.fixed × (words.from ≤ words.to) × (words.to ≤ top force.width.bits) }
     ensures { result ≡ every_word (passes (take force.count (bands_in rows.now)) force.fixed) words.from words.to }
 {
     let section = search::section::at(rows, force.count, force.width.top(), words.from);
-    if !section.held {
-        return false;
-    }
-    if section.to < words.to {
-        return false;
-    }
-    let fixed = force.fixed;
-    all_have(fixed, words.from, words.to)
+    section.held && words.to <= section.to && all_have(force.fixed, words)
 }
 
-// Whether every word from one to another has the bits: as many have them as there are, the last by itself.
-fn all_have(fixed: Fixed, from: u64, to: u64) -> bool
-    requires { Tidy fixed × (from ≤ to) }
-    ensures { result ≡ every_word (has_bits fixed) from to }
+// Whether every word of a row has the bits: as many have them as there are, the last by itself.
+fn all_have(fixed: Fixed, words: Run) -> bool
+    requires { Tidy fixed × (words.from ≤ words.to) }
+    ensures { result ≡ every_word (has_bits fixed) words.from words.to }
 {
-    let having = rule::rank::below(fixed, to) - rule::rank::below(fixed, from);
-    if having != to - from {
-        return false;
-    }
-    fixed.has(to)
+    let having = rule::rank::below(fixed, words.to) - rule::rank::below(fixed, words.from);
+    having == words.to - words.from && fixed.has(words.to)
 }

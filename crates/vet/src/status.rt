@@ -3,7 +3,7 @@
 ghost use Rattle.std.specs.Prelude.{◌≡◌};
 ghost use Rattle.vet.specs.status.Status.{status_of};
 
-use checker::finding::Finding;
+use checker::finding::Breach;
 
 pub const YES: u8 = 0;
 
@@ -12,11 +12,8 @@ pub const NO: u8 = 1;
 pub const MISTAKE: u8 = 2;
 
 // The status of what is found of a chain.
-pub fn of(found: Finding) -> u8
+pub fn of(found: Result<(), Breach>) -> u8
     ensures { result ≡ status_of found }
 {
-    if found.is_yes() {
-        return YES;
-    }
-    NO
+    if found.is_ok() { YES } else { NO }
 }

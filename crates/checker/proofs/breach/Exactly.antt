@@ -9,6 +9,8 @@ use native.Mathlib.Omega.{arith}
 use borrow.Author.Tests.{eq-eqb, eqb-true, le-leb, leb-true, ltb-true, ne_eqb}
 use lib.Dec.{eqb, leb, ltb}
 use lib.ListN.{length}
+use Rattle.std.specs.Prelude.{Ok}
+use Rattle.std.specs.Result.{is_ok}
 use Rattle.word.specs.Word.{top}
 use Rattle.word.proofs.Tests.{both_pass, same_test}
 use Rattle.rule.specs.declared.Rule.{Rule}
@@ -24,25 +26,9 @@ use Rattle.checker.specs.covering.route.Route.{covered}
 use Rattle.checker.proofs.covering.Covering.{covers_shown, shown_covers, shows_is, shows_order, shows_reason}
 use Rattle.checker.proofs.covering.EveryWord.{misses}
 use Rattle.checker.proofs.covering.Midway.{covered_none, covered_some}
-use Rattle.checker.specs.finding.Clauses.{first_broken, is_yes, lie_clauses, list_clauses, reason_clauses}
+use Rattle.checker.specs.finding.Clauses.{first_broken, lie_clauses, list_clauses, reason_clauses}
 use Rattle.checker.specs.finding.First.{all_hold}
-use Rattle.checker.proofs.finding.Broken.{telling, yes_all}
-
--- every clause finds something
-pub lies_telling : (t i e : ℕ) (l : Link) → telling (lie_clauses t i e l) ≡ true
-unfolding lie_clauses every is_yes
-lies_telling t i e l = refl
-
-pub reasons_telling : (w : ℕ) (rs : List Rule) (i : ℕ) (l : Link) → telling (reason_clauses w rs i l) ≡ true
-unfolding reason_clauses every is_yes
-reasons_telling w rs i l = refl
-
-pub list_telling : (w : ℕ) (rs : List Rule) (i e : ℕ) (ls : List Link) → telling (list_clauses w rs i e ls) ≡ true
-unfolding list_clauses every is_yes
-list_telling w rs i e [] = refl
-list_telling w rs i e (l ∷ ls) =
-    every_append _ (lie_clauses (top w) i e l) _
-    ∙ ap₂ ◌&&◌ (lies_telling (top w) i e l) (every_append _ (reason_clauses w rs i l) _ ∙ ap₂ ◌&&◌ (reasons_telling w rs i l) (list_telling w rs (suc i) (max e l.to) ls))
+use Rattle.checker.proofs.finding.Broken.{ok_all}
 
 -- ---- one link
 
@@ -72,9 +58,9 @@ lies_so t i e l h =
     let b = both_pass (leb l.to t) _ a.1 in
     (leb-true _ _ a.0, leb-true _ _ b.0, leb-true _ _ (sym (start_as i e l.from) ∙ b.1))
 
-pub in_place : (t i e : ℕ) (l : Link) → is_yes (first_broken (lie_clauses t i e l)) ≡ true → (l.from ≤ l.to) × (l.to ≤ t)
+pub in_place : (t i e : ℕ) (l : Link) → first_broken (lie_clauses t i e l) ≡ Ok tt → (l.from ≤ l.to) × (l.to ≤ t)
 in_place t i e l y =
-    let o = lies_so t i e l (sym (yes_all (lie_clauses t i e l) (lies_telling t i e l)) ∙ y) in (o.0, o.1)
+    let o = lies_so t i e l (sym (ok_all (lie_clauses t i e l)) ∙ ap is_ok y) in (o.0, o.1)
 
 so_lies : (t i e : ℕ) (l : Link) → l.from ≤ l.to → l.to ≤ t → l.from ≤ covered i e → all_hold (lie_clauses t i e l) ≡ true
 unfolding lie_clauses every
@@ -134,10 +120,10 @@ module _ (w : ℕ) (rs : List Rule) (few : length rs ≤ BITS) (some : 1 ≤ top
       ∙ ap₂ ◌&&◌ (reason_as w rs i l few ∙ shows_reason w rs l s)
       (covers_holds (suc i) (max e l.to) ls (λ d. absurd (omega arith)) (subst (λ (n : ℕ). Covers w rs n ls) (covered_next i e l.to z) c)))
 
-  pub yes_shown : (ls : List Link) → is_yes (first_broken (list_clauses w rs 0 0 ls)) ≡ shown w rs ls
+  pub yes_shown : (ls : List Link) → is_ok (first_broken (list_clauses w rs 0 0 ls)) ≡ shown w rs ls
   yes_shown ls =
       let none = covered_none 0 0 refl in
-      yes_all (list_clauses w rs 0 0 ls) (list_telling w rs 0 0 ls)
+      ok_all (list_clauses w rs 0 0 ls)
       ∙ same_test (all_hold (list_clauses w rs 0 0 ls)) (shown w rs ls)
       (λ h. covers_shown w rs ls (subst (λ (n : ℕ). Covers w rs n ls) none (holds_covers 0 0 ls (λ z. refl) h)))
       (λ h. covers_holds 0 0 ls (λ z. refl) (subst (λ (n : ℕ). Covers w rs n ls) (sym none) (shown_covers w rs ls h)))

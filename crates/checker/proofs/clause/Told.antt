@@ -1,9 +1,9 @@
--- What is found of a record and a list is that of the first clause that does not hold, and of no other; and what the clauses say of the
+-- What is found of a record and a list is the breach of the first clause that does not hold, and no other; and what the clauses say of the
 -- table's lists, by computing. Assumes nothing.
 use mathlib.Core.Path.{◌≡◌, refl}
-use mathlib.Core.Bool.{false}
 use mathlib.Core.List.{List, map}
 use Prim.Native.Nat.{ℕ}
+use Rattle.std.specs.Prelude.{Err}
 use Rattle.word.specs.declared.Edition.{Edition}
 use Rattle.word.specs.declared.Edition.TheVariants.{New, Old}
 use Rattle.word.specs.Edition.{same, terms}
@@ -20,19 +20,19 @@ use Rattle.sheet.specs.declared.Sheet.{Sheet}
 use Rattle.sheet.specs.Record.{fresh}
 use Rattle.sheet.specs.route.Shape.{is_sheet}
 use Rattle.checker.specs.covering.Check.{all_of, every_word, links_in}
-use Rattle.checker.specs.declared.finding.Finding.{Finding}
-use Rattle.checker.specs.finding.Clauses.{first_broken, is_yes, lie_clauses, list_clauses, reason_clauses, smallest, the_word}
+use Rattle.checker.specs.declared.finding.Breach.{Breach}
+use Rattle.checker.specs.finding.Clauses.{first_broken, lie_clauses, list_clauses, reason_clauses, smallest, the_word}
 use Rattle.checker.specs.finding.First.{IsFirst}
 use Rattle.checker.proofs.finding.Broken.{is_first, only_first}
 use Rattle.checker.specs.clause.Examples.{Example, examples}
 use Rattle.checker.specs.clause.Finding.{clauses_of, finding}
 
 module _ (s : Sheet) (ns : List ℕ) where
-  pub the_first : is_yes (finding s ns) ≡ false → IsFirst (clauses_of s ns) (finding s ns)
+  pub the_first : (f : Breach) → finding s ns ≡ Err f → IsFirst (clauses_of s ns) f
   unfolding finding
-  the_first n = is_first (clauses_of s ns) n
+  the_first f n = is_first (clauses_of s ns) f n
 
-  pub no_second : (f : Finding) → IsFirst (clauses_of s ns) f → f ≡ finding s ns
+  pub no_second : (f : Breach) → IsFirst (clauses_of s ns) f → Err f ≡ finding s ns
   unfolding finding
   no_second f i = only_first (clauses_of s ns) f i
 

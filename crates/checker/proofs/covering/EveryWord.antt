@@ -1,16 +1,15 @@
--- "Every word" said by search is every word: by induction on the words left. So the end of a run that a climb finds, and the next
--- word that a search finds, tell whether every word of a link misses. Assumes nothing.
+-- "Every word" said by search is every word: by induction on the words left. So the next word that a search finds tells whether every
+-- word of a link misses. Assumes nothing.
 use mathlib.Core.Path.{◌≡◌, refl, sym, ap, ◌∙◌}
 use mathlib.Core.Bool.{Bool, true, false, false≢true, not}
 use Prim.Native.Nat.{ℕ, zero, suc, ◌+◌, ◌-◌, ◌≤◌, ◌<◌}
 use native.Mathlib.Nat.{le_refl}
 use native.Mathlib.Decide.{dec_lt, ℕ_discrete}
 use native.Mathlib.Omega.{arith}
-use borrow.Author.Tests.{le-leb, leb-true, lt-ltb, ltb-true, not-true}
-use lib.Dec.{leb, ltb}
+use borrow.Author.Tests.{lt-ltb, ltb-true, not-true}
+use lib.Dec.{ltb}
 use Rattle.std.specs.Prelude.{Some, None}
-use Rattle.word.specs.Search.{climb, first}
-use Rattle.word.proofs.Climb.{all_miss, climb_is, no_further}
+use Rattle.word.specs.Search.{first}
 use Rattle.word.proofs.Searched.{First, first_is, first_nothing}
 use Rattle.word.proofs.Tests.{both_pass, same_test}
 use Rattle.checker.specs.covering.Check.{all_of, every_word}
@@ -58,17 +57,6 @@ module _ (f : ℕ → Bool) (p q : ℕ) where
 
   misses_all : ((x : ℕ) → p ≤ x → x ≤ q → f x ≡ false) → misses ≡ true
   misses_all h = each_every (λ (y : ℕ). not (f y)) p q (λ x a b. ap not (h x a b))
-
-  pub first_passes : p ≤ q → f p ≡ true → false ≡ misses
-  first_passes h t =
-      same_test false misses (λ e. absurd (false≢true e)) (λ e. absurd (false≢true (sym (missed e p (le_refl p) h) ∙ t)))
-
-  -- from a word that misses one can climb as far
-  pub run_misses : (t : ℕ) → p ≤ q → q ≤ t → f p ≡ false → leb q (climb f (t - p) p) ≡ misses
-  run_misses t l h n =
-      let c = climb_is f (t - p) p t (omega arith) in
-      same_test _ misses (λ e. misses_all (λ x a b. all_miss f c n x a (omega (arith, leb-true q (climb f (t - p) p) e))))
-      (λ e. le-leb _ _ (no_further f c q h (λ y a b. missed e y (omega arith) b)))
 
   -- the next word that passes comes after, or there is none
   pub next_after : (k x : ℕ) → first f k p ≡ Some x → ltb q x ≡ misses

@@ -1,6 +1,6 @@
--- The paper's clauses on a list of links (02, K3), a row each, in order: whether it holds, and what is found where it does not. A sentence
+-- The paper's clauses on a list of links (02, K3), a row each, in order: whether it holds, and the breach where it does not. A sentence
 -- of the paper stands above each row.
-use Rattle.std.specs.Prelude.{Bool, true, false, not, ◌||◌, cond, List, [], ◌∷◌, ◌++◌, ℕ, suc, max, ◌-◌, eqb, leb, ltb, length}
+use Rattle.std.specs.Prelude.{Bool, not, ◌||◌, cond, List, [], ◌∷◌, ◌++◌, ℕ, suc, max, ◌-◌, eqb, leb, ltb, length, Result, Ok, Err}
 use Rattle.std.specs.Prelude.{Option}
 use Rattle.std.specs.Prelude.{Some, None}
 use Rattle.word.specs.Word.{top}
@@ -10,37 +10,21 @@ use Rattle.rule.specs.Meaning.{meets, meets7}
 use Rattle.chain.specs.declared.Link.{Link}
 use Rattle.chain.specs.Links.{BITS, nth}
 use Rattle.checker.specs.covering.Check.{every_word}
-use Rattle.checker.specs.declared.finding.Finding.{Finding}
-use Rattle.checker.specs.declared.finding.Finding.TheVariants.{AboveTop, Backward, BitRule, Empty, Gap, MeetsBits, MeetsRule, NoRule, NoSheet, NotFromZero, Ragged, Short, Yes}
+use Rattle.checker.specs.declared.finding.Breach.{Breach}
+use Rattle.checker.specs.declared.finding.Breach.TheVariants.{AboveTop, Backward, BitRule, Gap, MeetsBits, MeetsRule, NoRule, NotFromZero, Short}
 
--- a clause: whether it holds, and what is found where it does not
+-- a clause: whether it holds, and the breach where it does not
 pub record Clause : Type 0 where
   pub holds : Bool
-  pub found : Finding
+  pub found : Breach
 
-abbrev pub clause : Bool → Finding → Clause
+abbrev pub clause : Bool → Breach → Clause
 clause b f = record { holds = b; found = f }
 
--- the first clause that does not hold, or yes
-unfoldable pub first_broken : List Clause → Finding
-first_broken [] = Yes
-first_broken (c ∷ cs) = cond c.holds (first_broken cs) c.found
-
--- nothing is found
-unfoldable pub is_yes : Finding → Bool
-is_yes Yes = true
-is_yes NoSheet = false
-is_yes Empty = false
-is_yes Ragged = false
-is_yes (Backward i) = false
-is_yes (AboveTop i) = false
-is_yes (NotFromZero i) = false
-is_yes (Gap i) = false
-is_yes (NoRule i) = false
-is_yes (BitRule i) = false
-is_yes (MeetsRule i x) = false
-is_yes (MeetsBits i x) = false
-is_yes Short = false
+-- the breach of the first clause that does not hold, if there is one
+unfoldable pub first_broken : List Clause → Result Unit Breach
+first_broken [] = Ok tt
+first_broken (c ∷ cs) = cond c.holds (first_broken cs) (Err c.found)
 
 -- the smallest word of a link that passes a test
 unfoldable pub the_word : Option ℕ → ℕ

@@ -1,9 +1,9 @@
--- The same with no search: what is found is that of a clause that does not hold, and every clause before it holds. That the finding is
+-- The same with no search: the breach is that of a clause that does not hold, and every clause before it holds. That the breach is
 -- this, and no other is, is proved (proofs/Broken.antt).
 use Rattle.std.specs.Prelude.{◌≡◌, Bool, true, false, List, ◌∷◌, ◌++◌, ℕ, ◌≤◌, ◌<◌}
 use Rattle.rule.specs.accept.Accept.{every}
 use Rattle.chain.specs.declared.Link.{Link}
-use Rattle.checker.specs.declared.finding.Finding.{Finding}
+use Rattle.checker.specs.declared.finding.Breach.{Breach}
 use Rattle.checker.specs.finding.Clauses.{Clause}
 
 -- every clause of the list holds
@@ -11,7 +11,7 @@ abbrev pub all_hold : List Clause → Bool
 all_hold cs = every (λ (c : Clause). c.holds) cs
 
 -- clauses that hold, one that does not, and any after it
-pub record IsFirst (cs : List Clause) (f : Finding) : Type 0 where
+pub record IsFirst (cs : List Clause) (f : Breach) : Type 0 where
   pub before : List Clause
   pub broken : Clause
   pub after : List Clause

@@ -12,7 +12,7 @@ use lib.ListN.{length, length-append}
 use Rattle.word.specs.declared.Edition.{Edition}
 use Rattle.word.proofs.Tests.{both_pass}
 use Rattle.rule.specs.declared.Rule.{Rule}
-use Rattle.rule.specs.Meaning.{RULES, fits}
+use Rattle.rule.specs.Meaning.{RULES}
 use Rattle.word.specs.Search.{count, first, last}
 use Rattle.search.specs.verdict.Kept.{kept, verdict_of}
 use Rattle.page.specs.declared.Opening.{Opening}

@@ -109,11 +109,3 @@ module _ {s : Sheet} {t : Bool} (tells : t ≡ true ↔ IsSheet s) where
       let p = is_standing e w in
       refused p x b (short_number p.on x (length b) (subst (λ (w : ℕ). x ≤ top w) (known p).width l) (omega (arith, (known p).count))) z
   refused_why b (own_word e w l k) z = absurd (z refl)
-
-  -- what is not refused has a page, the word is one of its width, and there is room
-  pub passed : {x m n : ℕ} → WhySeen t s.width s.count x m n → n ≡ 0 → Standing s × (x ≤ top s.width) × (s.count ≤ m)
-  passed (not_sheet e) z = absurd (omega arith)
-  passed (blank e w) z = absurd (omega arith)
-  passed (high_word e w l) z = absurd (omega arith)
-  passed (short_room e w l k) z = absurd (omega arith)
-  passed (own_word e w l k) z = (is_standing e w, l, k)

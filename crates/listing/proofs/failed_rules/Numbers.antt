@@ -88,10 +88,9 @@ module _ (b xs : List ℕ) (i : ℕ) (m : Bool) {ys out : List ℕ} {n : ℕ} (m
         ap₂ (λ (l : List ℕ) (k : ℕ). set l k i) so size ∙ put_one b xs i h ∙ ap (λ (l : List ℕ). at_start l b) (sym same),
       )
 
--- the first n rules are lawful, and so is each of them
-pub lawful_at : (w n : ℕ) (rs : List Rule) (i : ℕ) → i < n → i < length rs → AllLawful w (take n rs) → Lawful w (get_or rs i no_rule)
+-- each of lawful rules is lawful
+pub lawful_at : (w : ℕ) (rs : List Rule) (i : ℕ) → i < length rs → AllLawful w rs → Lawful w (get_or rs i no_rule)
 unfolding AllLawful
-lawful_at w zero rs i h k l = absurd (omega arith)
-lawful_at w (suc n) [] i h k l = absurd (omega arith)
-lawful_at w (suc n) (r ∷ rs) zero h k l = l.0
-lawful_at w (suc n) (r ∷ rs) (suc i) h k l = lawful_at w n rs i (omega arith) (omega arith) l.1
+lawful_at w [] i k l = absurd (omega arith)
+lawful_at w (r ∷ rs) zero k l = l.0
+lawful_at w (r ∷ rs) (suc i) k l = lawful_at w rs i (omega arith) l.1

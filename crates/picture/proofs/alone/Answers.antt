@@ -26,6 +26,6 @@ stretch-requires c = record { width = c.requires.width; lie = alone_lies _ c.req
 pub returns : goal.returns
 returns c =
     c.stretch.ensures
-    ∙ ap (λ (f : Fixed). cell_of (passes (take 1 (bands_in c.put.new.rows)) f) c.args.from c.args.to) c.with.ensures
-    ∙ by_fits _ c.requires.width.low _ _ (c.args.rule ∷ []) (alone_of _ c.requires.width c.args.rule c.requires.lawful.0 (replicate RULES no_row) _ refl (laid (goal.at.returns c).After-put)) c.args.from c.args.to c.requires.lawful.2
-    ∙ by_meets c.args.width.bits c.args.rule c.args.from c.args.to
+    ∙ ap (λ (f : Fixed). cell_of (passes (take 1 (bands_in c.put.new.rows)) f) c.args.words.from c.args.words.to) c.with.ensures
+    ∙ by_fits _ c.requires.width.low _ _ (c.args.rule ∷ []) (alone_of _ c.requires.width c.args.rule c.requires.lawful.0 (replicate RULES no_row) _ refl (laid (goal.at.returns c).After-put)) c.args.words.from c.args.words.to c.requires.lawful.2
+    ∙ by_meets c.args.width.bits c.args.rule c.args.words.from c.args.words.to

@@ -1,102 +1,75 @@
 -- `first` meets its contract. The loop's invariant: what is found of all links is what is found of those from this place on, where so many
--- stand before it and the largest end so far is known. The measure is the numbers left. Assumes nothing.
-use mathlib.Core.Path.{◌≡◌, refl, sym, ap, ap₂, ◌∙◌, subst₂}
-use mathlib.Core.Bool.{true}
-use mathlib.Core.List.{List}
-use Prim.Native.Nat.{ℕ, max, ◌+◌, ◌-◌, ◌≤◌}
-use native.Mathlib.Nat.{le_antisymm}
-use native.Mathlib.Numerals.{add-one}
+-- stand before it and the largest end so far is known. Assumes nothing.
+use mathlib.Core.Path.{◌≡◌, refl, sym, ap, ◌∙◌}
+use mathlib.Core.List.{List, []}
+use Prim.Native.Nat.{ℕ, suc, max, ◌+◌, ◌*◌, ◌/◌, ◌≤◌}
 use native.Mathlib.Omega.{arith}
-use lib.ListN.{length, take}
+use lib.ListN.{get_or, length}
+use Rattle.std.specs.Prelude.{Err}
+use Rattle.std.proofs.lemmas.Result.{err_from_is_err_and}
 use Rattle.word.specs.Word.{top}
-use Rattle.rule.specs.declared.Rule.{Rule}
-use Rattle.rule.proofs.accept.Choices.{failed, passed}
-use Rattle.search.specs.rows.route.Rows.{rules_in}
 use Rattle.chain.specs.declared.Link.{Link}
 use Rattle.chain.specs.Links.{link_from}
-use Rattle.checker.specs.finding.Clauses.{first_broken, is_yes, lie_clauses, reason_clauses}
 use Rattle.checker.proofs.breach.Exactly.{in_place}
-use Rattle.checker.proofs.breach.Walk.{Midway, at_first, at_next, at_top, below_top, wrong_place, wrong_reason}
-use Rattle.std.proofs.lemmas.Bool.{not_from_false, not_from_true}
-use Rattle.checker.proofs.breach.first.Goals.{After-is_yes, After-is_yes-in-loop-at, After-lies-lies, After-shows-shows, At-loop-at, Else-not-is_yes, In-loop-at, Joined-end-read, else-end-read, then-end-read}
+use Rattle.checker.proofs.breach.Walk.{at_first, at_next, at_top, below_top, moved, placed, reasoned, three_link, wrong_place, wrong_reason}
+use Rattle.checker.proofs.breach.first.Goals.{After-link_from-link, In-loop-number}
 use Rattle.checker.proofs.breach.first.Goals as goal
 
-abbrev own : (l : At-loop-at) → List Rule
-own l = take l.args.force.count (rules_in l.args.rows.now)
-
 -- there is a whole link at this place
-room : (b : In-loop-at) → b.loop-at.at + 3 ≤ length b.args.links.now
-room b = omega (arith, b.loop-at.invariant.0, b.loop-at.invariant.1, b.loop-at-test.true, b.requires.tidy.1)
+room : (b : In-loop-number) → 3 * b.loop-number.number + 3 ≤ length b.args.links.now
+room b = omega (arith, b.loop-number-test.true, b.as_chunks.ensures.front_len)
 
--- the link that is read, and what is found of where it lies
-abbrev link : In-loop-at → Link
-link b = link_from b.args.links.now b.loop-at.at
+-- the link that is read
+abbrev link : In-loop-number → Link
+link b = link_from b.args.links.now (3 * b.loop-number.number)
 
-placed : (f : After-lies-lies) → f.lies-lies.result ≡ first_broken (lie_clauses (top f.args.force.width.bits) f.loop-at.number f.loop-at.end (link_from f.args.links.now f.loop-at.at))
-placed f =
-    f.lies-lies.ensures
-    ∙ ap₂ (λ (t : ℕ) (r : Link). first_broken (lie_clauses t f.loop-at.number f.loop-at.end r)) f.top-top.ensures f.link_from-read.ensures
+read : (f : After-link_from-link) → f.link_from-link.result ≡ link_from f.args.links.now (3 * f.loop-number.number)
+read f =
+    f.link_from-link.ensures
+    ∙ ap (λ (ns : List (List ℕ)). link_from (get_or ns f.loop-number.number []) 0) f.as_chunks.ensures.front
+    ∙ three_link (length f.args.links.now / 3) f.loop-number.number f.args.links.now [] (omega (arith, f.loop-number-test.true, f.as_chunks.ensures.front_len)) (omega arith)
 
-place-told : (y : After-is_yes) → y.is_yes.result ≡ is_yes (first_broken (lie_clauses (top y.args.force.width.bits) y.loop-at.number y.loop-at.end (link_from y.args.links.now y.loop-at.at)))
-place-told y = y.is_yes.ensures ∙ ap is_yes (let placed-1 : y.lies-lies.result ≡ first_broken (lie_clauses (top y.args.force.width.bits) y.loop-at.number y.loop-at.end (link_from y.args.links.now y.loop-at.at)) = y.lies-lies.ensures
-    ∙ ap₂ (λ (t : ℕ) (r : Link). first_broken (lie_clauses t y.loop-at.number y.loop-at.end r)) y.top-top.ensures y.link_from-read.ensures in placed-1)
+pub loop-number-init : goal.loop-number-init
+loop-number-init c = at_first _ _ _
 
-lies_so : (c : Else-not-is_yes) → is_yes (first_broken (lie_clauses (top c.args.force.width.bits) c.loop-at.number c.loop-at.end (link_from c.args.links.now c.loop-at.at))) ≡ true
-lies_so c = passed (let place-told-3 : c.is_yes.result ≡ is_yes (first_broken (lie_clauses (top c.args.force.width.bits) c.loop-at.number c.loop-at.end (link_from c.args.links.now c.loop-at.at))) = c.is_yes.ensures ∙ ap is_yes (let placed-2 : c.lies-lies.result ≡ first_broken (lie_clauses (top c.args.force.width.bits) c.loop-at.number c.loop-at.end (link_from c.args.links.now c.loop-at.at)) = c.lies-lies.ensures
-    ∙ ap₂ (λ (t : ℕ) (r : Link). first_broken (lie_clauses t c.loop-at.number c.loop-at.end r)) c.top-top.ensures c.link_from-read.ensures in placed-2) in place-told-3) (not_from_true _ c.if-not-is_yes.false)
+pub returns-in_err-lies : goal.returns-in_err-lies
+returns-in_err-lies c =
+    let p = err_from_is_err_and c.from_residual.result c.from_residual.ensures.1 in
+    let l = read (goal.at.returns-in_err-lies c).After-link_from-link in
+    let found = placed _ _ _ _ _ _ c.in_err-lies.ensures c.top-top.ensures l in
+    p.1 ∙ ap Err p.2 ∙ wrong_place _ _ _ _ _ _ c.loop-number.invariant (room (goal.at.returns-in_err-lies c).In-loop-number) _ found
 
--- what is found of its reason
-reasoned : (f : After-shows-shows) → f.shows-shows.result ≡ first_broken (reason_clauses f.args.force.width.bits (take f.args.force.count (rules_in f.args.rows.now)) f.loop-at.number (link_from f.args.links.now f.loop-at.at))
-reasoned f =
-    f.shows-shows.ensures ∙ ap (λ (r : Link). first_broken (reason_clauses f.args.force.width.bits (take f.args.force.count (rules_in f.args.rows.now)) f.loop-at.number r)) f.link_from-read.ensures
+pub shows-requires-clause-tidy : goal.shows-requires-clause-tidy
+shows-requires-clause-tidy c =
+    let found = placed _ (top c.args.force.width.bits) _ _ _ c.link_from-link.result c.in_ok-lies.ensures c.top-top.ensures refl in
+    let o = in_place _ _ _ _ found in
+    (c.requires.tidy.0, o.0, o.1)
 
-reason-told : (y : After-is_yes-in-loop-at) → y.is_yes-in-loop-at.result ≡ is_yes (first_broken (reason_clauses y.args.force.width.bits (take y.args.force.count (rules_in y.args.rows.now)) y.loop-at.number (link_from y.args.links.now y.loop-at.at)))
-reason-told y = y.is_yes-in-loop-at.ensures ∙ ap is_yes (let reasoned-4 : y.shows-shows.result ≡ first_broken (reason_clauses y.args.force.width.bits (take y.args.force.count (rules_in y.args.rows.now)) y.loop-at.number (link_from y.args.links.now y.loop-at.at)) = y.shows-shows.ensures ∙ ap (λ (r : Link). first_broken (reason_clauses y.args.force.width.bits (take y.args.force.count (rules_in y.args.rows.now)) y.loop-at.number r)) y.link_from-read.ensures in reasoned-4)
+pub returns-in_err-shows : goal.returns-in_err-shows
+returns-in_err-shows c =
+    let p = err_from_is_err_and c.from_residual-in_err-shows.result c.from_residual-in_err-shows.ensures.1 in
+    let l = read (goal.at.returns-in_err-shows c).After-link_from-link in
+    let b = (goal.at.returns-in_err-shows c).In-loop-number in
+    let lies = placed _ _ _ _ _ _ c.in_ok-lies.ensures c.top-top.ensures l in
+    let found = reasoned _ _ _ _ _ c.in_err-shows.ensures l in
+    p.1 ∙ ap Err p.2 ∙ wrong_reason _ _ _ _ _ _ c.loop-number.invariant (room b) lies _ found
 
-largest : (c : Joined-end-read) → max c.loop-at.end (link_from c.args.links.now c.loop-at.at).to ≡ c.if-end-read.end
-largest c =
-    let e = ap (λ (r : Link). r.to) c.link_from-read.ensures in
-    elim c.if-end-read.branch [ then-end-read a ↦ omega (arith, a.if-end-read.true, a.end-is, e) | else-end-read a ↦ omega (arith, a.if-end-read.false, a.end-is, e) ]
-
-pub loop-at-init : goal.loop-at-init
-loop-at-init c = (omega arith, refl, at_first _ _ _)
-
-pub link_from-read-requires : goal.link_from-read-requires
-link_from-read-requires c = room (goal.at.link_from-read-requires c).In-loop-at
-
-pub returns-then-not-is_yes : goal.returns-then-not-is_yes
-returns-then-not-is_yes c =
-    placed (goal.at.returns-then-not-is_yes c).After-lies-lies ∙ wrong_place _ _ _ _ _ _ c.loop-at.invariant.2 (room (goal.at.returns-then-not-is_yes c).In-loop-at) (failed (place-told (goal.at.returns-then-not-is_yes c).After-is_yes) (not_from_false _ c.if-not-is_yes.true))
-
-pub shows-shows-requires : goal.shows-shows-requires
-shows-shows-requires c =
-    let o = in_place (top c.args.force.width.bits) c.loop-at.number c.loop-at.end (link (goal.at.shows-shows-requires c).In-loop-at) (lies_so (goal.at.shows-shows-requires c).Else-not-is_yes) in record { width = c.requires.width; lie = c.requires.lie; of_lawful = c.requires.of_lawful; tidy = (c.requires.tidy.0, omega (arith, ap (λ (r : Link). r.from) c.link_from-read.ensures, ap (λ (r : Link). r.to) c.link_from-read.ensures), omega (arith, ap (λ (r : Link). r.to) c.link_from-read.ensures)) }
-
-pub returns-then-not-is_yes-2 : goal.returns-then-not-is_yes-2
-returns-then-not-is_yes-2 c =
-    reasoned (goal.at.returns-then-not-is_yes-2 c).After-shows-shows ∙ wrong_reason _ _ _ _ _ _ c.loop-at.invariant.2 (room (goal.at.returns-then-not-is_yes-2 c).In-loop-at) (lies_so (goal.at.returns-then-not-is_yes-2 c).Else-not-is_yes) (failed (reason-told (goal.at.returns-then-not-is_yes-2 c).After-is_yes-in-loop-at) (not_from_false _ c.if-not-is_yes-2.true))
-
-pub overflow_add-number : goal.overflow_add-number
-overflow_add-number c = omega (arith, room (goal.at.overflow_add-number c).In-loop-at, c.loop-at.invariant.1)
-
-pub overflow_add-at : goal.overflow_add-at
-overflow_add-at c = omega (arith, room (goal.at.overflow_add-at c).In-loop-at)
-
-pub loop-at-smaller : goal.loop-at-smaller
-loop-at-smaller c = omega (arith, room (goal.at.loop-at-smaller c).In-loop-at)
-
-pub loop-at-preserved : goal.loop-at-preserved
-loop-at-preserved c = (
-  omega (arith, room (goal.at.loop-at-preserved c).In-loop-at),
-  omega (arith, c.loop-at.invariant.1),
-  subst₂ (λ (i e : ℕ). Midway c.args.force.width.bits (own (goal.at.loop-at-preserved c).At-loop-at) c.args.links.now i (c.loop-at.at + 3) e) (sym (add-one c.loop-at.number)) (largest (goal.at.loop-at-preserved c).Joined-end-read)
-      (at_next _ _ _ _ _ _ c.loop-at.invariant.2 (room (goal.at.loop-at-preserved c).In-loop-at) (lies_so (goal.at.loop-at-preserved c).Else-not-is_yes) (passed (reason-told (goal.at.loop-at-preserved c).After-is_yes-in-loop-at) (not_from_true _ c.if-not-is_yes-2.false))),
-)
+pub loop-number-preserved : goal.loop-number-preserved
+loop-number-preserved c =
+    let l = read (goal.at.loop-number-preserved c).After-link_from-link in
+    let b = (goal.at.loop-number-preserved c).In-loop-number in
+    let lies = placed _ _ _ _ _ _ c.in_ok-lies.ensures c.top-top.ensures l in
+    let found = reasoned _ _ _ _ _ c.in_ok-shows.ensures l in
+    let e = ap (λ (k : Link). max c.loop-number.end k.to) (sym l) ∙ sym c.max-end.ensures in
+    let n : suc c.loop-number.number ≡ c.loop-number.number + 1 = omega arith in
+    let k : 3 * c.loop-number.number + 3 ≡ 3 * (c.loop-number.number + 1) = omega arith in
+    let on = at_next _ _ _ _ _ _ c.loop-number.invariant (room b) lies found in
+    moved _ _ _ n k e on
 
 pub returns-then-end-top : goal.returns-then-end-top
 returns-then-end-top c =
-    at_top _ _ _ _ _ _ c.loop-at.invariant.2 (le_antisymm c.loop-at.invariant.0 c.loop-at-test.false) (omega (arith, c.if-end-top.true, c.top-top.ensures))
+    at_top _ _ _ _ _ _ c.loop-number.invariant (omega (arith, c.loop-number-test.false, c.loop-number.auto, c.as_chunks.ensures.front_len, c.requires.tidy.1)) (omega (arith, c.if-end-top.true, c.top-top.ensures))
 
-pub returns : goal.returns
-returns c =
-    below_top _ _ _ _ _ _ c.loop-at.invariant.2 (le_antisymm c.loop-at.invariant.0 c.loop-at-test.false) (λ t. omega (arith, t, c.if-end-top.false, c.top-top.ensures))
+pub returns-else-end-top : goal.returns-else-end-top
+returns-else-end-top c =
+    below_top _ _ _ _ _ _ c.loop-number.invariant (omega (arith, c.loop-number-test.false, c.loop-number.auto, c.as_chunks.ensures.front_len, c.requires.tidy.1)) (λ t. omega (arith, t, c.if-end-top.false, c.top-top.ensures))

@@ -1,6 +1,6 @@
 -- A route: the clauses on the record and on the length of the list, which stand before those on links (`clause: Finding`).
 use Rattle.std.specs.Prelude.{Bool, not, List, [], ◌∷◌, ℕ, ◌%◌, eqb}
-use Rattle.checker.specs.declared.finding.Finding.TheVariants.{Empty, NoSheet, Ragged}
+use Rattle.checker.specs.declared.finding.Breach.TheVariants.{Empty, NoSheet, Ragged}
 use Rattle.checker.specs.finding.Clauses.{Clause, clause}
 
 unfoldable pub outset_clauses : (stands blank : Bool) (n : ℕ) → List Clause

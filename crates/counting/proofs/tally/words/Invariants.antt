@@ -2,7 +2,6 @@ use mathlib.Core.Path.{◌≡◌}
 use Prim.Native.Nat.{◌+◌, ◌*◌, ◌-◌, ◌≤◌}
 use lib.ListN.{take}
 use Rattle.word.specs.Search.{count}
-use Rattle.word.specs.Word.{top}
 use Rattle.search.specs.rows.route.Bands.{passes}
 use Rattle.search.specs.rows.route.Rows.{bands_in}
 use Rattle.search.specs.section.route.Turns.{turns_from}
@@ -12,8 +11,8 @@ use Rattle.counting.proofs.tally.words.Given as goal
 abbrev pub invariant-loop : goal.invariant-loop
 invariant-loop l =
     (l.p ≤ l.top)
-    × (l.total ≡ totals (count (passes (take l.n (bands_in l.rows)) l.fixed) l.p 0))
-    × (l.counter + turns_from l.top (take l.n (bands_in l.rows)) l.p ≤ 2 * l.n)
+    × (l.total ≡ totals (count (passes (take l.force.count (bands_in l.rows)) l.force.fixed) l.p 0))
+    × (l.counter + turns_from l.top (take l.force.count (bands_in l.rows)) l.p ≤ 2 * l.force.count)
 
 abbrev pub decreases-loop : goal.decreases-loop
 decreases-loop l = l.most - l.counter

@@ -1,7 +1,6 @@
 use mathlib.Core.Path.{◌≡◌}
 use Prim.Native.Nat.{◌+◌, ◌*◌, ◌-◌, ◌≤◌}
 use lib.ListN.{length, take}
-use Rattle.word.specs.Word.{top}
 use Rattle.search.specs.rows.route.Bands.{passes}
 use Rattle.search.specs.rows.route.Rows.{bands_in}
 use Rattle.search.specs.section.route.Turns.{turns_from}

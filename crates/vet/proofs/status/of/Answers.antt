@@ -3,10 +3,10 @@ use mathlib.Core.Path.{sym, ◌∙◌}
 use Rattle.vet.specs.status.Status.{status_of}
 use Rattle.vet.proofs.status.of.Goals as goal
 
-pub returns-then-is_yes : goal.returns-then-is_yes
+pub returns-then-is_ok : goal.returns-then-is_ok
 unfolding status_of
-returns-then-is_yes c = rw (sym c.is_yes.ensures ∙ c.if-is_yes.true)
+returns-then-is_ok c = rw (sym c.is_ok.ensures.value ∙ c.if-is_ok.true)
 
-pub returns : goal.returns
+pub returns-else-is_ok : goal.returns-else-is_ok
 unfolding status_of
-returns c = rw (sym c.is_yes.ensures ∙ c.if-is_yes.false)
+returns-else-is_ok c = rw (sym c.is_ok.ensures.value ∙ c.if-is_ok.false)
