@@ -154,12 +154,6 @@ impl Split {
         }
     }
 
-    /// A line of the program's output, of sheets by their verdicts.
-    pub fn print_verdicts(self, name: &[u8]) {
-        let all = self.joined().compared;
-        crate::trial_lines::verdicts(name, all, self.first, self.second, self.third, self.differ);
-    }
-
     /// Two lines of the program's output, of calls by whether they were refused.
     pub fn print_calls(self, name: &[u8]) {
         self.joined().print(name);
