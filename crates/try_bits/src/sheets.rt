@@ -35,13 +35,15 @@ fn single(way: Way, width: Width) -> Tally
 fn paired(way: Way, width: Width) -> Tally
     requires { Narrow width.bits }
 {
+    (0..1 << (4 * width.bits)).map(|i| two(way, i, width)).sum()
+}
+
+fn two(way: Way, i: u64, width: Width) -> Tally
+    requires { Narrow width.bits }
+{
     let n = direct::size(width);
-    (0..1 << (4 * width.bits))
-        .map(|i| {
-            let rules = [bit_rule(i, width), bit_rule(i / n / n, width)];
-            over_words(way, &rules, width)
-        })
-        .sum()
+    let rules = [bit_rule(i, width), bit_rule(i / n / n, width)];
+    over_words(way, &rules, width)
 }
 
 // The form 7 rule whose constants are the lowest two words of i.

@@ -68,14 +68,17 @@ fn over_firsts(second: Option<Rule>, width: Width) -> Split
 {
     let mut table = direct::BLANK;
     (0..rules::count(width))
-        .map(|i| {
-            let first = rules::numbered(i, width);
-            match second {
-                None => sheet(&[first], width, &mut table),
-                Some(second) => sheet(&[first, second], width, &mut table),
-            }
-        })
+        .map(|i| with_second(rules::numbered(i, width), second, width, &mut table))
         .sum()
+}
+
+fn with_second(first: Rule, second: Option<Rule>, width: Width, table: &mut Table) -> Split
+    requires { Narrow width.bits }
+{
+    match second {
+        None => sheet(&[first], width, table),
+        Some(second) => sheet(&[first, second], width, table),
+    }
 }
 
 // Sheets drawn by a fixed rule, of the widths 1 to 8.

@@ -45,11 +45,16 @@ fn over(bits: u64, by: u64) -> Tried
     let mut table = direct::BLANK;
     let width = Width { bits };
     (1..SHEETS + 1)
-        .map(|i| {
-            let tiles = tiles::laid(draw::spread(bits, i), width);
-            sheet(tiles, width, by, |_, _| (), &mut table)
-        })
+        .map(|i| numbered(i, width, by, &mut table))
         .sum()
+}
+
+fn numbered(i: u64, width: Width, by: u64, table: &mut Table) -> Tried
+    requires narrow { Narrow width.bits }
+    requires by_bound { by < 64 }
+{
+    let tiles = tiles::laid(draw::spread(width.bits, i), width);
+    sheet(tiles, width, by, |_, _| (), table)
 }
 
 // A sheet with each of three wrong expectations: of a reason, of a last word and of how many links there are.
