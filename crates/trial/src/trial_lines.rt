@@ -8,17 +8,6 @@ pub fn compared(name: &[u8], all: u64, differ: u64) {
     io::write_all(1, b" differ\n");
 }
 
-// Sheets by their verdicts.
-pub fn verdicts(name: &[u8], all: u64, none: u64, one: u64, many: u64, differ: u64) {
-    io::write_all(1, name);
-    field(b" ", all);
-    field(b" compared: ", none);
-    field(b" none, ", one);
-    field(b" one, ", many);
-    field(b" many, ", differ);
-    io::write_all(1, b" differ\n");
-}
-
 // Calls by whether they were refused.
 pub fn calls(name: &[u8], accepted: u64, refused: u64) {
     io::write_all(1, name);

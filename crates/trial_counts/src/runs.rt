@@ -5,7 +5,6 @@ ghost use Rattle.std.specs.Prelude.{◌<◌};
 use crate::pieces::{MIXED, WORDS, Words};
 use crate::total::Total;
 use rule::Rule;
-use trial::trial_wheel::bit_rules::FEW;
 use trial::trial_wheel::wheel::Wheel;
 use trial_sheets::trial_wide::stretches;
 use trial_sheets::trial_wide::stretches::STRETCHES;
@@ -21,11 +20,10 @@ struct Wanted {
     pub value: u64,
 }
 
-fn all_wanted(rules: [Rule; FEW]) -> Wanted {
+fn all_wanted(rules: &[Rule]) -> Wanted {
     let mut mask = 0;
     let mut value = 0;
-    for i in 0..FEW {
-        let rule = rules[i];
+    for rule in rules {
         if rule.form == 7 {
             mask = mask | rule.c1;
             value = value | rule.c2;
@@ -35,20 +33,14 @@ fn all_wanted(rules: [Rule; FEW]) -> Wanted {
 }
 
 // Whether the word of the wanted bits has not what one of the rules wants: then no word has it all.
-fn is_clash(rules: [Rule; FEW], wanted: Wanted) -> bool {
-    for i in 0..FEW {
-        let rule = rules[i];
-        if rule.form == 7 {
-            if wanted.value & rule.c1 != rule.c2 {
-                return true;
-            }
-        }
-    }
-    false
+fn is_clash(rules: &[Rule], wanted: Wanted) -> bool {
+    rules
+        .iter()
+        .any(|rule| rule.form == 7 && wanted.value & rule.c1 != rule.c2)
 }
 
 // How many words fit.
-pub fn total(rules: [Rule; FEW], wheel: Wheel) -> Total {
+pub fn total(rules: &[Rule], wheel: Wheel) -> Total {
     let top = wheel.top;
     let wanted = all_wanted(rules);
     let mut total = Total::of(0);
@@ -107,7 +99,7 @@ fn parts(wanted: Wanted, p: u64, k: u64) -> bool
 }
 
 // The first words from p on, as many as a listing in pieces of all sizes writes.
-pub fn words(rules: [Rule; FEW], wheel: Wheel, p: u64) -> Words {
+pub fn words(rules: &[Rule], wheel: Wheel, p: u64) -> Words {
     let mut list = [0; WORDS];
     let mut n = 0;
     let mut from = p;

@@ -11,28 +11,28 @@ use trial::trial_direct::rules::rule;
 use trial::trial_direct::{direct, rules};
 use word::Width;
 
-// How many rules a sheet has: up to the limit, and on every other sheet up to 7.
+/// How many rules a sheet has: up to the limit, and on every other sheet up to 7.
 pub fn count(s: u64) -> usize
     ensures { result ≤ RULES }
 {
-    let n = s >> 8;
+    let n = (s >> 8) as usize;
     if s & 1 == 0 {
-        return n as usize % (Rule::LIMIT + 1);
+        n % (Rule::LIMIT + 1)
+    } else {
+        n % 8
     }
-    n as usize % 8
 }
 
-// The rules that the seed draws.
+/// The n rules that the seed draws, in the first places.
 pub fn rules(seed: u64, n: usize, width: Width) -> [Rule; Rule::LIMIT]
-    requires narrow { Narrow width.bits }
-    requires n_bound { n ≤ RULES }
+    requires { Narrow width.bits }
 {
     let x = (seed >> 32) % direct::size(width);
     let mut rules = [rule(1, 0, 0, 0); Rule::LIMIT];
     let mut s = seed;
-    for i in 0..n {
+    for place in rules.iter_mut().take(n) {
         s = next(s);
-        rules[i] = drawn(s, width, x);
+        *place = drawn(s, width, x);
     }
     rules
 }
@@ -61,10 +61,9 @@ fn letting(rule: Rule, width: Width, x: u64) -> Rule
     requires narrow { Narrow width.bits }
     requires x_bound { x ≤ top width.bits }
 {
-    if rules::lawful(rule, width) {
-        if direct::meets(rule, width, x) {
-            return rule;
-        }
+    if rules::lawful(rule, width) && direct::meets(rule, width, x) {
+        rule
+    } else {
+        rules::negated(rule)
     }
-    rules::negated(rule)
 }

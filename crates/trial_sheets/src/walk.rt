@@ -1,66 +1,62 @@
 // What is to be answered by the paper's words, one word at a time. It shares no code with what is tried.
 ghost use Rattle.std.specs.Prelude.{◌<◌, ◌≤◌};
-ghost use Rattle.rule.specs.Meaning.{RULES};
 
 use crate::expected::{Expected, LINKS, NUMBERS};
+use std::slice;
 use trial::trial_direct::direct;
+use trial::trial_direct::direct::Row;
 
 // Where a link starts, where it ends, one above its last word, and why.
 #[derive(Clone, Copy)]
 struct Stretch {
-    pub start: usize,
-    pub end: usize,
-    pub reason: u64,
+    start: usize,
+    end: usize,
+    reason: u64,
 }
 
-// The verdict and its words, and for none the chain, by the table of n rules.
-pub fn walked(
-    table: &[u8; direct::TABLE],
-    n: usize,
-    size: usize,
-    out: &mut [u64; NUMBERS],
-) -> Expected
-    requires n_bound { (n ≤ RULES) × (1 ≤ size) }
-    requires size_bound { size ≤ 256 }
+/// The verdict and its words, and for none the chain, by the rows of the rules.
+pub fn walked(rows: &[Row], size: usize, out: &mut [u64; NUMBERS]) -> Expected
+    requires { (1 ≤ size) × (size ≤ 256) }
 {
-    let smallest = direct::up(&*table, 0, n, size, 0);
+    let smallest = direct::up(rows, size, 0);
     if smallest == size {
-        return Expected::none(chain(&*table, n, size, &mut *out));
+        return Expected::none(chain(rows, size, out));
     }
-    let above = direct::down(&*table, 0, n, size - 1);
-    Expected::some(smallest as u64, std::num::wrapping_sub_u64(above as u64, 1))
+    let above = direct::down(rows, size - 1);
+    Expected::some(smallest as u64, (above as u64).wrapping_sub(1))
 }
 
 // "Stop after the link that ends at the top word; else go on with p = q + 1." A walk that does not end in time differs.
-fn chain(table: &[u8; direct::TABLE], n: usize, size: usize, out: &mut [u64; NUMBERS]) -> usize
-    requires { (n ≤ RULES) × (size ≤ 256) }
+fn chain(rows: &[Row], size: usize, out: &mut [u64; NUMBERS]) -> usize
+    requires { size ≤ 256 }
 {
-    let mut links = 0;
+    let (places, _) = out.as_chunks_mut::<3>();
     let mut p = 0;
-    while links < LINKS {
-        let link = link_at(&*table, n, size, p);
-        out[3 * links] = link.start as u64;
-        out[3 * links + 1] = std::num::wrapping_sub_u64(link.end as u64, 1);
-        out[3 * links + 2] = link.reason;
-        links += 1;
-        p = link.end;
+    for (links, place) in places.iter_mut().enumerate() {
         if size <= p {
-            break;
+            return links;
         }
+        let link = link_at(rows, size, p);
+        *place = [
+            link.start as u64,
+            (link.end as u64).wrapping_sub(1),
+            link.reason,
+        ];
+        p = link.end;
     }
-    links
+    LINKS
 }
 
 // The link at p. "Links with reason 255 stay": they start at p.
-fn link_at(table: &[u8; direct::TABLE], n: usize, size: usize, p: usize) -> Stretch
-    requires n_bound { (n ≤ RULES) × (size ≤ 256) }
+fn link_at(rows: &[Row], size: usize, p: usize) -> Stretch
+    requires size_bound { size ≤ 256 }
     requires p_bound { p < 256 }
 {
-    let furthest = furthest(&*table, n, size, p);
+    let furthest = furthest(rows, size, p);
     if furthest.end == p {
         return Stretch {
             start: p,
-            end: gap(&*table, n, size, p),
+            end: gap(rows, size, p),
             reason: 255,
         };
     }
@@ -69,8 +65,8 @@ fn link_at(table: &[u8; direct::TABLE], n: usize, size: usize, p: usize) -> Stre
 
 // "Take the rule of furthest reach, the lowest number on a tie", and "start where that rule's run of failing words starts". The end
 // is p itself where p fails no rule outside form 7.
-fn furthest(table: &[u8; direct::TABLE], n: usize, size: usize, p: usize) -> Stretch
-    requires n_bound { (n ≤ RULES) × (size ≤ 256) }
+fn furthest(rows: &[Row], size: usize, p: usize) -> Stretch
+    requires size_bound { size ≤ 256 }
     requires p_bound { p < 256 }
 {
     let mut furthest = Stretch {
@@ -78,12 +74,13 @@ fn furthest(table: &[u8; direct::TABLE], n: usize, size: usize, p: usize) -> Str
         end: p,
         reason: 0,
     };
-    for i in 0..n {
-        if table[256 * i + p] == 1 {
-            let end = direct::up(&*table, i, i + 1, size, p);
+    for (i, row) in rows.iter().enumerate() {
+        if row[p] == 1 {
+            let own = slice::from_ref(row);
+            let end = direct::up(own, size, p);
             if furthest.end < end {
                 furthest = Stretch {
-                    start: direct::down(&*table, i, i + 1, p),
+                    start: direct::down(own, p),
                     end,
                     reason: i as u64,
                 };
@@ -94,26 +91,16 @@ fn furthest(table: &[u8; direct::TABLE], n: usize, size: usize, p: usize) -> Str
 }
 
 // "the smallest word above p that meets all form 7 rules", or the number of words where there is none
-fn gap(table: &[u8; direct::TABLE], n: usize, size: usize, p: usize) -> usize
-    requires n_bound { (n ≤ RULES) × (size ≤ 256) }
+fn gap(rows: &[Row], size: usize, p: usize) -> usize
+    requires size_bound { size ≤ 256 }
     requires p_bound { p < 256 }
 {
-    for x in p + 1..size {
-        if meets7(&*table, n, x) {
-            return x;
-        }
-    }
-    size
+    (p + 1..size).find(|x| meets_bits(rows, *x)).unwrap_or(size)
 }
 
 // Whether x meets all form 7 rules.
-fn meets7(table: &[u8; direct::TABLE], n: usize, x: usize) -> bool
-    requires { (n ≤ RULES) × (x < 256) }
+fn meets_bits(rows: &[Row], x: usize) -> bool
+    requires { x < 256 }
 {
-    for i in 0..n {
-        if table[256 * i + x] == 7 {
-            return false;
-        }
-    }
-    true
+    rows.iter().all(|row| row[x] != 7)
 }

@@ -11,15 +11,16 @@
 
 mod sheets;
 
+use std::io;
 use trial_sheets::trial_bits::masks::Way;
 use trial_sheets::trial_bits::{masks, wide};
 
-fn main() {
-    sheets::over_widths(Way::Next).print(b"next");
-    sheets::over_widths(Way::Prev).print(b"prev");
-    masks::small(Way::Next).print(b"small next");
-    masks::small(Way::Prev).print(b"small prev");
-    wide::over_widths(Way::Next).print(b"wide next");
-    wide::over_widths(Way::Prev).print(b"wide prev");
-    masks::known().print(b"known");
+fn main(rt: HostRuntime) -> io::Result<()> {
+    println!(rt; "next {}", sheets::over_widths(Way::Next))?;
+    println!(rt; "prev {}", sheets::over_widths(Way::Prev))?;
+    println!(rt; "small next {}", masks::small(Way::Next))?;
+    println!(rt; "small prev {}", masks::small(Way::Prev))?;
+    println!(rt; "wide next {}", wide::over_widths(Way::Next))?;
+    println!(rt; "wide prev {}", wide::over_widths(Way::Prev))?;
+    println!(rt; "known {}", masks::known())
 }

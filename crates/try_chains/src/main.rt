@@ -9,14 +9,15 @@
 // link, and one after the links.
 #![tactic(auto)]
 
-ghost use Rattle.std.specs.Prelude.{◌<◌, ◌≤◌};
-ghost use Rattle.rule.specs.Meaning.{RULES};
-ghost use Rattle.trial.specs.trial_direct.Trial.{Narrow, ROWS};
+ghost use Rattle.std.specs.Prelude.{◌≤◌, length};
+ghost use Rattle.trial.specs.trial_direct.Trial.{Narrow};
 
 use rule::Rule;
-use trial::trial_direct::direct::UNTOUCHED;
+use std::io;
+use trial::trial_direct::cases::{CASE8, CASES, Case};
+use trial::trial_direct::direct::{Table, UNTOUCHED};
 use trial::trial_direct::{cases, direct, draw, rules};
-use trial::trial_tally::Split;
+use trial::trial_tally::{Count, Split, Verdicts};
 use trial_sheets::expected::{Expected, NUMBERS};
 use trial_sheets::trial_editions::asked;
 use trial_sheets::{drawn, expected, walk};
@@ -30,171 +31,120 @@ const PAIRED: u64 = 2;
 // How many sheets are drawn.
 const SHEETS: u64 = 20000;
 
-// How many expectations are wrong.
-const WRONG: u64 = 6;
-
-fn main() {
-    single().print_verdicts(b"single");
-    pairs().print_verdicts(b"pair");
-    drawn_sheets().print_verdicts(b"drawn");
-    paper().print_verdicts(b"paper");
-    known().joined().print(b"known");
+fn main(rt: HostRuntime) -> io::Result<()> {
+    println!(rt; "single {}", Verdicts(single()))?;
+    println!(rt; "pair {}", Verdicts(pairs()))?;
+    println!(rt; "drawn {}", Verdicts(drawn_sheets()))?;
+    println!(rt; "paper {}", Verdicts(paper()))?;
+    println!(rt; "known {}", known().joined())
 }
 
 // Every rule by itself, at the widths 1 to 4.
 fn single() -> Split {
-    let mut split = Split::none();
-    for bits in 1..SINGLE + 1 {
-        let width = Width { bits };
-        split = split.plus(over_firsts(1, rules::numbered(0, width), width));
-    }
-    split
+    (1..SINGLE + 1)
+        .map(|bits| over_firsts(None, Width { bits }))
+        .sum()
 }
 
 // Every two rules, at the widths 1 and 2.
 fn pairs() -> Split {
-    let mut split = Split::none();
-    for bits in 1..PAIRED + 1 {
-        split = split.plus(over_seconds(Width { bits }));
-    }
-    split
+    (1..PAIRED + 1)
+        .map(|bits| over_seconds(Width { bits }))
+        .sum()
 }
 
 // Every two rules of a width.
 fn over_seconds(width: Width) -> Split
     requires { Narrow width.bits }
 {
-    let mut split = Split::none();
-    let count = rules::count(width);
-    for i in 0..count {
-        split = split.plus(over_firsts(2, rules::numbered(i, width), width));
-    }
-    split
+    (0..rules::count(width))
+        .map(|i| over_firsts(Some(rules::numbered(i, width)), width))
+        .sum()
 }
 
-// The sheets of n rules, one or two, with any rule first and the second as given. Left out are those with a bit rule that a sheet
-// refuses.
-fn over_firsts(n: usize, second: Rule, width: Width) -> Split
-    requires narrow { Narrow width.bits }
-    requires n_bound { n ≤ RULES }
+// The sheets of one rule or two, with any rule first and the second as given.
+fn over_firsts(second: Option<Rule>, width: Width) -> Split
+    requires { Narrow width.bits }
 {
-    let mut split = Split::none();
-    let mut table = [0; direct::TABLE];
-    let count = rules::count(width);
-    for i in 0..count {
-        let mut rules = [second; Rule::LIMIT];
-        rules[0] = rules::numbered(i, width);
-        if rules::two_taken(rules) {
-            split = split.plus(sheet(rules, n, width, &mut table));
-        }
+    let mut table = direct::BLANK;
+    (0..rules::count(width))
+        .map(|i| with_second(rules::numbered(i, width), second, width, &mut table))
+        .sum()
+}
+
+fn with_second(first: Rule, second: Option<Rule>, width: Width, table: &mut Table) -> Split
+    requires { Narrow width.bits }
+{
+    match second {
+        None => sheet(&[first], width, table),
+        Some(second) => sheet(&[first, second], width, table),
     }
-    split
 }
 
 // Sheets drawn by a fixed rule, of the widths 1 to 8.
 fn drawn_sheets() -> Split {
-    let mut split = Split::none();
-    let mut seed = 0;
-    let mut table = [0; direct::TABLE];
-    for _ in 0..SHEETS {
-        seed = std::num::wrapping_add_u64(seed, draw::SPREAD);
-        split = split.plus(drawn_sheet(draw::next(draw::next(seed)), &mut table));
-    }
-    split
+    let mut table = direct::BLANK;
+    (1..SHEETS + 1)
+        .map(|i| drawn_sheet(draw::spread(0, i), &mut table))
+        .sum()
 }
 
-fn drawn_sheet(s: u64, table: &mut [u8; direct::TABLE]) -> Split {
+fn drawn_sheet(s: u64, table: &mut Table) -> Split {
     let width = Width { bits: 1 + s % 8 };
     let n = drawn::count(s >> 8);
-    sheet(drawn::rules(s, n, width), n, width, &mut *table)
+    sheet(&drawn::rules(s, n, width)[..n], width, table)
 }
 
 // The paper's sheets worked by hand.
 fn paper() -> Split {
-    let mut split = Split::none();
-    for i in 0..cases::ROWS {
-        split = split.plus(at_row(i, 0));
-    }
-    split
+    CASES.iter().map(|case| of_case(*case, |_, _| ())).sum()
 }
 
 // Case 8, whose chain has two links, with each of six wrong expectations.
 fn known() -> Split {
-    let mut split = Split::none();
-    for wrong in 1..WRONG + 1 {
-        split = split.plus(at_row(cases::CASE8, wrong));
-    }
-    split
+    let case = cases::at(CASE8);
+    [
+        of_case(case, |expected, _| expected.verdict ^= 1),
+        of_case(case, |expected, _| expected.smallest ^= 1),
+        of_case(case, |expected, _| expected.largest ^= 1),
+        of_case(case, |expected, _| expected.links ^= 1),
+        // a number of a link, and one after the links
+        of_case(case, |_, buffer| buffer[1] ^= 1),
+        of_case(case, |_, buffer| buffer[NUMBERS - 1] = 0),
+    ]
+    .into_iter()
+    .sum()
 }
 
-// The desk's answer compared with the paper's. A number of what is expected is made wrong: of what is said, of a link (5) or after
-// the links (6), or none (0).
-fn at_row(i: usize, wrong: u64) -> Split
-    requires { i < ROWS }
+// The desk's answer compared with the paper's, of which something is changed.
+fn of_case<F: FnOnce(&mut Expected, &mut [u64; NUMBERS])>(case: Case, change: F) -> Split
+    requires { F.IsAlwaysCallable change }
 {
-    let case = cases::at(i);
-    let n = cases::groups(case.rules);
-    let rules = cases::written(case.rules);
-    let width = Width { bits: case.bits };
     let mut buffer = [UNTOUCHED; NUMBERS];
-    let expected = expected::of_case(case, &mut buffer);
-    if wrong == 5 {
-        buffer[1] = buffer[1] ^ 1;
-    }
-    if wrong == 6 {
-        buffer[NUMBERS - 1] = 0;
-    }
-    compared(rules, n, width, spoilt(expected, wrong), &buffer)
+    let mut expected = expected::of_case(case, &mut buffer);
+    change(&mut expected, &mut buffer);
+    compared(case.rules, Width { bits: case.bits }, expected, &buffer)
 }
 
-// With one number wrong: 1 the verdict, 2 the smallest, 3 the largest, 4 the number of links.
-fn spoilt(expected: Expected, wrong: u64) -> Expected {
-    let mut spoilt = expected;
-    match wrong {
-        1 => spoilt.verdict = expected.verdict ^ 1,
-        2 => spoilt.smallest = expected.smallest ^ 1,
-        3 => spoilt.largest = expected.largest ^ 1,
-        4 => spoilt.links = expected.links ^ 1,
-        _ => (),
-    }
-    spoilt
-}
-
-// The desk's answer to a sheet compared with the direct one, or nothing where a rule is not lawful.
-fn sheet(
-    rules: [Rule; Rule::LIMIT],
-    n: usize,
-    width: Width,
-    table: &mut [u8; direct::TABLE],
-) -> Split
-    requires narrow { Narrow width.bits }
-    requires n_bound { n ≤ RULES }
+// The desk's answer to a sheet compared with the direct one, or nothing where a rule is not lawful or a sheet refuses it.
+fn sheet(rules: &[Rule], width: Width, table: &mut Table) -> Split
+    requires { Narrow width.bits }
 {
-    if !rules::all_lawful(rules, n, width) {
+    if !rules::all_lawful(rules, width) || rules.iter().any(|rule| rules::strays(*rule)) {
         return Split::none();
     }
     let mut buffer = [UNTOUCHED; NUMBERS];
-    direct::fill(rules, n, width, &mut *table);
-    let walked = walk::walked(&*table, n, direct::size(width) as usize, &mut buffer);
-    compared(rules, n, width, walked, &buffer)
+    direct::fill(rules, width, table);
+    let rows = &table[..rules.len().min(Rule::LIMIT)];
+    let walked = walk::walked(rows, direct::size(width) as usize, &mut buffer);
+    compared(rules, width, walked, &buffer)
 }
 
 // The answer of a record that keeps what is expected compared with that, in every number of the buffer and in the bound on the links too.
-fn compared(
-    rules: [Rule; Rule::LIMIT],
-    n: usize,
-    width: Width,
-    expected: Expected,
-    buffer: &[u64; NUMBERS],
-) -> Split
-    requires { n ≤ RULES }
-{
+fn compared(rules: &[Rule], width: Width, expected: Expected, buffer: &[u64; NUMBERS]) -> Split {
     let mut numbers = [UNTOUCHED; NUMBERS];
-    let sheet = asked::record(Edition::Old, width.bits, rules, n, expected);
-    let answer = asked::told(sheet, &mut numbers);
-    let mut same = asked::same(answer, &numbers, expected, buffer);
-    if 4 * n + 1 < answer.links {
-        same = false;
-    }
+    let sheet = asked::record(Edition::Old, width.bits, rules, expected);
+    let answer = asked::asked(sheet, &mut numbers);
+    let same = answer == expected && numbers == *buffer && answer.links <= 4 * rules.len() + 1;
     Split::one(expected.verdict, same)
 }

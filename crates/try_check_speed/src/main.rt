@@ -4,55 +4,38 @@
 
 use rule::Rule;
 use sheet::Sheet;
+use std::io;
 use trial_calls::sheets;
 
 const NUMBERS: usize = 300000;
 
 const TIMES: u64 = 10;
 
-fn main() {
+fn main(rt: HostRuntime) -> io::Result<()> {
     let sheet = full();
     let mut chain = [0; Sheet::LENT];
-    let reply = sheet.ask(&mut chain);
-    let mut links = [0; NUMBERS];
-    repeat(&chain, reply.links, &mut links);
-    io::print_decimal(1, accepted(sheet, &links));
-    io::write_all(1, b" times yes\n");
+    let links = sheet.ask(&mut chain).links;
+    let mut list = [0; NUMBERS];
+    if links <= Rule::LIMIT {
+        repeat(&chain[..3 * links], &mut list);
+    }
+    let yes = (0..TIMES)
+        .filter(|_| checker::accepts(sheet, &list))
+        .count();
+    println!(rt; "{yes} times yes")
 }
 
 // A sheet with no place free, which no word fits: each rule fails a part of the words.
 fn full() -> Sheet {
-    let rules = trial_calls::trial_lists::parts();
-    let mut sheet = sheets::opened(32);
-    for i in 0..Rule::LIMIT {
-        sheet = sheets::added(sheet, rules[i]);
-    }
-    sheet
+    trial_calls::trial_lists::parts().into_iter().fold(
+        sheets::opened(32),
+        |sheet, rule| sheets::added(sheet, rule),
+    )
 }
 
 // The links of a chain, over and over.
-fn repeat(chain: &[u64; Sheet::LENT], links: usize, out: &mut [u64; NUMBERS]) {
-    if links == 0 {
-        return;
+fn repeat(chain: &[u64], out: &mut [u64; NUMBERS]) {
+    for (place, number) in out.iter_mut().zip(chain.iter().cycle()) {
+        *place = *number;
     }
-    if Rule::LIMIT < links {
-        return;
-    }
-    for i in 0..NUMBERS {
-        let at = i % (3 * links);
-        if at < Sheet::LENT {
-            out[i] = chain[at];
-        }
-    }
-}
-
-// How often the list is accepted.
-fn accepted(sheet: Sheet, links: &[u64; NUMBERS]) -> u64 {
-    let mut yes = 0;
-    for _ in 0..TIMES {
-        if checker::accepts(sheet, links) {
-            yes = std::num::wrapping_add_u64(yes, 1);
-        }
-    }
-    yes
 }

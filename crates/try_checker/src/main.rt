@@ -11,13 +11,14 @@
 // sheet.
 #![tactic(auto)]
 
-ghost use Rattle.std.specs.Prelude.{◌<◌, ◌≤◌};
-ghost use Rattle.rule.specs.Meaning.{RULES};
-ghost use Rattle.trial.specs.trial_direct.Trial.{Narrow, ROWS};
+ghost use Rattle.trial.specs.trial_direct.Trial.{Narrow};
 
 use rule::Rule;
-use trial::trial_direct::{cases, direct, draw, rules};
-use trial_chains::trial_links::counts::Counts;
+use std::io;
+use trial::trial_direct::cases::{CASE8, CASES};
+use trial::trial_direct::{cases, draw, rules};
+use trial::trial_tally::Tally;
+use trial_chains::trial_checks::Trial;
 use trial_sheets::drawn;
 use word::Width;
 
@@ -27,109 +28,69 @@ const WIDEST: u64 = 4;
 // How many sheets are drawn.
 const SHEETS: u64 = 5000;
 
-fn main() {
-    let counts = pairs(single(Counts::zero()), Width { bits: 1 });
-    let counts = paper(drawn_sheets(counts));
-    counts.print();
-    known().joined().print(b"known");
+fn main(rt: HostRuntime) -> io::Result<()> {
+    let mut trial = Trial::new(false);
+    single(&mut trial);
+    pairs(&mut trial);
+    drawn_sheets(&mut trial);
+    paper(&mut trial);
+    trial.counts.print(&rt)?;
+    println!(rt; "known {}", known())
 }
 
 // Every rule by itself, at the widths 1 to 4.
-fn single(before: Counts) -> Counts {
-    let mut counts = before;
+fn single(trial: &mut Trial) {
     for bits in 1..WIDEST + 1 {
-        let width = Width { bits };
-        counts = over_firsts(counts, 1, rules::numbered(0, width), width, draw::SPREAD);
+        over_firsts(trial, None, Width { bits }, draw::SPREAD);
     }
-    counts
 }
 
-// Every two rules of a width.
-fn pairs(before: Counts, width: Width) -> Counts
+// Every two rules of one bit.
+fn pairs(trial: &mut Trial) {
+    let width = Width { bits: 1 };
+    for i in 0..rules::count(width) {
+        let seed = draw::next(draw::SPREAD.wrapping_add(i));
+        over_firsts(trial, Some(rules::numbered(i, width)), width, seed);
+    }
+}
+
+// The sheets of one rule or two, with any rule first and the second as given.
+fn over_firsts(trial: &mut Trial, second: Option<Rule>, width: Width, from: u64)
     requires { Narrow width.bits }
 {
-    let mut counts = before;
-    let count = rules::count(width);
-    for i in 0..count {
-        let seed = draw::next(std::num::wrapping_add_u64(i, draw::SPREAD));
-        counts = over_firsts(counts, 2, rules::numbered(i, width), width, seed);
+    for i in 0..rules::count(width) {
+        let first = rules::numbered(i, width);
+        let seed = draw::next(from.wrapping_add(i));
+        match second {
+            None => trial.sheet(&[first], width, seed),
+            Some(second) => trial.sheet(&[first, second], width, seed),
+        }
     }
-    counts
-}
-
-// The sheets of n rules, one or two, with any rule first and the second as given.
-fn over_firsts(before: Counts, n: usize, second: Rule, width: Width, from: u64) -> Counts
-    requires narrow { Narrow width.bits }
-    requires n_bound { n ≤ RULES }
-{
-    let mut counts = before;
-    let mut table = [0; direct::TABLE];
-    let count = rules::count(width);
-    for i in 0..count {
-        let mut rules = [second; Rule::LIMIT];
-        rules[0] = rules::numbered(i, width);
-        let seed = draw::next(std::num::wrapping_add_u64(i, from));
-        counts = trial_chains::trial_checks::sheet(
-            counts, rules, n, width, seed, false, &mut table,
-        );
-    }
-    counts
 }
 
 // Sheets drawn by a fixed rule, of the widths 1 to 8.
-fn drawn_sheets(before: Counts) -> Counts {
-    let mut counts = before;
-    let mut seed = 0;
-    let mut table = [0; direct::TABLE];
-    for _ in 0..SHEETS {
-        seed = std::num::wrapping_add_u64(seed, draw::SPREAD);
-        counts = drawn_sheet(counts, draw::next(draw::next(seed)), &mut table);
+fn drawn_sheets(trial: &mut Trial) {
+    for i in 1..SHEETS + 1 {
+        let s = draw::spread(0, i);
+        let width = Width { bits: 1 + s % 8 };
+        let n = drawn::count(s >> 8);
+        trial.sheet(&drawn::rules(s, n, width)[..n], width, s);
     }
-    counts
-}
-
-fn drawn_sheet(counts: Counts, s: u64, table: &mut [u8; direct::TABLE]) -> Counts {
-    let width = Width { bits: 1 + s % 8 };
-    let n = drawn::count(s >> 8);
-    trial_chains::trial_checks::sheet(
-        counts,
-        drawn::rules(s, n, width),
-        n,
-        width,
-        s,
-        false,
-        &mut *table,
-    )
 }
 
 // The paper's sheets worked by hand, where the words are few enough to go through.
-fn paper(before: Counts) -> Counts {
-    let mut counts = before;
-    let mut table = [0; direct::TABLE];
-    for i in 0..cases::ROWS {
-        counts = at_row(counts, i, false, &mut table);
+fn paper(trial: &mut Trial) {
+    for case in &CASES {
+        let bits = case.bits;
+        if 1 <= bits && bits <= 8 {
+            trial.sheet(case.rules, Width { bits }, draw::SPREAD);
+        }
     }
-    counts
-}
-
-fn at_row(counts: Counts, i: usize, wrong: bool, table: &mut [u8; direct::TABLE]) -> Counts
-    requires { i < ROWS }
-{
-    let case = cases::at(i);
-    let n = cases::groups(case.rules);
-    let rules = cases::written(case.rules);
-    let width = Width { bits: case.bits };
-    if width.bits == 0 {
-        return counts;
-    }
-    if 8 < width.bits {
-        return counts;
-    }
-    trial_chains::trial_checks::sheet(counts, rules, n, width, draw::SPREAD, wrong, &mut *table)
 }
 
 // Case 8, whose chain has two links, with the wrong answer expected of each list.
-fn known() -> Counts {
-    let mut table = [0; direct::TABLE];
-    at_row(Counts::zero(), cases::CASE8, true, &mut table)
+fn known() -> Tally {
+    let mut trial = Trial::new(true);
+    trial.sheet(cases::at(CASE8).rules, Width { bits: 4 }, draw::SPREAD);
+    trial.counts.joined()
 }

@@ -10,10 +10,10 @@
 #![tactic(auto)]
 
 ghost use Rattle.std.specs.Prelude.{◌≤◌};
-ghost use Rattle.rule.specs.Meaning.{RULES};
 ghost use Rattle.trial.specs.trial_direct.Trial.{Narrow};
 
 use rule::Rule;
+use trial::trial_direct::direct::{Row, Table};
 use trial::trial_direct::{direct, draw, rules};
 use trial_calls::sheets::{added, case2, opened_in};
 use trial_counts::pieces;
@@ -65,12 +65,12 @@ fn of_width(width: Width) -> Seen
     requires { Narrow width.bits }
 {
     let mut seen = Seen::none();
-    let mut table = [0; direct::TABLE];
+    let mut table = direct::BLANK;
     let each = width.bits < WIDE;
     for i in 0..rules::count(width) {
         let rule = rules::numbered(i, width);
         if corners::is_taken(rule) {
-            seen = seen.plus(on_sheet([rule; Rule::LIMIT], 1, width, each, &mut table));
+            seen = seen.plus(on_sheet(&[rule], width, each, &mut table));
         }
     }
     seen
@@ -80,7 +80,7 @@ fn of_width(width: Width) -> Seen
 fn drawn() -> Seen {
     let mut seen = Seen::none();
     let mut seed = 0;
-    let mut table = [0; direct::TABLE];
+    let mut table = direct::BLANK;
     for _ in 0..SHEETS {
         seed = std::num::wrapping_add_u64(seed, draw::SPREAD);
         seen = seen.plus(drawn_sheet(draw::next(draw::next(seed)), &mut table));
@@ -88,49 +88,36 @@ fn drawn() -> Seen {
     seen
 }
 
-fn drawn_sheet(s: u64, table: &mut [u8; direct::TABLE]) -> Seen {
+fn drawn_sheet(s: u64, table: &mut Table) -> Seen {
     let width = Width { bits: 1 + s % 8 };
     let n = draws::count(s >> 8);
-    on_sheet(
-        sheets::all_taken(draws::rules(s, n, width), n),
-        n,
-        width,
-        true,
-        &mut *table,
-    )
+    let rules = sheets::all_taken(draws::rules(s, n, width));
+    on_sheet(&rules[..n], width, true, table)
 }
 
-// The first n rules, counted and listed in both editions, from every word where that is asked for.
-fn on_sheet(
-    rules: [Rule; Rule::LIMIT],
-    n: usize,
-    width: Width,
-    each: bool,
-    table: &mut [u8; direct::TABLE],
-) -> Seen
-    requires narrow { Narrow width.bits }
-    requires n_bound { n ≤ RULES }
+// The rules, counted and listed in both editions, from every word where that is asked for.
+fn on_sheet(rules: &[Rule], width: Width, each: bool, table: &mut Table) -> Seen
+    requires { Narrow width.bits }
 {
-    if !rules::all_lawful(rules, n, width) {
+    if !rules::all_lawful(rules, width) {
         return Seen::none();
     }
-    direct::fill(rules, n, width, &mut *table);
-    let words = walked(&*table, n, direct::size(width));
+    direct::fill(rules, width, table);
+    let words = walked(&table[..rules.len().min(Rule::LIMIT)], direct::size(width));
     let bits = width.bits;
-    let new = in_edition(Edition::New, bits, rules, n, words, each);
-    new.plus(in_edition(Edition::Old, bits, rules, n, words, each))
+    let new = in_edition(Edition::New, bits, rules, words, each);
+    new.plus(in_edition(Edition::Old, bits, rules, words, each))
 }
 
 // All words that fit, one after another.
-fn walked(table: &[u8; direct::TABLE], n: usize, size: u64) -> Words
-    requires n_bound { n ≤ RULES }
-    requires le_size { (1 ≤ size) × (size ≤ 256) }
+fn walked(rows: &[Row], size: u64) -> Words
+    requires { (1 ≤ size) × (size ≤ 256) }
 {
     let mut list = [0; WORDS];
     let mut many = 0;
     let mut p = 0;
     for i in 0..WORDS {
-        let x = direct::up(&*table, 0, n, size as usize, p);
+        let x = direct::up(rows, size as usize, p);
         if size as usize <= x {
             break;
         }
@@ -146,17 +133,8 @@ fn walked(table: &[u8; direct::TABLE], n: usize, size: u64) -> Words
 }
 
 // A sheet that is refused is not the one that is expected, and differs.
-fn in_edition(
-    edition: Edition,
-    bits: u64,
-    rules: [Rule; Rule::LIMIT],
-    n: usize,
-    words: Words,
-    each: bool,
-) -> Seen
-    requires { n ≤ RULES }
-{
-    let answer = asked::filled(edition, bits, rules, n);
+fn in_edition(edition: Edition, bits: u64, rules: &[Rule], words: Words, each: bool) -> Seen {
+    let answer = asked::filled(edition, bits, rules);
     let sheet = answer.sheet;
     let total = Total::of(words.n as u64);
     let mut seen = Seen::counted(total, total.is_counted(sheet));

@@ -5,8 +5,10 @@
 // answer to a sheet, and seven wrong ones.
 #![tactic(auto)]
 
+use std::io;
+use trial::trial_direct::direct::Table;
 use trial::trial_direct::{direct, draw, rules};
-use trial::trial_tally::Tally;
+use trial::trial_tally::{Count, Tally};
 use trial::trial_wheel::bit_rules::FEW;
 use trial::trial_wheel::wheel::Wheel;
 use trial_sheets::expected::NUMBERS;
@@ -22,62 +24,56 @@ const SHEETS: u64 = 2000;
 
 const WALKS: u64 = 8000;
 
-fn main() {
-    drawn().print(b"drawn");
-    ways().print(b"ways");
-    known::all().print(b"known");
+fn main(rt: HostRuntime) -> io::Result<()> {
+    drawn().print(&rt, "drawn")?;
+    println!(rt; "ways {}", ways())?;
+    println!(rt; "known {}", known::all())
 }
 
 // Sheets of any number of rules, asked in both editions.
 fn drawn() -> Both {
-    let mut both = Both::none();
-    let mut seed = 0;
-    let mut table = [0; direct::TABLE];
-    for _ in 0..SHEETS {
-        seed = std::num::wrapping_add_u64(seed, draw::SPREAD);
-        both = both.plus(drawn_sheet(draw::next(draw::next(seed)), &mut table));
-    }
-    both
+    let mut table = direct::BLANK;
+    (1..SHEETS + 1)
+        .map(|i| drawn_sheet(draw::spread(0, i), &mut table))
+        .sum()
 }
 
-fn drawn_sheet(s: u64, table: &mut [u8; direct::TABLE]) -> Both {
+fn drawn_sheet(s: u64, table: &mut Table) -> Both {
     let width = Width { bits: 1 + s % 8 };
     let n = draws::count(s >> 8);
-    let rules = sheets::all_taken(draws::rules(s, n, width), n);
-    if !rules::all_lawful(rules, n, width) {
+    let rules = sheets::all_taken(draws::rules(s, n, width));
+    let rules = &rules[..n];
+    if !rules::all_lawful(rules, width) {
         return Both::none();
     }
     let size = direct::size(width);
     let mut buffer = [UNTOUCHED; NUMBERS];
-    direct::fill(rules, n, width, &mut *table);
-    let walked = walk::walked(&*table, n, size as usize, &mut buffer);
-    asked::in_editions(width.bits, size - 1, rules, n, walked, &buffer)
+    direct::fill(rules, width, table);
+    let walked = walk::walked(&table[..n], size as usize, &mut buffer);
+    asked::in_editions(width.bits, size - 1, rules, walked, &buffer)
 }
 
 // The two walks on sheets of up to six rules.
 fn ways() -> Tally {
-    let mut tally = Tally::none();
-    let mut seed = 0;
-    let mut table = [0; direct::TABLE];
-    for _ in 0..WALKS {
-        seed = std::num::wrapping_add_u64(seed, draw::SPREAD);
-        tally = tally.plus(both_ways(draw::next(draw::next(seed)), &mut table));
-    }
-    tally
+    let mut table = direct::BLANK;
+    (1..WALKS + 1)
+        .map(|i| both_ways(draw::spread(0, i), &mut table))
+        .sum()
 }
 
-fn both_ways(s: u64, table: &mut [u8; direct::TABLE]) -> Tally {
+fn both_ways(s: u64, table: &mut Table) -> Tally {
     let width = Width { bits: 1 + s % 8 };
     let wheel = Wheel::of(width.bits);
     let n = 1 + (s >> 8) as usize % FEW;
     let rules = sheets::drawn(s >> 8, wheel);
-    if !rules::all_lawful(rules, n, width) {
+    let rules = &rules[..n];
+    if !rules::all_lawful(rules, width) {
         return Tally::none();
     }
     let mut buffer = [UNTOUCHED; NUMBERS];
     let mut numbers = [UNTOUCHED; NUMBERS];
-    direct::fill(rules, n, width, &mut *table);
-    let walked = walk::walked(&*table, n, direct::size(width) as usize, &mut buffer);
-    let searched = stretches::searched(sheets::few(rules, n), wheel, &mut numbers);
-    Tally::one(asked::same(walked, &buffer, searched, &numbers))
+    direct::fill(rules, width, table);
+    let walked = walk::walked(&table[..n], direct::size(width) as usize, &mut buffer);
+    let searched = stretches::searched(rules, wheel, &mut numbers);
+    Tally::one(walked == searched && buffer == numbers)
 }

@@ -11,6 +11,7 @@ use page::Opening;
 use rule::Rule;
 use sheet::Sheet;
 use trial::trial_direct::cases;
+use trial::trial_direct::cases::Link;
 use trial::trial_direct::direct::UNTOUCHED;
 use trial::trial_tally::Tally;
 use trial_calls::answers::{accepted, kept, refused, replied, untouched};
@@ -52,7 +53,7 @@ fn asked(sheet: Sheet, row: usize) -> Tally
     requires { row < ROWS }
 {
     let case = cases::at(row);
-    let links = cases::groups(case.links);
+    let links = case.links.len();
     let mut out = [UNTOUCHED; LENT];
     let reply = sheet.ask(&mut out);
     let kept = kept(case.verdict, case.smallest, case.largest);
@@ -60,24 +61,22 @@ fn asked(sheet: Sheet, row: usize) -> Tally
     if links == 0 {
         return said;
     }
-    said.plus(same_links(&out, case.links, 3 * links))
-        .plus(Tally::one(untouched(&out, 3 * links)))
+    said.plus(same_links(&out, case.links))
+        .plus(Tally::one(untouched(&out, links.saturating_mul(3))))
 }
 
-fn same_links(out: &[u64; LENT], digits: u64, numbers: usize) -> Tally
-    requires { numbers ≤ 9 }
-{
-    let mut tally = Tally::none();
-    for at in 0..numbers {
-        tally = tally.plus(Tally::one(out[at] == cases::link_number(digits, at)));
-    }
-    tally
+fn same_links(out: &[u64; LENT], links: &[Link]) -> Tally {
+    let numbers = links.iter().flat_map(|link| link.numbers());
+    out.iter()
+        .zip(numbers)
+        .map(|(number, expected)| Tally::one(*number == expected))
+        .sum()
 }
 
 // Wrong expectations: case 2 answered as case 3, no links where case 8 has two, and a number that is written after the last.
 fn known() -> Tally {
     let case = cases::at(cases::CASE8);
     asked(added(opened(4), case2()), cases::CASE2 + 1)
-        .plus(same_links(&[UNTOUCHED; LENT], case.links, 6))
+        .plus(same_links(&[UNTOUCHED; LENT], case.links))
         .plus(Tally::one(untouched(&[0; LENT], LENT - 1)))
 }

@@ -3,6 +3,7 @@ use gate::Gate;
 use page::Opening;
 use sheet::Call;
 use trial::trial_direct::draw::next;
+use trial::trial_gates::direct::Kind;
 use trial::trial_gates::{direct, made};
 
 const SIGN: u32 = 0x8000_0000;
@@ -12,7 +13,7 @@ const INFINITY: u32 = 0x7f80_0000;
 // The kind of a gate, and the patterns of its limits: at least a limit has only a low one, at most a limit only a high one.
 #[derive(Clone, Copy)]
 pub struct Limits {
-    pub kind: u64,
+    pub kind: Kind,
     pub low: u32,
     pub high: u32,
 }
@@ -85,7 +86,7 @@ pub fn some_limits(seed: u64) -> Limits {
     let low = pattern(seed / 8);
     let high = pattern(more / 8);
     Limits {
-        kind: seed / 0x1_0000_0000_0000 % 3,
+        kind: Kind::ALL[(seed / 0x1_0000_0000_0000 % 3) as usize],
         low: if seed % 8 == 0 { low } else { low | SIGN },
         high: if more % 8 == 0 { high } else { high % SIGN },
     }

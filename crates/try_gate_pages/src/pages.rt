@@ -8,7 +8,7 @@ use page::Opening;
 use rule::Rule;
 use sheet::{Answer, Call, Sheet};
 use trial::trial_direct::draw::next;
-use trial::trial_gates::direct;
+use trial::trial_gates::direct::Kind;
 use trial::trial_tally::Tally;
 use trial_calls::answers::same_sheet;
 use trial_calls::sheets::{gone_back, marked, opened};
@@ -264,7 +264,7 @@ fn wrong_number() -> Tally {
 
 fn at_least(low: u32) -> Limits {
     Limits {
-        kind: direct::LEAST,
+        kind: Kind::Least,
         low,
         high: 0,
     }

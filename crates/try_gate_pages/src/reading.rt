@@ -5,16 +5,17 @@ use std::num::wrapping_add_u64;
 use trial::trial_direct::draw::{SPREAD, next};
 use trial::trial_direct::rules::rule;
 use trial::trial_gates::direct;
+use trial::trial_gates::direct::Kind;
 use trial::trial_tally::Tally;
 use trial_calls::sheets::{added, opened_in};
 use word::Edition;
 
 // What is looked at: whether the limits are numbers, the words that fit, those that do not, or a sheet with the gate.
-pub const GATES: u64 = direct::GATES;
+pub const GATES: u64 = 0;
 
-pub const FIT: u64 = direct::FIT;
+pub const FIT: u64 = 1;
 
-pub const UNFIT: u64 = direct::UNFIT;
+pub const UNFIT: u64 = 2;
 
 pub const ASKED: u64 = 3;
 
@@ -61,7 +62,7 @@ fn words(limits: Limits, seed: u64, looked_at: u64) -> Tally {
     for k in 0..WORDS {
         let x = word(limits, seed, k);
         let expected = limits.met(x);
-        if direct::looks(looked_at, expected) {
+        if looked_at == if expected { FIT } else { UNFIT } {
             tally = tally.plus(Tally::one(holds(limits, x) == expected));
         }
     }
@@ -105,12 +106,12 @@ fn asked(limits: Limits, x: u64) -> Tally {
 pub fn known() -> Tally {
     let one = 0x3f80_0000;
     let least = Limits {
-        kind: direct::LEAST,
+        kind: Kind::Least,
         low: one,
         high: one,
     };
     let most = Limits {
-        kind: direct::MOST,
+        kind: Kind::Most,
         low: one,
         high: one,
     };

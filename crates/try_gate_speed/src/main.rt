@@ -6,6 +6,7 @@ use gate::Gate;
 use rule::Rule;
 use sheet::Sheet;
 use std::env::Env;
+use trial::trial_gates::direct::Kind;
 use trial::trial_gates::made;
 use trial_calls::sheets;
 
@@ -61,7 +62,7 @@ fn set(sums: Sums, opened: Sheet) -> Sums {
     let mut gates = sums.gates;
     let mut words = sums.words;
     for i in 0..GATES {
-        let answer = gating::set(sheet, made::gate((i % 3) as u64, low, high));
+        let answer = gating::set(sheet, made::gate(Kind::ALL[i % 3], low, high));
         sheet = answer.sheet;
         low = std::num::wrapping_add_u32(low, STEP);
         high = std::num::wrapping_sub_u32(high, STEP);

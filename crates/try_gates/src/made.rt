@@ -1,6 +1,4 @@
 // The limits and the words that are tried.
-use std::num::wrapping_add_u64;
-
 // How many corners there are, and how many words: each corner and its neighbours.
 pub const CORNERS: usize = 40;
 
@@ -35,13 +33,14 @@ const PATTERNS: [u32; 20] = [
 pub fn corner(i: usize) -> u32 {
     let pattern = PATTERNS[i / 2 % 20];
     if i % 2 == 0 {
-        return pattern;
+        pattern
+    } else {
+        pattern ^ 0x8000_0000
     }
-    pattern ^ 0x8000_0000
 }
 
 // The corner k / 3, or the word before or after it.
 pub fn word(k: usize) -> u64 {
-    let c = corner(k / 3) as u64;
-    wrapping_add_u64(c, 0xffff_ffff + (k % 3) as u64) % 0x1_0000_0000
+    let near = corner(k / 3).wrapping_sub(1).wrapping_add((k % 3) as u32);
+    u64::from(near)
 }

@@ -8,80 +8,70 @@
 
 mod made;
 
-use gate::Four;
+use gate::{Four, Turned};
+use made::{CORNERS, WORDS, corner};
+use std::io;
 use trial::trial_gates::direct;
+use trial::trial_gates::direct::Kind;
 use trial::trial_gates::made::gate;
 use trial::trial_tally::Tally;
 
-fn main() {
-    over_kinds(direct::GATES).print(b"gates");
-    over_kinds(direct::FIT).print(b"fit");
-    over_kinds(direct::UNFIT).print(b"unfit");
-    known().print(b"known");
+// What is looked at: whether the limits are numbers, the words that fit, or those that do not.
+#[derive(Clone, Copy)]
+enum Look {
+    Gates,
+    Fit,
+    Unfit,
 }
 
-fn over_kinds(looked_at: u64) -> Tally {
-    singles(direct::LEAST, looked_at)
-        .plus(singles(direct::MOST, looked_at))
-        .plus(spans(looked_at))
+fn main(rt: HostRuntime) -> io::Result<()> {
+    println!(rt; "gates {}", over_kinds(Look::Gates))?;
+    println!(rt; "fit {}", over_kinds(Look::Fit))?;
+    println!(rt; "unfit {}", over_kinds(Look::Unfit))?;
+    println!(rt; "known {}", known())
+}
+
+fn over_kinds(look: Look) -> Tally {
+    singles(Kind::Least, look)
+        .plus(singles(Kind::Most, look))
+        .plus(spans(look))
 }
 
 // Each corner as the limit.
-fn singles(kind: u64, looked_at: u64) -> Tally {
-    let mut tally = Tally::none();
-    for i in 0..made::CORNERS {
-        tally = tally.plus(gated(kind, i, i, looked_at));
-    }
-    tally
+fn singles(kind: Kind, look: Look) -> Tally {
+    (0..CORNERS)
+        .map(|i| gated(kind, corner(i), corner(i), look))
+        .sum()
 }
 
 // Each pair of corners as the limits.
-fn spans(looked_at: u64) -> Tally {
-    let mut tally = Tally::none();
-    for i in 0..made::CORNERS * made::CORNERS {
-        tally = tally.plus(gated(
-            direct::WITHIN,
-            i / made::CORNERS,
-            i % made::CORNERS,
-            looked_at,
-        ));
-    }
-    tally
+fn spans(look: Look) -> Tally {
+    (0..CORNERS)
+        .flat_map(|i| {
+            (0..CORNERS).map(move |j| gated(Kind::Within, corner(i), corner(j), look))
+        })
+        .sum()
 }
 
-// One gate, with the corners i and j as its limits.
-fn gated(kind: u64, i: usize, j: usize, looked_at: u64) -> Tally {
-    let low = made::corner(i);
-    let high = made::corner(j);
-    let turned = gate(kind, low, high).rules();
+// One gate.
+fn gated(kind: Kind, low: u32, high: u32, look: Look) -> Tally {
     let number = direct::limits(kind, low, high);
-    match turned {
-        Ok(four) => {
-            if looked_at == direct::GATES {
-                return Tally::one(number);
-            }
-            words(kind, low, high, four, looked_at)
-        }
-        Err(_) => {
-            if looked_at == direct::GATES {
-                return Tally::one(!number);
-            }
-            Tally::none()
-        }
+    match (gate(kind, low, high).rules(), look) {
+        (Turned::Rules(_), Look::Gates) => Tally::one(number),
+        (Turned::NotANumber, Look::Gates) => Tally::one(!number),
+        (Turned::Rules(four), Look::Fit) => words(kind, low, high, four, true),
+        (Turned::Rules(four), Look::Unfit) => words(kind, low, high, four, false),
+        (Turned::NotANumber, _) => Tally::none(),
     }
 }
 
-// Each corner and its neighbours as the reading.
-fn words(kind: u64, low: u32, high: u32, four: Four, looked_at: u64) -> Tally {
-    let mut tally = Tally::none();
-    for k in 0..made::WORDS {
-        let x = made::word(k);
-        let expected = direct::meets(kind, low, high, x);
-        if direct::looks(looked_at, expected) {
-            tally = tally.plus(Tally::one(direct::all_hold(four, x) == expected));
-        }
-    }
-    tally
+// Each corner and its neighbours as the reading, where it fits or does not.
+fn words(kind: Kind, low: u32, high: u32, four: Four, fits: bool) -> Tally {
+    (0..WORDS)
+        .map(|k| made::word(k))
+        .filter(|x| direct::meets(kind, low, high, *x) == fits)
+        .map(|x| Tally::one(direct::all_hold(four, x) == fits))
+        .sum()
 }
 
 fn known() -> Tally {
@@ -90,8 +80,8 @@ fn known() -> Tally {
 
 // What is expected, wrongly, of a word and the gate at least zero.
 fn wrong(x: u64, expected: bool) -> Tally {
-    match gate(direct::LEAST, 0, 0).rules() {
-        Ok(four) => Tally::one(direct::all_hold(four, x) == expected),
-        Err(_) => Tally::none(),
+    match gate(Kind::Least, 0, 0).rules() {
+        Turned::Rules(four) => Tally::one(direct::all_hold(four, x) == expected),
+        Turned::NotANumber => Tally::none(),
     }
 }

@@ -6,84 +6,35 @@
 // all bands. known has three wrong expectations of such a chain: of the reason and of the last word of its 13th link, and of the number of links.
 #![tactic(auto)]
 
+mod counts;
 mod tiles;
 
 ghost use Rattle.std.specs.Prelude.{◌<◌, ◌≤◌};
-ghost use Rattle.rule.specs.Meaning.{RULES};
 ghost use Rattle.trial.specs.trial_direct.Trial.{Narrow};
 
+use counts::{SHORT, Tried};
 use rule::Rule;
+use std::io;
 use tiles::Tiles;
+use trial::trial_direct::direct::Table;
 use trial::trial_direct::{direct, draw, rules};
-use trial::trial_tally::Tally;
-use trial_sheets::expected::{Expected, LINKS, NUMBERS};
+use trial::trial_tally::{Count, Tally};
+use trial_sheets::expected::{Expected, NUMBERS};
 use trial_sheets::trial_editions::asked;
 use trial_sheets::trial_editions::asked::UNTOUCHED;
-use trial_sheets::trial_editions::counts::Seen;
 use trial_sheets::walk;
 use word::{Edition, Width};
 
 // How many sheets are drawn at each width.
 const SHEETS: u64 = 150;
 
-// The most links of a chain that is found without an order.
-const SHORT: usize = 12;
-
-// All sheets, and those with longer chains.
-#[derive(Clone, Copy)]
-struct Tried {
-    pub seen: Seen,
-    pub longer: Tally,
-}
-
-fn main() {
-    over(6, 0).print(b"6");
-    over(7, 0).print(b"7");
-    over(8, 0).print(b"8");
-    over(6, 58).plus(over(7, 57)).plus(over(8, 56)).print(b"64");
-    known().print(b"known");
-}
-
-impl Tried {
-    fn none() -> Tried {
-        Tried {
-            seen: Seen::none(),
-            longer: Tally::none(),
-        }
-    }
-
-    // One sheet, of which this was expected.
-    fn one(expected: Expected, buffer: &[u64; NUMBERS], same: bool) -> Tried {
-        let mut longer = Tally::none();
-        if SHORT < expected.links {
-            longer = Tally::one(same);
-        }
-        Tried {
-            seen: Seen::one(expected, buffer, u64::MAX, same),
-            longer,
-        }
-    }
-
-    // The sheets of both.
-    fn plus(self, more: Tried) -> Tried {
-        let seen = self.seen;
-        let seen_too = more.seen;
-        let longer = self.longer;
-        let longer_too = more.longer;
-        Tried {
-            seen: seen.plus(seen_too),
-            longer: longer.plus(longer_too),
-        }
-    }
-
-    // Three lines of the program's output.
-    fn print(self, name: &[u8]) {
-        let seen = self.seen;
-        let longer = self.longer;
-        seen.print(name, b" bits");
-        io::write_all(1, name);
-        longer.print(b" bits, longer");
-    }
+fn main(rt: HostRuntime) -> io::Result<()> {
+    over(6, 0).print(&rt, "6")?;
+    over(7, 0).print(&rt, "7")?;
+    over(8, 0).print(&rt, "8")?;
+    let drawn_out = over(6, 58).plus(over(7, 57)).plus(over(8, 56));
+    drawn_out.print(&rt, "64")?;
+    println!(rt; "known {}", known())
 }
 
 // The sheets of a width, with every word drawn out by so many bits.
@@ -91,83 +42,91 @@ fn over(bits: u64, by: u64) -> Tried
     requires narrow { Narrow bits }
     requires by_bound { by < 64 }
 {
-    let mut tried = Tried::none();
-    let mut table = [0; direct::TABLE];
-    let mut seed = bits;
-    for _ in 0..SHEETS {
-        seed = std::num::wrapping_add_u64(seed, draw::SPREAD);
-        let tiles = tiles::laid(draw::next(draw::next(seed)), Width { bits });
-        tried = tried.plus(sheet(tiles, Width { bits }, by, 0, &mut table));
-    }
-    tried
+    let mut table = direct::BLANK;
+    let width = Width { bits };
+    (1..SHEETS + 1)
+        .map(|i| numbered(i, width, by, &mut table))
+        .sum()
 }
 
-// A sheet with each of three wrong expectations.
-fn known() -> Tally {
-    let mut tally = Tally::none();
-    let mut table = [0; direct::TABLE];
-    let width = Width { bits: 6 };
-    for wrong in 1..4 {
-        let tried = sheet(tiles::laid(1, width), width, 0, wrong, &mut table);
-        let longer = tried.longer;
-        tally = tally.plus(longer);
-    }
-    tally
-}
-
-// The desk's answer to a sheet compared with the direct one, which is made wrong in a number (1, 2, 3) or in none (0); or nothing where a rule
-// is not lawful.
-fn sheet(tiles: Tiles, width: Width, by: u64, wrong: u64, table: &mut [u8; direct::TABLE]) -> Tried
+fn numbered(i: u64, width: Width, by: u64, table: &mut Table) -> Tried
     requires narrow { Narrow width.bits }
-    requires n_bound { (tiles.n ≤ RULES) × (by < 64) }
+    requires by_bound { by < 64 }
 {
-    let n = tiles.n;
-    let rules = tiles.rules;
-    if !rules::all_lawful(rules, n, width) {
+    let tiles = tiles::laid(draw::spread(width.bits, i), width);
+    sheet(tiles, width, by, |_, _| (), table)
+}
+
+// A sheet with each of three wrong expectations: of a reason, of a last word and of how many links there are.
+fn known() -> Tally {
+    let mut table = direct::BLANK;
+    let width = Width { bits: 6 };
+    let tiles = tiles::laid(1, width);
+    let reason = sheet(
+        tiles,
+        width,
+        0,
+        |_, buffer| buffer[3 * SHORT + 2] ^= 1,
+        &mut table,
+    );
+    let last = sheet(
+        tiles,
+        width,
+        0,
+        |_, buffer| buffer[3 * SHORT + 1] ^= 1,
+        &mut table,
+    );
+    let links = sheet(
+        tiles,
+        width,
+        0,
+        |expected, _| expected.links ^= 1,
+        &mut table,
+    );
+    reason.longer.plus(last.longer).plus(links.longer)
+}
+
+// The desk's answer to a sheet compared with the direct one, of which something is changed; or nothing where a rule is not lawful.
+fn sheet<F>(tiles: Tiles, width: Width, by: u64, change: F, table: &mut Table) -> Tried
+where
+    F: FnOnce(&mut Expected, &mut [u64; NUMBERS]),
+    requires narrow { Narrow width.bits }
+    requires by_bound { by < 64 }
+    requires change { F.IsAlwaysCallable change }
+{
+    let rules = tiles.rules();
+    if !rules::all_lawful(rules, width) {
         return Tried::none();
     }
     let mut buffer = [UNTOUCHED; NUMBERS];
-    direct::fill(rules, n, width, &mut *table);
-    let mut expected = walk::walked(&*table, n, direct::size(width) as usize, &mut buffer);
+    direct::fill(rules, width, table);
+    let rows = &table[..rules.len()];
+    let mut expected = walk::walked(rows, direct::size(width) as usize, &mut buffer);
     draw_out(&mut buffer, expected.links, by);
-    match wrong {
-        1 => buffer[3 * SHORT + 2] = buffer[3 * SHORT + 2] ^ 1,
-        2 => buffer[3 * SHORT + 1] = buffer[3 * SHORT + 1] ^ 1,
-        3 => expected.links = expected.links ^ 1,
-        _ => (),
-    }
-    let bits = width.bits + by;
-    compared(bits, tiles::drawn_out(rules, n, by), n, expected, &buffer)
+    change(&mut expected, &mut buffer);
+    compared(
+        width.bits + by,
+        tiles.drawn_out(by).rules(),
+        expected,
+        &buffer,
+    )
 }
 
 // Draws the words of the first links out.
 fn draw_out(buffer: &mut [u64; NUMBERS], links: usize, by: u64)
     requires { by < 64 }
 {
-    for i in 0..LINKS {
-        if i < links {
-            buffer[3 * i] = buffer[3 * i] << by;
-            buffer[3 * i + 1] = tiles::last(buffer[3 * i + 1] << by, by);
-        }
+    let (places, _) = buffer.as_chunks_mut::<3>();
+    for place in places.iter_mut().take(links) {
+        let [from, to, reason] = *place;
+        *place = [from << by, tiles::last(to << by, by), reason];
     }
 }
 
 // The answer of a record that keeps what is expected compared with that, in every number of the buffer too.
-fn compared(
-    bits: u64,
-    rules: [Rule; Rule::LIMIT],
-    n: usize,
-    expected: Expected,
-    buffer: &[u64; NUMBERS],
-) -> Tried
-    requires { n ≤ RULES }
-{
+fn compared(bits: u64, rules: &[Rule], expected: Expected, buffer: &[u64; NUMBERS]) -> Tried {
     let mut numbers = [UNTOUCHED; NUMBERS];
-    let sheet = asked::record(Edition::New, bits, rules, n, expected);
-    let answer = asked::told(sheet, &mut numbers);
-    Tried::one(
-        expected,
-        buffer,
-        asked::same(answer, &numbers, expected, buffer),
-    )
+    let sheet = asked::record(Edition::New, bits, rules, expected);
+    let answer = asked::asked(sheet, &mut numbers);
+    Tried::one(expected, buffer, answer == expected && numbers == *buffer)
 }

@@ -1,6 +1,6 @@
 // Sheets of tiles: rules that forbid a few words each, one after another round the wheel, so that a chain takes many links. One rule wants
 // words to be odd, and even words may be left to it.
-ghost use Rattle.std.specs.Prelude.{◌<◌, ◌≤◌};
+ghost use Rattle.std.specs.Prelude.{◌<◌, ◌≤◌, length};
 ghost use Rattle.rule.specs.Meaning.{RULES};
 ghost use Rattle.trial.specs.trial_direct.Trial.{Narrow};
 
@@ -13,14 +13,32 @@ use word::Width;
 // Some rules, the first n of them.
 #[derive(Clone, Copy)]
 pub struct Tiles {
-    pub rules: [Rule; Rule::LIMIT],
-    pub n: usize,
+    rules: [Rule; Rule::LIMIT],
+    n: usize,
+    ghost within: { n ≤ RULES },
+}
+
+impl Tiles {
+    pub fn rules(&self) -> &[Rule]
+        ensures { length result.now ≤ RULES }
+    {
+        &self.rules[..self.n]
+    }
+
+    // The same with every word drawn out to a block of as many words as so many bits have.
+    pub fn drawn_out(self, by: u64) -> Tiles
+        requires { by < 64 }
+    {
+        Tiles {
+            rules: self.rules.map(|rule| block(rule, by)),
+            n: self.n,
+        }
+    }
 }
 
 // The tiles that a seed draws, numbered in a drawn order.
 pub fn laid(seed: u64, width: Width) -> Tiles
     requires { Narrow width.bits }
-    ensures { result.n ≤ RULES }
 {
     let size = direct::size(width);
     let mut rules = [rule(7, 0, 1, 1); Rule::LIMIT];
@@ -28,71 +46,46 @@ pub fn laid(seed: u64, width: Width) -> Tiles
     let mut n = 1;
     for at in 0..size {
         s = next(s);
-        if n < Rule::LIMIT {
-            if is_start(s, at) {
-                rules[n] = tile(s >> 8, at, size - 1);
-                n += 1;
-            }
+        if n < Rule::LIMIT && is_start(s, at) {
+            rules[n] = tile(s >> 8, at, size - 1);
+            n += 1;
         }
     }
-    Tiles {
-        rules: mixed(rules, n, s),
-        n,
-    }
+    mix(&mut rules[..n], s);
+    Tiles { rules, n }
 }
 
 // Whether a tile starts at a word: at every odd word, and at one even word in four.
 fn is_start(s: u64, at: u64) -> bool {
-    if at & 1 == 1 {
-        return true;
-    }
-    s & 3 == 0
+    at & 1 == 1 || s & 3 == 0
 }
 
 // A tile of one to four words, round past the top word where it has to go: form 3 negated, whose words inside fail, or as written, whose
 // words outside do.
 fn tile(s: u64, at: u64, top: u64) -> Rule {
     let length = 1 + s % 4;
-    let c1 = std::num::wrapping_sub_u64(0, at) & top;
+    let c1 = at.wrapping_neg() & top;
     if s >> 4 & 1 == 0 {
         return rule(3, 1, c1, length - 1);
     }
     rule(
         3,
         0,
-        std::num::wrapping_sub_u64(c1, length) & top,
-        std::num::wrapping_sub_u64(top, length) & top,
+        c1.wrapping_sub(length) & top,
+        top.wrapping_sub(length) & top,
     )
 }
 
-// The first n rules, each changed about with another one that is drawn.
-fn mixed(rules: [Rule; Rule::LIMIT], n: usize, seed: u64) -> [Rule; Rule::LIMIT]
-    requires { n ≤ RULES }
-{
-    let mut mixed = rules;
+// Each rule is changed about with another one that is drawn.
+fn mix(rules: &mut [Rule], seed: u64) {
     let mut s = seed;
-    for i in 0..n {
+    for i in 0..rules.len() {
         s = next(s);
         let j = s as usize % Rule::LIMIT;
-        if j < n {
-            let other = mixed[j];
-            let this = mixed[i];
-            mixed[j] = this;
-            mixed[i] = other;
+        if j < rules.len() {
+            rules.swap(i, j);
         }
     }
-    mixed
-}
-
-// The first n rules with every word drawn out to a block of as many words as so many bits have.
-pub fn drawn_out(rules: [Rule; Rule::LIMIT], n: usize, by: u64) -> [Rule; Rule::LIMIT]
-    requires { (n ≤ RULES) × (by < 64) }
-{
-    let mut wide = rules;
-    for i in 0..n {
-        wide[i] = block(rules[i], by);
-    }
-    wide
 }
 
 // A rule of form 3 or 7 that the words of a block meet where their word meets this one.
@@ -111,5 +104,5 @@ fn block(narrow: Rule, by: u64) -> Rule
 pub fn last(first: u64, by: u64) -> u64
     requires { by < 64 }
 {
-    first | std::num::wrapping_sub_u64(1 << by, 1)
+    first | (1 << by) - 1
 }

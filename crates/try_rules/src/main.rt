@@ -15,6 +15,7 @@ ghost use Rattle.trial.specs.trial_direct.Trial.{Narrow};
 
 use rule::Rule;
 use rule::band::Band;
+use std::io;
 use trial::trial_direct::rules::{negated, rule};
 use trial::trial_direct::{direct, rules};
 use trial::trial_tally::Tally;
@@ -31,34 +32,31 @@ enum Look {
     Runs,
 }
 
-fn main() {
-    over_widths(Look::Meets).print(b"meets");
-    over_widths(Look::Holds).print(b"holds");
-    over_widths(Look::Runs).print(b"runs");
-    paper::cases().print(b"paper");
-    known().print(b"known");
+fn main(rt: HostRuntime) -> io::Result<()> {
+    println!(rt; "meets {}", over_widths(Look::Meets))?;
+    println!(rt; "holds {}", over_widths(Look::Holds))?;
+    println!(rt; "runs {}", over_widths(Look::Runs))?;
+    println!(rt; "paper {}", paper::cases())?;
+    println!(rt; "known {}", known())
 }
 
 fn over_widths(look: Look) -> Tally {
-    let mut tally = Tally::none();
-    for bits in 1..WIDEST + 1 {
-        tally = tally.plus(over_rules(look, Width { bits }));
-    }
-    tally
+    (1..WIDEST + 1)
+        .map(|bits| over_rules(look, Width { bits }))
+        .sum()
 }
 
 // Every rule with every word.
 fn over_rules(look: Look, width: Width) -> Tally
     requires { Narrow width.bits }
 {
-    let mut tally = Tally::none();
     let n = direct::size(width);
-    let count = rules::count(width) << width.bits;
-    for i in 0..count {
-        let rule = rules::numbered(i / n, width);
-        tally = tally.plus(at_word(look, rule, rule, width, i % n));
-    }
-    tally
+    (0..rules::count(width) << width.bits)
+        .map(|i| {
+            let rule = rules::numbered(i / n, width);
+            at_word(look, rule, rule, width, i % n)
+        })
+        .sum()
 }
 
 // One answer on a rule compared with what a direct search says of the expected rule, which is another only where a known
@@ -82,19 +80,12 @@ fn compared(look: Look, rule: Rule, expected: Rule, width: Width, x: u64) -> Tal
     requires x_bound { x ≤ top width.bits }
 {
     let meets = direct::meets(expected, width, x);
-    if let Look::Meets = look {
-        return Tally::one(rule.meets(width, x) == meets);
+    match look {
+        Look::Meets => Tally::one(rule.meets(width, x) == meets),
+        Look::Holds if rule.form != 7 => Tally::one(Band::of(rule, width).holds(x) == meets),
+        Look::Runs if rule.form != 7 && !meets => Tally::one(same_run(rule, expected, width, x)),
+        _ => Tally::none(),
     }
-    if rule.form == 7 {
-        return Tally::none();
-    }
-    if let Look::Holds = look {
-        return Tally::one(Band::of(rule, width).holds(x) == meets);
-    }
-    if meets {
-        return Tally::none();
-    }
-    Tally::one(same_run(rule, expected, width, x))
 }
 
 // Whether the run around a failing p starts and ends where a walk from p does.
@@ -109,12 +100,10 @@ fn same_run(rule: Rule, expected: Rule, width: Width, p: u64) -> bool
     }
     let run = band.run(width.top(), p);
     let n = direct::size(width) as usize;
-    let mut table = [0; direct::TABLE];
-    direct::fill([expected; Rule::LIMIT], 1, width, &mut table);
-    if run.from == direct::down(&table, 0, 1, p as usize) as u64 {
-        return direct::is_next(run.to, direct::up(&table, 0, 1, n, p as usize) as u64);
-    }
-    false
+    let row = [direct::row(expected, width)];
+    let start = direct::down(&row, p as usize) as u64;
+    let end = direct::up(&row, n, p as usize) as u64;
+    run.from == start && direct::is_next(run.to, end)
 }
 
 // Wrong expectations. The words 11 to 14 fit the rule, and 10 to 13 the other, so that the run at 0 ends elsewhere, and the one
@@ -122,11 +111,15 @@ fn same_run(rule: Rule, expected: Rule, width: Width, p: u64) -> bool
 fn known() -> Tally {
     let fits = rule(3, 0, 5, 3);
     let other = rule(3, 0, 6, 3);
-    wrong(Look::Meets, fits, negated(fits), 0)
-        .plus(wrong(Look::Holds, fits, negated(fits), 0))
-        .plus(wrong(Look::Runs, fits, other, 0))
-        .plus(wrong(Look::Runs, fits, other, 15))
-        .plus(paper::known())
+    [
+        wrong(Look::Meets, fits, negated(fits), 0),
+        wrong(Look::Holds, fits, negated(fits), 0),
+        wrong(Look::Runs, fits, other, 0),
+        wrong(Look::Runs, fits, other, 15),
+        paper::known(),
+    ]
+    .into_iter()
+    .sum()
 }
 
 fn wrong(look: Look, rule: Rule, expected: Rule, x: u64) -> Tally

@@ -1,9 +1,8 @@
 // The paper's sheets worked by hand, word by word.
-ghost use Rattle.std.specs.Prelude.{◌≤◌, ◌<◌};
-ghost use Rattle.trial.specs.trial_direct.Trial.{ROWS};
+ghost use Rattle.std.specs.Prelude.{◌≤◌};
 
 use rule::Rule;
-use trial::trial_direct::cases::CASE2;
+use trial::trial_direct::cases::{CASE2, CASES, Case};
 use trial::trial_direct::{cases, rules};
 use trial::trial_tally::Tally;
 use word::Width;
@@ -12,65 +11,61 @@ use word::Width;
 const SHEETS: usize = 12;
 
 // The words of width 4.
-const WORDS: usize = 16;
+const WORDS: u64 = 16;
 
 pub fn cases() -> Tally {
-    let mut tally = answers();
-    for i in 0..WORDS * SHEETS {
-        tally = tally.plus(Tally::one(same(CASE2 + i / WORDS, (i % WORDS) as u64, 0)));
-    }
-    tally
+    let sheets: Tally = CASES
+        .iter()
+        .skip(CASE2)
+        .take(SHEETS)
+        .map(|case| of_case(*case))
+        .sum();
+    answers().plus(sheets)
+}
+
+fn of_case(case: Case) -> Tally {
+    (0..WORDS).map(|x| Tally::one(same(case, x))).sum()
 }
 
 // A wrong set of words: word 0 is in it or out of it wrongly.
 pub fn known() -> Tally {
-    Tally::one(same(CASE2, 0, 1))
+    let case = cases::at(CASE2);
+    let wrong = Case {
+        words: case.words ^ 1,
+        ..case
+    };
+    Tally::one(same(wrong, 0))
 }
 
-// Whether x meets the rules of a sheet just where it is in the sheet's set, of which the bits of `wrong` are turned.
-fn same(sheet: usize, x: u64, wrong: u64) -> bool
-    requires { (sheet < ROWS) × (x ≤ 15) }
+// Whether x meets the rules of a case just where it is in the case's set.
+fn same(case: Case, x: u64) -> bool
+    requires { x ≤ 15 }
 {
-    let case = cases::at(sheet);
-    let words = case.words ^ wrong;
-    let inside = words >> x & 1 == 1;
-    let n = cases::groups(case.rules);
-    for i in 0..n {
-        if !meets(cases::rule_at(case.rules, i), x) {
-            return !inside;
-        }
-    }
-    inside
+    let inside = case.words >> x & 1 == 1;
+    inside == case.rules.iter().all(|rule| meets(*rule, x))
 }
 
-// Whether x meets the rule. A digit is a word of width 4 and no bit rule here is negated, so every rule is lawful.
+// Whether x meets the rule. The constants are words of width 4 and no bit rule here is negated, so every rule is lawful.
 fn meets(rule: Rule, x: u64) -> bool
     requires { x ≤ 15 }
 {
     let width = Width { bits: 4 };
-    if rules::lawful(rule, width) {
-        return rule.meets(width, x);
-    }
-    false
+    rules::lawful(rule, width) && rule.meets(width, x)
 }
 
-// Word 13 reads as -3 at width 4, and at width 64 the sum of the top word and 1 is 0.
+// Word 13 reads as -3 at width 4, and at width 64 the sum of the top word and 1 is 0. At width 32 case 3 negated has the top word, and
+// neither of the words beside it.
 fn answers() -> Tally {
-    let reads = Width { bits: 4 }.signed(13) == -3;
-    let wraps = Width { bits: 64 }.add(u64::MAX, 1) == 0;
-    wide_answers()
-        .plus(Tally::one(reads))
-        .plus(Tally::one(wraps))
-}
-
-// At width 32 case 3 negated has the top word, and neither of the words beside it.
-fn wide_answers() -> Tally {
-    let before = wraps(0xffff_fffe);
-    let top = wraps(0xffff_ffff);
-    let after = wraps(0);
-    Tally::one(!before)
-        .plus(Tally::one(top))
-        .plus(Tally::one(!after))
+    [
+        Width { bits: 4 }.signed(13) == -3,
+        Width { bits: 64 }.add(u64::MAX, 1) == 0,
+        !wraps(0xffff_fffe),
+        wraps(0xffff_ffff),
+        !wraps(0),
+    ]
+    .into_iter()
+    .map(|same| Tally::one(same))
+    .sum()
 }
 
 fn wraps(x: u64) -> bool

@@ -6,35 +6,33 @@
 // ten digits after the point, of which ten are too many. known has two wrong expectations: that a half goes up, and that a sign is dropped.
 #![tactic(auto)]
 
+mod counts;
 mod known;
 mod made;
 
-use known::corners;
-use made::Seen;
+use counts::Seen;
+use made::Kind;
+use std::io;
 use trial::trial_direct::draw;
 
 // How many are drawn for each line.
 const ROUNDS: u64 = 2000;
 
-fn main() {
-    drawn(made::DIVIDED).print(b"divided");
-    drawn(made::WHOLE).print(b"whole");
-    drawn(made::HALF).print(b"half");
-    drawn(made::LESS).print(b"less");
-    drawn(made::MORE).print(b"more");
-    drawn(made::LARGE).print(b"large");
-    corners().print(b"corners");
-    drawn(made::ANY).print_read(b"drawn");
-    known::wrong().print(b"known");
+fn main(rt: HostRuntime) -> io::Result<()> {
+    drawn(Kind::Divided).print(&rt, "divided")?;
+    drawn(Kind::Whole).print(&rt, "whole")?;
+    drawn(Kind::Half).print(&rt, "half")?;
+    drawn(Kind::Less).print(&rt, "less")?;
+    drawn(Kind::More).print(&rt, "more")?;
+    drawn(Kind::Large).print(&rt, "large")?;
+    known::corners().print(&rt, "corners")?;
+    drawn(Kind::Any).print_read(&rt, "drawn")?;
+    known::wrong().print(&rt, "known")
 }
 
 // So many of a kind.
-fn drawn(kind: u64) -> Seen {
-    let mut seen = Seen::none();
-    let mut seed: u64 = 0;
-    for _ in 0..ROUNDS {
-        seed = std::num::wrapping_add_u64(seed, draw::SPREAD);
-        seen = seen.plus(made::one(kind, draw::next(draw::next(seed))));
-    }
-    seen
+fn drawn(kind: Kind) -> Seen {
+    (1..ROUNDS + 1)
+        .map(|i| made::one(kind, draw::spread(0, i)))
+        .sum()
 }

@@ -6,9 +6,7 @@
 // free sheet of 64 bits, right once and wrong in four counts and three listings.
 #![tactic(auto)]
 
-ghost use Rattle.std.specs.Prelude.{◌≤◌};
 ghost use Rattle.word.specs.Word.{IsWidth};
-ghost use Rattle.rule.specs.Meaning.{RULES};
 
 use rule::Rule;
 use trial::trial_direct::draw;
@@ -55,7 +53,7 @@ fn alone(bits: u64) -> Seen
     for i in 0..corners::CORNERS {
         let rule = corners::cornered(wheel, i);
         if corners::is_taken(rule) {
-            seen = seen.plus(on_sheet(bits, [rule; Rule::LIMIT], 1));
+            seen = seen.plus(on_sheet(bits, &[rule]));
         }
     }
     seen
@@ -71,37 +69,35 @@ fn drawn(bits: u64) -> Seen
     for _ in 0..SHEETS {
         seed = std::num::wrapping_add_u64(seed, draw::SPREAD);
         let s = draw::next(draw::next(seed));
-        seen = seen.plus(on_sheet(bits, sheets::drawn(s, wheel), 1 + s as usize % FEW));
+        let rules = sheets::drawn(s, wheel);
+        seen = seen.plus(on_sheet(bits, &rules[..1 + s as usize % FEW]));
     }
     seen
 }
 
-// The first n rules, counted and listed in each edition that has the width.
-fn on_sheet(bits: u64, rules: [Rule; Rule::LIMIT], n: usize) -> Seen
-    requires width { IsWidth bits }
-    requires n_bound { n ≤ RULES }
+// The rules, counted and listed in each edition that has the width.
+fn on_sheet(bits: u64, rules: &[Rule]) -> Seen
+    requires { IsWidth bits }
 {
-    let new = in_edition(Edition::New, bits, rules, n);
+    let new = in_edition(Edition::New, bits, rules);
     if OLD < bits {
         return new;
     }
-    new.plus(in_edition(Edition::Old, bits, rules, n))
+    new.plus(in_edition(Edition::Old, bits, rules))
 }
 
 // A sheet that is refused is not the one that is expected, and differs.
-fn in_edition(edition: Edition, bits: u64, rules: [Rule; Rule::LIMIT], n: usize) -> Seen
-    requires width { IsWidth bits }
-    requires n_bound { n ≤ RULES }
+fn in_edition(edition: Edition, bits: u64, rules: &[Rule]) -> Seen
+    requires { IsWidth bits }
 {
     let wheel = Wheel::of(bits);
-    let few = sheets::few(rules, n);
-    let answer = asked::filled(edition, bits, rules, n);
+    let answer = asked::filled(edition, bits, rules);
     let sheet = answer.sheet;
-    let total = runs::total(few, wheel);
+    let total = runs::total(rules, wheel);
     let mut seen = Seen::counted(total, total.is_counted(sheet));
     for i in 0..CORNERS {
         let start = wheel.corner(i);
-        seen = seen.plus(pieces::mixed(sheet, runs::words(few, wheel, start), start));
+        seen = seen.plus(pieces::mixed(sheet, runs::words(rules, wheel, start), start));
     }
     seen
 }

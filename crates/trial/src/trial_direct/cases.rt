@@ -1,118 +1,367 @@
 // The paper's sheets worked by hand, in one table for all that try them. (Case 13 is of refusals, and no sheet.)
-ghost use Rattle.std.specs.Prelude.{◌≤◌, ◌<◌};
+ghost use Rattle.std.specs.Prelude.{◌<◌};
 ghost use Rattle.trial.specs.trial_direct.Trial.{ROWS};
 
-use crate::trial_direct::rules;
 use rule::Rule;
 
-// A sheet and what the paper says of it. Rules and links are in groups of four hexadecimal digits, at most three: a rule
-// is form, sense, c1 and c2; a link is from, to, and two digits for the reason. Bit x of the words says whether x fits.
+/// The words from one to another, and why they fail: a rule's number, or 255.
+#[derive(Clone, Copy, Debug)]
+pub struct Link {
+    pub from: u64,
+    pub to: u64,
+    pub reason: u64,
+}
+
+/// A sheet and what the paper says of it. Bit x of the words says whether x fits.
 #[derive(Clone, Copy)]
 pub struct Case {
     pub bits: u64,
-    pub rules: u64,
+    pub rules: &'static [Rule],
     pub words: u64,
     pub verdict: u64,
     pub smallest: u64,
     pub largest: u64,
-    pub links: u64,
+    pub links: &'static [Link],
 }
 
-// The same, in a line: the width; the rules; the words; the verdict, the smallest and the largest; the links.
-#[derive(Clone, Copy)]
-struct Row(u64, u64, u64, u64, u64, u64, u64);
-
-// How many rows there are.
+/// How many rows there are.
 pub const ROWS: usize = 15;
 
-// The most groups of four digits.
-const GROUPS: usize = 3;
-
-// The row of case 2, the first that has a rule, and of case 8, which has two links.
+/// The row of case 2, the first that has a rule, and of case 8, which has two links.
 pub const CASE2: usize = 2;
 
 pub const CASE8: usize = 9;
 
-// Cases 1 to 12 at width 4, case 1 at width 1 before them. In the place of case 9, a refusal, stand two rules of form 7 that
-// contradict each other. Case 3 stands as written and negated, and at width 32, where the
-// words are too many to be said, last.
-const TABLE: [Row; ROWS] = [
-    Row(1, 0, 0x3, 2, 0, 1, 0),
-    Row(4, 0, 0xffff, 2, 0, 15, 0),
-    Row(4, 0x3053, 0x7800, 2, 11, 14, 0),
-    Row(4, 0x1001, 0x7fff, 2, 0, 14, 0),
-    Row(4, 0x1101, 0x8000, 1, 15, 15, 0),
-    Row(4, 0x1000, 0xffff, 2, 0, 15, 0),
-    Row(4, 0x300f, 0xffff, 2, 0, 15, 0),
-    Row(4, 0x4030_50d0, 0xe00f, 2, 0, 15, 0),
-    Row(4, 0x3053_7033, 0x0800, 1, 11, 11, 0),
-    Row(4, 0x3053_70c4, 0, 0, 0, 0, 0x0a00_bfff),
-    Row(4, 0x7011_7010, 0, 0, 0, 0, 0x0fff),
-    Row(4, 0x6090_6190, 0, 0, 0, 0, 0x0800_9901_af00),
-    Row(4, 0x3002_3002_2030, 0, 0, 0, 0, 0x0202_3f00),
-    Row(4, 0x80e3, 0x003e, 2, 1, 5, 0),
-    Row(32, 0x1101, 0, 1, 0xffff_ffff, 0xffff_ffff, 0),
+/// Cases 1 to 12 at width 4, case 1 at width 1 before them. Case 3 stands as written and negated, and at width 32 last.
+pub const CASES: [Case; ROWS] = [
+    // Case 1, at width 1.
+    Case {
+        bits: 1,
+        rules: &[],
+        words: 0x3,
+        verdict: 2,
+        smallest: 0,
+        largest: 1,
+        links: &[],
+    },
+    // Case 1.
+    Case {
+        bits: 4,
+        rules: &[],
+        words: 0xffff,
+        verdict: 2,
+        smallest: 0,
+        largest: 15,
+        links: &[],
+    },
+    // Case 2.
+    Case {
+        bits: 4,
+        rules: &[Rule {
+            form: 3,
+            sense: 0,
+            c1: 5,
+            c2: 3,
+        }],
+        words: 0x7800,
+        verdict: 2,
+        smallest: 11,
+        largest: 14,
+        links: &[],
+    },
+    // Case 3.
+    Case {
+        bits: 4,
+        rules: &[Rule {
+            form: 1,
+            sense: 0,
+            c1: 0,
+            c2: 1,
+        }],
+        words: 0x7fff,
+        verdict: 2,
+        smallest: 0,
+        largest: 14,
+        links: &[],
+    },
+    // Case 3, negated.
+    Case {
+        bits: 4,
+        rules: &[Rule {
+            form: 1,
+            sense: 1,
+            c1: 0,
+            c2: 1,
+        }],
+        words: 0x8000,
+        verdict: 1,
+        smallest: 15,
+        largest: 15,
+        links: &[],
+    },
+    // Case 4.
+    Case {
+        bits: 4,
+        rules: &[Rule {
+            form: 1,
+            sense: 0,
+            c1: 0,
+            c2: 0,
+        }],
+        words: 0xffff,
+        verdict: 2,
+        smallest: 0,
+        largest: 15,
+        links: &[],
+    },
+    // Case 5.
+    Case {
+        bits: 4,
+        rules: &[Rule {
+            form: 3,
+            sense: 0,
+            c1: 0,
+            c2: 15,
+        }],
+        words: 0xffff,
+        verdict: 2,
+        smallest: 0,
+        largest: 15,
+        links: &[],
+    },
+    // Case 6.
+    Case {
+        bits: 4,
+        rules: &[
+            Rule {
+                form: 4,
+                sense: 0,
+                c1: 3,
+                c2: 0,
+            },
+            Rule {
+                form: 5,
+                sense: 0,
+                c1: 13,
+                c2: 0,
+            },
+        ],
+        words: 0xe00f,
+        verdict: 2,
+        smallest: 0,
+        largest: 15,
+        links: &[],
+    },
+    // Case 7.
+    Case {
+        bits: 4,
+        rules: &[
+            Rule {
+                form: 3,
+                sense: 0,
+                c1: 5,
+                c2: 3,
+            },
+            Rule {
+                form: 7,
+                sense: 0,
+                c1: 3,
+                c2: 3,
+            },
+        ],
+        words: 0x0800,
+        verdict: 1,
+        smallest: 11,
+        largest: 11,
+        links: &[],
+    },
+    // Case 8.
+    Case {
+        bits: 4,
+        rules: &[
+            Rule {
+                form: 3,
+                sense: 0,
+                c1: 5,
+                c2: 3,
+            },
+            Rule {
+                form: 7,
+                sense: 0,
+                c1: 12,
+                c2: 4,
+            },
+        ],
+        words: 0,
+        verdict: 0,
+        smallest: 0,
+        largest: 0,
+        links: &[
+            Link {
+                from: 0,
+                to: 10,
+                reason: 0,
+            },
+            Link {
+                from: 11,
+                to: 15,
+                reason: 255,
+            },
+        ],
+    },
+    // Case of two rules of form 7 that contradict each other, in the place of case 9, a refusal.
+    Case {
+        bits: 4,
+        rules: &[
+            Rule {
+                form: 7,
+                sense: 0,
+                c1: 1,
+                c2: 1,
+            },
+            Rule {
+                form: 7,
+                sense: 0,
+                c1: 1,
+                c2: 0,
+            },
+        ],
+        words: 0,
+        verdict: 0,
+        smallest: 0,
+        largest: 0,
+        links: &[Link {
+            from: 0,
+            to: 15,
+            reason: 255,
+        }],
+    },
+    // Case 10.
+    Case {
+        bits: 4,
+        rules: &[
+            Rule {
+                form: 6,
+                sense: 0,
+                c1: 9,
+                c2: 0,
+            },
+            Rule {
+                form: 6,
+                sense: 1,
+                c1: 9,
+                c2: 0,
+            },
+        ],
+        words: 0,
+        verdict: 0,
+        smallest: 0,
+        largest: 0,
+        links: &[
+            Link {
+                from: 0,
+                to: 8,
+                reason: 0,
+            },
+            Link {
+                from: 9,
+                to: 9,
+                reason: 1,
+            },
+            Link {
+                from: 10,
+                to: 15,
+                reason: 0,
+            },
+        ],
+    },
+    // Case 11.
+    Case {
+        bits: 4,
+        rules: &[
+            Rule {
+                form: 3,
+                sense: 0,
+                c1: 0,
+                c2: 2,
+            },
+            Rule {
+                form: 3,
+                sense: 0,
+                c1: 0,
+                c2: 2,
+            },
+            Rule {
+                form: 2,
+                sense: 0,
+                c1: 3,
+                c2: 0,
+            },
+        ],
+        words: 0,
+        verdict: 0,
+        smallest: 0,
+        largest: 0,
+        links: &[
+            Link {
+                from: 0,
+                to: 2,
+                reason: 2,
+            },
+            Link {
+                from: 3,
+                to: 15,
+                reason: 0,
+            },
+        ],
+    },
+    // Case 12.
+    Case {
+        bits: 4,
+        rules: &[Rule {
+            form: 8,
+            sense: 0,
+            c1: 14,
+            c2: 3,
+        }],
+        words: 0x003e,
+        verdict: 2,
+        smallest: 1,
+        largest: 5,
+        links: &[],
+    },
+    // Case 3, negated, at width 32, where the words are too many to be said.
+    Case {
+        bits: 32,
+        rules: &[Rule {
+            form: 1,
+            sense: 1,
+            c1: 0,
+            c2: 1,
+        }],
+        words: 0,
+        verdict: 1,
+        smallest: 0xffff_ffff,
+        largest: 0xffff_ffff,
+        links: &[],
+    },
 ];
 
-// The row of a number.
-pub fn at(i: usize) -> Case
-    requires { i < ROWS }
+/// The case of a row.
+pub fn at(row: usize) -> Case
+    requires { row < ROWS }
 {
-    let row = TABLE[i];
-    Case {
-        bits: row.0,
-        rules: row.1,
-        words: row.2,
-        verdict: row.3,
-        smallest: row.4,
-        largest: row.5,
-        links: row.6,
-    }
+    CASES[row]
 }
 
-// How many groups of four digits there are.
-pub fn groups(digits: u64) -> usize
-    ensures { result ≤ 3 }
-{
-    if digits == 0 {
-        return 0;
-    }
-    if digits < 0x1_0000 {
-        return 1;
-    }
-    if digits < 0x1_0000_0000 { 2 } else { 3 }
+/// A rule of a case, or what stands at a place that no rule has taken.
+pub fn rule_at(rules: &[Rule], i: usize) -> Rule {
+    rules.get(i).copied().unwrap_or(Rule::NONE)
 }
 
-// A group of digits, counted from the first, or 0 after the last.
-fn group(digits: u64, i: usize) -> u64 {
-    let n = groups(digits);
-    if i < n {
-        return digits >> (16 * (n - 1 - i)) & 0xffff;
+impl Link {
+    /// The numbers of a link, as a buffer has them.
+    pub fn numbers(self) -> [u64; 3] {
+        [self.from, self.to, self.reason]
     }
-    0
-}
-
-// A rule of those that digits write, counted from 0.
-pub fn rule_at(digits: u64, i: usize) -> Rule {
-    let four = group(digits, i);
-    rules::rule(four >> 12, four >> 8 & 15, four >> 4 & 15, four & 15)
-}
-
-// A number of the links that digits write, three a link, as a buffer has them.
-pub fn link_number(digits: u64, at: usize) -> u64 {
-    let four = group(digits, at / 3);
-    match at % 3 {
-        0 => four >> 12,
-        1 => four >> 8 & 15,
-        _ => four & 255,
-    }
-}
-
-// The rules that digits write, from the first place on.
-pub fn written(digits: u64) -> [Rule; Rule::LIMIT] {
-    let mut rules = [rule_at(0, 0); Rule::LIMIT];
-    for i in 0..GROUPS {
-        rules[i] = rule_at(digits, i);
-    }
-    rules
 }

@@ -1,20 +1,29 @@
 // The direct side of a trial: what the paper says of each form, in plain numbers, and walks that go one word at a time. It
 // shares no code with what is tried.
-ghost use Rattle.std.specs.Prelude.{◌≡◌, suc, ◌≤◌, ◌<◌, take};
+ghost use Rattle.std.specs.Prelude.{◌≡◌, suc, ◌≤◌, ◌<◌, All};
 ghost use Rattle.word.specs.Word.{top};
-ghost use Rattle.rule.specs.Meaning.{AllLawful, Lawful, RULES};
+ghost use Rattle.rule.specs.Meaning.{Lawful};
 ghost use Rattle.trial.specs.trial_direct.Trial.{Narrow};
 
 use rule::Rule;
 use word::Width;
 
-// The places of a table: 256 words for each rule.
-pub const TABLE: usize = 256 * Rule::LIMIT;
+/// The most words that are gone through.
+pub const WORDS: usize = 256;
 
-// What a lent number is before the call. No word of fewer than 64 bits and no reason is so large.
+/// What is said of each word by a rule: 0 where it meets it, else 7 for a rule of form 7, and 1 for any other.
+pub type Row = [u8; WORDS];
+
+/// A row for each rule that a sheet may have.
+pub type Table = [Row; Rule::LIMIT];
+
+/// A table with nothing said yet.
+pub const BLANK: Table = [[0; WORDS]; Rule::LIMIT];
+
+/// What a lent number is before the call. No word of fewer than 64 bits and no reason is so large.
 pub const UNTOUCHED: u64 = u64::MAX;
 
-// How many words there are.
+/// How many words there are.
 pub fn size(width: Width) -> u64
     requires { Narrow width.bits }
     ensures { (result ≡ suc (top width.bits)) × (result ≤ 256) }
@@ -37,13 +46,10 @@ fn settled(n: u64, c1: u64, c2: u64, x: u64) -> bool
     requires { (c1 < n) × (x < n) × (n ≤ 256) }
 {
     let since = (x + n - c1) % n;
-    if since < c2 {
-        return false;
-    }
-    since < n / 2
+    c2 <= since && since < n / 2
 }
 
-// Whether x meets the rule, by the table of forms.
+/// Whether x meets the rule, by the table of forms.
 pub fn meets(rule: Rule, width: Width, x: u64) -> bool
     requires narrow { Narrow width.bits }
     requires lawful { Lawful width.bits rule }
@@ -60,9 +66,7 @@ fn written(rule: Rule, width: Width, x: u64) -> bool
     requires x_bound { x ≤ top width.bits }
 {
     let n = size(width);
-    let form = rule.form;
-    let c1 = rule.c1;
-    let c2 = rule.c2;
+    let Rule { form, c1, c2, .. } = rule;
     match form {
         1 => (c1 + x) % n <= (c2 + x) % n,
         2 => c1 <= (c2 + x) % n,
@@ -76,8 +80,7 @@ fn written(rule: Rule, width: Width, x: u64) -> bool
     }
 }
 
-// What stands at word x of rule i in the table of a sheet: 0 where x meets the rule, else 7 for a rule of form 7, and 1
-// for any other.
+// What stands at word x of a rule's row.
 fn cell(rule: Rule, width: Width, x: u64) -> u8
     requires narrow { Narrow width.bits }
     requires lawful { Lawful width.bits rule }
@@ -89,66 +92,54 @@ fn cell(rule: Rule, width: Width, x: u64) -> u8
     if rule.form == 7 { 7 } else { 1 }
 }
 
-// Fills a table with the first n rules, the words of rule i from 256 i on. The walks below go by it, and read no place
-// that is not filled, so one table serves many sheets.
-pub fn fill(rules: [Rule; Rule::LIMIT], n: usize, width: Width, table: &mut [u8; TABLE])
+/// Fills the first rows of a table, one for each rule. The walks below go by it, and read no place that is not filled, so
+/// one table serves many sheets.
+pub fn fill(rules: &[Rule], width: Width, table: &mut Table)
     requires narrow { Narrow width.bits }
-    requires n_bound { (n ≤ RULES) × AllLawful width.bits (take n rules) }
+    requires lawful { All (Lawful width.bits) rules.now }
 {
-    let size = size(width);
-    let end = 256 * n;
-    for k in 0..end {
-        let x = k as u64 % 256;
-        if x < size {
-            table[k] = cell(rules[k / 256], width, x);
-        }
+    for (rule, place) in rules.iter().zip(table) {
+        *place = row(*rule, width);
     }
 }
 
-// Whether x meets the rules numbered from a to below b.
-fn fits(table: &[u8; TABLE], a: usize, b: usize, x: usize) -> bool
-    requires { (b ≤ RULES) × (x < 256) }
+/// The row of one rule.
+pub fn row(rule: Rule, width: Width) -> Row
+    requires narrow { Narrow width.bits }
+    requires lawful { Lawful width.bits rule }
 {
-    for i in a..b {
-        if table[256 * i + x] != 0 {
-            return false;
-        }
+    let mut row = [0; WORDS];
+    for x in 0..size(width) {
+        row[x as usize] = cell(rule, width, x);
     }
-    true
+    row
 }
 
-// The first word from p up to below the end that meets the rules numbered from a to below b, or the end.
-pub fn up(table: &[u8; TABLE], a: usize, b: usize, end: usize, p: usize) -> usize
-    requires { (b ≤ RULES) × (end ≤ 256) }
+// Whether x meets the rules of these rows.
+fn fits(rows: &[Row], x: usize) -> bool
+    requires { x < 256 }
 {
-    for x in p..end {
-        if fits(&*table, a, b, x) {
-            return x;
-        }
-    }
-    end
+    rows.iter().all(|row| row[x] == 0)
 }
 
-// One more than the first word from p down that meets the rules numbered from a to below b, or 0 where there is none.
-pub fn down(table: &[u8; TABLE], a: usize, b: usize, p: usize) -> usize
-    requires { (b ≤ RULES) × (p < 256) }
+/// The first word from p up to below the end that meets the rules of these rows, or the end.
+pub fn up(rows: &[Row], end: usize, p: usize) -> usize
+    requires { end ≤ 256 }
 {
-    let mut x = p;
-    loop {
-        if fits(&*table, a, b, x) {
-            return x + 1;
-        }
-        if x == 0 {
-            return 0;
-        }
-        x -= 1;
-    }
+    (p..end).find(|x| fits(rows, *x)).unwrap_or(end)
 }
 
-// Whether b is one above a.
+/// One more than the first word from p down that meets the rules of these rows, or 0 where there is none.
+pub fn down(rows: &[Row], p: usize) -> usize
+    requires { p < 256 }
+{
+    (0..p + 1)
+        .rev()
+        .find(|x| fits(rows, *x))
+        .map_or(0, |x| x + 1)
+}
+
+/// Whether b is one above a.
 pub fn is_next(a: u64, b: u64) -> bool {
-    if a < b {
-        return b - a == 1;
-    }
-    false
+    a.checked_add(1) == Some(b)
 }

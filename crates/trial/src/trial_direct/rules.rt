@@ -1,17 +1,17 @@
 // The rules to try. Which of them are lawful is told by a test, so that no proof has to follow how they are made.
-ghost use Rattle.std.specs.Prelude.{◌≡◌, true, ◌≤◌, take};
+ghost use Rattle.std.specs.Prelude.{IsTrue, All};
 ghost use Rattle.word.specs.Word.{IsWidth};
-ghost use Rattle.rule.specs.Meaning.{AllLawful, Lawful, RULES};
+ghost use Rattle.rule.specs.Meaning.{Lawful};
 ghost use Rattle.trial.specs.trial_direct.Trial.{Narrow};
 
 use crate::trial_direct::direct;
 use rule::Rule;
 use word::Width;
 
-// The least number past the forms.
+/// The least number past the forms.
 pub const NO_FORM: u64 = Rule::FORMS + 1;
 
-// Each form in each of two senses.
+/// Each form in each of two senses.
 pub const KINDS: u64 = 2 * Rule::FORMS;
 
 pub fn rule(form: u64, sense: u64, c1: u64, c2: u64) -> Rule {
@@ -23,14 +23,14 @@ pub fn rule(form: u64, sense: u64, c1: u64, c2: u64) -> Rule {
     }
 }
 
-// How many numbered rules there are: a kind, with two words.
+/// How many numbered rules there are: a kind, with two words.
 pub fn count(width: Width) -> u64
     requires { Narrow width.bits }
 {
     KINDS << (2 * width.bits)
 }
 
-// The rule of a number: of those below the count, each form in each sense with each two words is the rule of one.
+/// The rule of a number: of those below the count, each form in each sense with each two words is the rule of one.
 pub fn numbered(i: u64, width: Width) -> Rule
     requires { Narrow width.bits }
 {
@@ -43,78 +43,45 @@ pub fn numbered(i: u64, width: Width) -> Rule
     )
 }
 
-// Whether two rules have the same numbers.
+/// Whether two rules have the same numbers.
 pub fn same(a: Rule, b: Rule) -> bool {
-    if a.form != b.form {
-        return false;
-    }
-    if a.sense != b.sense {
-        return false;
-    }
-    if a.c1 != b.c1 {
-        return false;
-    }
-    a.c2 == b.c2
+    (a.form, a.sense, a.c1, a.c2) == (b.form, b.sense, b.c1, b.c2)
 }
 
-// The rule with the other sense.
+/// The rule with the other sense.
 pub fn negated(rule: Rule) -> Rule {
-    crate::trial_direct::rules::rule(rule.form, rule.sense ^ 1, rule.c1, rule.c2)
-}
-
-// The rule without the constant that it does not use: forms 4, 5 and 6 use c1 only, and are accepted where c2 is 0.
-pub fn used(some: Rule) -> Rule {
-    let form = some.form;
-    match form {
-        4..=6 => rule(form, some.sense, some.c1, 0),
-        _ => some,
+    Rule {
+        sense: rule.sense ^ 1,
+        ..rule
     }
 }
 
-// Whether a bit rule's value has a bit outside its mask: no word meets it, and a sheet refuses it.
+/// The rule without the constant that it does not use: forms 4, 5 and 6 use c1 only, and are accepted where c2 is 0.
+pub fn used(rule: Rule) -> Rule {
+    match rule.form {
+        4..=6 => Rule { c2: 0, ..rule },
+        _ => rule,
+    }
+}
+
+/// Whether a bit rule's value has a bit outside its mask: no word meets it, and a sheet refuses it.
 pub fn strays(rule: Rule) -> bool {
-    if rule.form == 7 {
-        return rule.c2 & rule.c1 != rule.c2;
-    }
-    false
+    rule.form == 7 && rule.c2 & rule.c1 != rule.c2
 }
 
-// Whether neither of the first two rules has such a bit.
-pub fn two_taken(rules: [Rule; Rule::LIMIT]) -> bool {
-    if strays(rules[0]) {
-        return false;
-    }
-    !strays(rules[1])
-}
-
-// Whether the leaves take the rule: its constants are words, and a bit rule is not negated.
+/// Whether the leaves take the rule: its constants are words, and a bit rule is not negated.
 pub fn lawful(rule: Rule, width: Width) -> bool
     requires { IsWidth width.bits }
-    ensures { result ≡ true → Lawful width.bits rule }
+    ensures { IsTrue result → Lawful width.bits rule }
 {
     let top = width.top();
-    if top < rule.c1 {
-        return false;
-    }
-    if top < rule.c2 {
-        return false;
-    }
-    if rule.form == 7 {
-        return rule.sense == 0;
-    }
-    true
+    rule.c1 <= top && rule.c2 <= top && (rule.form != 7 || rule.sense == 0)
 }
 
-// Whether they take the first n rules.
-pub fn all_lawful(rules: [Rule; Rule::LIMIT], n: usize, width: Width) -> bool
-    requires width { IsWidth width.bits }
-    requires n_bound { n ≤ RULES }
-    ensures { result ≡ true → AllLawful width.bits (take n rules) }
+/// Whether they take all of them.
+pub fn all_lawful(rules: &[Rule], width: Width) -> bool
+    requires { IsWidth width.bits }
+    ensures { IsTrue result → All (Lawful width.bits) rules.now }
 {
-    for i in 0..n {
-        if !lawful(rules[i], width) {
-            return false;
-        }
-    }
-    true
+    rules.iter().all(|rule| lawful(*rule, width))
 }

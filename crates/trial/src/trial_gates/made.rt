@@ -1,5 +1,5 @@
 // The gates of patterns.
-use crate::trial_gates::direct;
+use crate::trial_gates::direct::Kind;
 use gate::{Gate, Span};
 
 // The float of a pattern.
@@ -10,15 +10,14 @@ fn watts(pattern: u32) -> f32 {
     f32::from_bits(pattern)
 }
 
-pub fn gate(kind: u64, low: u32, high: u32) -> Gate {
-    if kind == direct::LEAST {
-        return Gate::AtLeast(watts(low));
+/// The gate of a kind with these limits, of which it takes those that the kind has.
+pub fn gate(kind: Kind, low: u32, high: u32) -> Gate {
+    match kind {
+        Kind::Least => Gate::AtLeast(watts(low)),
+        Kind::Most => Gate::AtMost(watts(high)),
+        Kind::Within => Gate::Within(Span {
+            low: watts(low),
+            high: watts(high),
+        }),
     }
-    if kind == direct::MOST {
-        return Gate::AtMost(watts(high));
-    }
-    Gate::Within(Span {
-        low: watts(low),
-        high: watts(high),
-    })
 }

@@ -2,7 +2,7 @@
 use crate::trial_wheel::wheel::Wheel;
 use rule::Rule;
 
-// Whether x meets the rule.
+/// Whether x meets the rule.
 pub fn meets(wheel: Wheel, rule: Rule, x: u64) -> bool {
     let holds = written(wheel, rule, x);
     if rule.sense == 1 { !holds } else { holds }
@@ -10,9 +10,7 @@ pub fn meets(wheel: Wheel, rule: Rule, x: u64) -> bool {
 
 // Whether x meets it as written, by the table of forms. A number that is no form forbids nothing.
 fn written(wheel: Wheel, rule: Rule, x: u64) -> bool {
-    let form = rule.form;
-    let c1 = rule.c1;
-    let c2 = rule.c2;
+    let Rule { form, c1, c2, .. } = rule;
     match form {
         1 => wheel.sum(c1, x) <= wheel.sum(c2, x),
         2 => c1 <= wheel.sum(c2, x),
@@ -29,8 +27,5 @@ fn written(wheel: Wheel, rule: Rule, x: u64) -> bool {
 // "c2 <= (x - c1) and (x - c1) < half"
 fn settled(wheel: Wheel, c1: u64, c2: u64, x: u64) -> bool {
     let since = wheel.difference(x, c1);
-    if since < c2 {
-        return false;
-    }
-    since < wheel.half
+    c2 <= since && since < wheel.half
 }

@@ -2,14 +2,15 @@
 // above the top word is ever made, since 2^64 is none.
 ghost use Rattle.word.specs.Word.{IsWidth};
 
-#[derive(Clone, Copy)]
+/// The top word and half of it.
+#[derive(Clone, Copy, Debug)]
 pub struct Wheel {
     pub top: u64,
     pub half: u64,
 }
 
 impl Wheel {
-    // "Words run from 0 to the top word 2^w - 1. Half is 2^(w-1)."
+    /// "Words run from 0 to the top word 2^w - 1. Half is 2^(w-1)."
     pub fn of(bits: u64) -> Wheel
         requires { IsWidth bits }
     {
@@ -20,52 +21,46 @@ impl Wheel {
         }
     }
 
-    // a + b, modulo 2^w. (What is no word is answered with 0.)
+    /// a + b, modulo 2^w. (What is no word is answered with 0.)
     pub fn sum(self, a: u64, b: u64) -> u64 {
-        let top = self.top;
-        if top < a {
+        if self.top < a {
             return 0;
         }
-        let room = top - a;
+        let room = self.top - a;
         if b <= room { a + b } else { b - room - 1 }
     }
 
-    // a - b, modulo 2^w. (What is no word is answered with 0.)
+    /// a - b, modulo 2^w. (What is no word is answered with 0.)
     pub fn difference(self, a: u64, b: u64) -> u64 {
-        let top = self.top;
         if b <= a {
             return a - b;
         }
         let short = b - a;
-        if top < short { 0 } else { top - short + 1 }
+        if self.top < short {
+            0
+        } else {
+            self.top - short + 1
+        }
     }
 
-    // "s(a) <= s(b)": from half on a word reads below zero, and stands before the words below half.
+    /// "s(a) <= s(b)": from half on a word reads below zero, and stands before the words below half.
     pub fn in_signed_order(self, a: u64, b: u64) -> bool {
-        let half = self.half;
-        if a < half {
-            if b < half {
-                return a <= b;
-            }
-            return false;
+        match (a < self.half, b < self.half) {
+            (true, false) => false,
+            (false, true) => true,
+            _ => a <= b,
         }
-        if b < half {
-            return true;
-        }
-        a <= b
     }
 
-    // The corners: 0, 1, half - 1, half, top - 1 and top.
+    /// The corners: 0, 1, half - 1, half, top - 1 and top.
     pub fn corner(self, i: u64) -> u64 {
-        let half = self.half;
-        let top = self.top;
         match i {
             0 => 0,
             1 => 1,
-            2 => self.difference(half, 1),
-            3 => half,
-            4 => self.difference(top, 1),
-            _ => top,
+            2 => self.difference(self.half, 1),
+            3 => self.half,
+            4 => self.difference(self.top, 1),
+            _ => self.top,
         }
     }
 }

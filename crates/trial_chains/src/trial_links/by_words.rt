@@ -1,68 +1,38 @@
 // What the check has to say, by the paper's words and one word at a time. It shares no code with what is tried.
 ghost use Rattle.std.specs.Prelude.{◌<◌, ◌≤◌};
-ghost use Rattle.rule.specs.Meaning.{RULES};
 
-use crate::trial_links::changed::read;
-use trial::trial_direct::direct;
+use trial::trial_direct::direct::Row;
 
-// Whether the first numbers of the list are links that show of each of so many words that it fails, by the table of n rules.
-pub fn accepts(table: &[u8; direct::TABLE], n: usize, size: u64, list: &[u64], numbers: u64) -> bool
-    requires { (n ≤ RULES) × (size ≤ 256) }
+/// Whether the numbers of the list are links that show of each of so many words that it fails, by the rows of the rules.
+pub fn accepts(rows: &[Row], size: u64, list: &[u64]) -> bool
+    requires { size ≤ 256 }
 {
-    if numbers % 3 != 0 {
-        return false;
-    }
+    let (links, rest) = list.as_chunks::<3>();
     // how many words are shown, from 0 on
     let mut shown = 0;
-    for k in 0..numbers / 3 {
-        let from = read(list, 3 * k);
-        let to = read(list, 3 * k + 1);
-        let reason = read(list, 3 * k + 2);
-        if shown < from {
+    for link in links {
+        let [from, to, reason] = *link;
+        if shown < from || to < from || size <= to || !fail(rows, from, to, reason) {
             return false;
         }
-        if to < from {
-            return false;
-        }
-        if size <= to {
-            return false;
-        }
-        if !fail(&*table, n, from, to, reason) {
-            return false;
-        }
-        if shown <= to {
-            shown = to + 1;
-        }
+        shown = shown.max(to + 1);
     }
-    shown == size
+    rest.is_empty() && shown == size
 }
 
 // Whether each of the words fails.
-fn fail(table: &[u8; direct::TABLE], n: usize, from: u64, to: u64, reason: u64) -> bool
-    requires { (n ≤ RULES) × (to < 256) }
+fn fail(rows: &[Row], from: u64, to: u64, reason: u64) -> bool
+    requires { to < 256 }
 {
-    for x in from..to + 1 {
-        if !fails(&*table, n, x, reason) {
-            return false;
-        }
-    }
-    true
+    (from..to + 1).all(|x| fails(rows, x as usize, reason))
 }
 
 // Whether a word fails the rule of that number, which is not of form 7, or for 255 one of form 7.
-fn fails(table: &[u8; direct::TABLE], n: usize, x: u64, reason: u64) -> bool
-    requires { (n ≤ RULES) × (x < 256) }
+fn fails(rows: &[Row], x: usize, reason: u64) -> bool
+    requires { x < 256 }
 {
-    if reason < n as u64 {
-        return table[256 * reason as usize + x as usize] == 1;
+    match rows.get(reason as usize) {
+        Some(row) => row[x] == 1,
+        None => reason == 255 && rows.iter().any(|row| row[x] == 7),
     }
-    if reason != 255 {
-        return false;
-    }
-    for i in 0..n {
-        if table[256 * i + x as usize] == 7 {
-            return true;
-        }
-    }
-    false
 }

@@ -1,88 +1,89 @@
 // A list of numbers, three a link, changed at one place.
-use chain::Link;
-use trial::trial_direct::direct::UNTOUCHED;
+ghost use Rattle.std.specs.Prelude.{◌<◌, length};
 
-// The numbers of a buffer: as many as a chain may take, and one link more.
+use chain::Link;
+
+/// The numbers of a buffer: as many as a chain may take, and one link more.
 pub const ROOM: usize = Link::ROOM + Link::NUMBERS;
 
-// How many ways there are: 0 as it is, 1 one number raised by one, 2 lowered by one, 3 one link left out, 4 doubled, 5 moved to the
-// end, and 6 the list cut short.
-pub const WAYS: u64 = 7;
-
-// Whether a way applies at a place: a number may be changed anywhere, a link where it starts, and the list as it is counts once.
-pub fn applies(way: u64, place: u64) -> bool {
-    match way {
-        0 => place == 0,
-        3..=5 => place % 3 == 0,
-        _ => true,
-    }
+/// What is done at a place: nothing, one number raised or lowered by one, its link left out, doubled or moved to the end, or the list cut
+/// off before it.
+#[derive(Clone, Copy, Debug)]
+pub enum Change {
+    Nothing,
+    Raised,
+    Lowered,
+    LeftOut,
+    Doubled,
+    Moved,
+    Cut,
 }
 
-// Writes the changed list into another, and says how many numbers it has. A list that does not fit is cut.
-pub fn put(way: u64, list: &[u64; ROOM], numbers: u64, place: u64, out: &mut [u64; ROOM]) -> usize {
-    let end = length(way, numbers, place);
-    for i in 0..ROOM {
-        if end <= i as u64 {
-            return i;
+impl Change {
+    /// All of them.
+    pub const ALL: [Change; 7] = [
+        Change::Nothing,
+        Change::Raised,
+        Change::Lowered,
+        Change::LeftOut,
+        Change::Doubled,
+        Change::Moved,
+        Change::Cut,
+    ];
+
+    /// What lists that are changed so are called.
+    pub fn name(self) -> &'static str {
+        match self {
+            Change::Nothing => "written",
+            Change::Raised => "raised",
+            Change::Lowered => "lowered",
+            Change::LeftOut => "left out",
+            Change::Doubled => "doubled",
+            Change::Moved => "moved",
+            Change::Cut => "cut",
         }
-        out[i] = number(way, list, numbers, place, i as u64);
     }
-    ROOM
-}
 
-// How many numbers the changed list has.
-fn length(way: u64, numbers: u64, place: u64) -> u64 {
-    match way {
-        3 => std::num::wrapping_sub_u64(numbers, 3),
-        4 => std::num::wrapping_add_u64(numbers, 3),
-        6 => place,
-        _ => numbers,
+    /// Whether it applies at a place: a number may be changed anywhere, a link where it starts, and the list as it is counts once.
+    pub fn applies(self, place: usize) -> bool {
+        match self {
+            Change::Nothing => place == 0,
+            Change::LeftOut | Change::Doubled | Change::Moved => place % 3 == 0,
+            Change::Raised | Change::Lowered | Change::Cut => true,
+        }
     }
-}
 
-// Number i of the changed list.
-fn number(way: u64, list: &[u64], numbers: u64, place: u64, i: u64) -> u64 {
-    let x = read(list, source(way, numbers, place - place % 3, i));
-    if i != place {
-        return x;
-    }
-    match way {
-        1 => std::num::wrapping_add_u64(x, 1),
-        2 => std::num::wrapping_sub_u64(x, 1),
-        _ => x,
-    }
-}
-
-// Where number i stands in the list that is changed. The link starts at a place.
-fn source(way: u64, numbers: u64, link: u64, i: u64) -> u64 {
-    let later = std::num::wrapping_add_u64(i, 3);
-    match way {
-        3 => if i < link { i } else { later },
-        4 => if i < std::num::wrapping_add_u64(link, 3) {
-            i
-        } else {
-            std::num::wrapping_sub_u64(i, 3)
-        },
-        5 => moved(numbers, link, i),
-        _ => i,
+    /// Writes the changed list into another. A list that does not fit is cut.
+    pub fn put<'a>(self, list: &[u64], place: usize, out: &'a mut [u64; ROOM]) -> &'a [u64]
+        requires { place < length list.now }
+    {
+        let (before, rest) = list.split_at(place - place % 3);
+        let (link, after) = rest.split_at(rest.len().min(3));
+        match self {
+            Change::Nothing => joined(list, &[], &[], out),
+            Change::Raised => {
+                let (below, from) = list.split_at(place);
+                joined(below, &[from[0].wrapping_add(1)], &from[1..], out)
+            }
+            Change::Lowered => {
+                let (below, from) = list.split_at(place);
+                joined(below, &[from[0].wrapping_sub(1)], &from[1..], out)
+            }
+            Change::LeftOut => joined(before, after, &[], out),
+            Change::Doubled => joined(before, link, rest, out),
+            Change::Moved => joined(before, after, link, out),
+            Change::Cut => joined(&list[..place], &[], &[], out),
+        }
     }
 }
 
-fn moved(numbers: u64, link: u64, i: u64) -> u64 {
-    let later = std::num::wrapping_add_u64(i, 3);
-    if i < link {
-        return i;
+// Three parts, one after another, as far as there is room.
+fn joined<'a>(first: &[u64], second: &[u64], third: &[u64], out: &'a mut [u64; ROOM]) -> &'a [u64] {
+    let numbers = first.iter().chain(second).chain(third);
+    let mut length = 0;
+    for (at, (place, number)) in out.iter_mut().zip(numbers).enumerate() {
+        *place = *number;
+        length = at + 1;
     }
-    if later < numbers {
-        return later;
-    }
-    std::num::wrapping_add_u64(link, std::num::wrapping_sub_u64(later, numbers))
-}
-
-// A number of a list, or one that is no word after the last.
-pub fn read(list: &[u64], i: u64) -> u64 {
-    if i < list.len() as u64 {
-        return list[i as usize];
-    }
-    UNTOUCHED
+    &out[..length.min(ROOM)]
 }

@@ -1,103 +1,71 @@
 // How many lists of each kind were compared, by the answer, and how many answers differ.
-use trial::trial_tally::{Split, Tally};
+use crate::trial_links::changed::Change;
+use std::{fmt, io};
+use trial::trial_tally::{Count, Split, Tally};
 
-// The kinds: the ways of a chain, the chain on the sheet without its last rule, the chain on a record that is no sheet, and a drawn
-// list on a sheet that a word fits.
-pub const KINDS: usize = 10;
-
-pub const OTHER: usize = 7;
-
-pub const NO_SHEET: usize = 8;
-
-pub const FITTING: usize = 9;
-
-// The sheets, by whether no word fits or some word does, and the lists of each kind.
-#[derive(Clone, Copy)]
+/// The sheets, by whether no word fits or some word does; the chain of each sheet, by how it is changed; the chain on the sheet without
+/// its last rule, and on a record that is no sheet; and a drawn list on a sheet that a word fits.
+#[derive(Clone, Copy, Debug)]
 pub struct Counts {
-    none: u64,
-    some: u64,
-    lists: [Split; KINDS],
+    pub none: u64,
+    pub some: u64,
+    pub changed: [Split; 7],
+    pub other: Split,
+    pub no_sheet: Split,
+    pub fitting: Split,
 }
 
 impl Counts {
+    /// Nothing counted yet.
     pub fn zero() -> Counts {
         Counts {
             none: 0,
             some: 0,
-            lists: [Split::none(); KINDS],
+            changed: [Split::none(); 7],
+            other: Split::none(),
+            no_sheet: Split::none(),
+            fitting: Split::none(),
         }
     }
 
-    // One sheet more.
-    pub fn sheet(self, links: usize) -> Counts {
-        let lists = self.lists;
-        let none = if links == 0 { 0 } else { 1 };
-        let some = if links == 0 { 1 } else { 0 };
-        Counts {
-            none: std::num::wrapping_add_u64(self.none, none),
-            some: std::num::wrapping_add_u64(self.some, some),
-            lists,
-        }
-    }
-
-    // One list more of a kind.
-    pub fn list(self, kind: usize, one: Split) -> Counts {
-        let mut lists = self.lists;
-        if kind < KINDS {
-            let so_far = lists[kind];
-            lists[kind] = so_far.plus(one);
-        }
-        Counts {
-            none: self.none,
-            some: self.some,
-            lists,
-        }
-    }
-
-    // The comparisons of all kinds.
-    pub fn joined(self) -> Tally {
-        let lists = self.lists;
-        let numbers = lists[1].plus(lists[2]).plus(lists[6]);
-        let links = lists[3].plus(lists[4]).plus(lists[5]);
-        let records = lists[0].plus(lists[OTHER]).plus(lists[NO_SHEET]);
-        numbers
-            .plus(links)
-            .plus(records)
-            .plus(lists[FITTING])
+    /// The comparisons of all kinds.
+    pub fn joined(&self) -> Tally {
+        let changed: Split = self.changed.into_iter().sum();
+        changed
+            .plus(self.other)
+            .plus(self.no_sheet)
+            .plus(self.fitting)
             .joined()
     }
 
-    pub fn print(self) {
-        let lists = self.lists;
-        io::write_all(1, b"sheets ");
-        io::print_decimal(1, self.none);
-        io::write_all(1, b" none, ");
-        io::print_decimal(1, self.some);
-        io::write_all(1, b" one or many\n");
-        line(b"written", lists[0]);
-        line(b"raised", lists[1]);
-        line(b"lowered", lists[2]);
-        line(b"left out", lists[3]);
-        line(b"doubled", lists[4]);
-        line(b"moved", lists[5]);
-        line(b"cut", lists[6]);
-        line(b"other", lists[OTHER]);
-        line(b"no sheet", lists[NO_SHEET]);
-        line(b"fitting", lists[FITTING]);
+    /// The lines of the program's output.
+    pub fn print(&self, rt: &impl Print) -> io::Result<()> {
+        println!(rt; "sheets {} none, {} one or many", self.none, self.some)?;
+        for (change, split) in Change::ALL.iter().zip(self.changed) {
+            println!(rt; "{} {}", change.name(), Answers(split))?;
+        }
+        println!(rt; "other {}", Answers(self.other))?;
+        println!(rt; "no sheet {}", Answers(self.no_sheet))?;
+        println!(rt; "fitting {}", Answers(self.fitting))
     }
 }
 
-// A line of the program's output: the first kind of answer is yes, and the second no.
-fn line(name: &[u8], split: Split) {
-    let all = split.joined();
-    io::write_all(1, name);
-    io::write_all(1, b" ");
-    io::print_decimal(1, all.compared);
-    io::write_all(1, b" compared: ");
-    io::print_decimal(1, split.first);
-    io::write_all(1, b" yes, ");
-    io::print_decimal(1, split.second);
-    io::write_all(1, b" no, ");
-    io::print_decimal(1, split.differ);
-    io::write_all(1, b" differ\n");
+// Lists by the answer to each: the first kind is yes, and the second no.
+#[derive(Clone, Copy)]
+struct Answers(Split);
+
+impl fmt::Display for Answers {
+    fn fmt<W: fmt::Write>(&self, f: &mut fmt::Formatter<W>) -> fmt::Result {
+        let Split {
+            first,
+            second,
+            differ,
+            ..
+        } = self.0;
+        let all = self.0.joined().compared;
+        write!(
+            f,
+            "{all} compared: {first} yes, {second} no, {differ} differ"
+        )
+    }
 }

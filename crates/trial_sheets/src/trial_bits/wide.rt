@@ -2,7 +2,7 @@
 // the largest has all of these and the smallest none.
 ghost use Rattle.word.specs.Word.{IsWidth};
 
-use crate::trial_bits::masks::{Sought, Way, compared};
+use crate::trial_bits::masks::{Sought, Way, compared, found};
 use trial::trial_direct::draw;
 use trial::trial_tally::Tally;
 use word::Width;
@@ -11,21 +11,23 @@ use word::Width;
 const WORDS: u64 = 16;
 
 pub fn over_widths(way: Way) -> Tally {
-    over_words(way, Width { bits: 31 })
-        .plus(over_words(way, Width { bits: 32 }))
-        .plus(over_words(way, Width { bits: 63 }))
-        .plus(over_words(way, Width { bits: 64 }))
+    [
+        over_words(way, Width { bits: 31 }),
+        over_words(way, Width { bits: 32 }),
+        over_words(way, Width { bits: 63 }),
+        over_words(way, Width { bits: 64 }),
+    ]
+    .into_iter()
+    .sum()
 }
 
 // Each of sixteen words as the mask, as the value and as p.
 fn over_words(way: Way, width: Width) -> Tally
     requires { IsWidth width.bits }
 {
-    let mut tally = Tally::none();
-    for i in 0..WORDS * WORDS * WORDS {
-        tally = tally.plus(at_words(way, width, i));
-    }
-    tally
+    (0..WORDS * WORDS * WORDS)
+        .map(|i| at_words(way, width, i))
+        .sum()
 }
 
 // Looked for upwards the mask may reach past the top word.
@@ -47,23 +49,21 @@ fn at_words(way: Way, width: Width, i: u64) -> Tally
         Way::Next => smallest(width, sought),
         Way::Prev => largest(width, sought),
     };
-    compared(way, width, sought, expected)
+    compared(way, width, sought, found(expected))
 }
 
 // The corners, then words that are drawn, and the last five drawn words reach past the width.
 fn word(width: Width, i: u64) -> u64
     requires { IsWidth width.bits }
 {
-    let top = width.top();
-    let half = width.half();
     match i {
         0 => 0,
         1 => 1,
-        2 => std::num::wrapping_sub_u64(half, 1),
-        3 => half,
-        4 => std::num::wrapping_sub_u64(top, 1),
-        5 => top,
-        6..=10 => drawn(i) & top,
+        2 => width.half().wrapping_sub(1),
+        3 => width.half(),
+        4 => width.top().wrapping_sub(1),
+        5 => width.top(),
+        6..=10 => drawn(i) & width.top(),
         _ => drawn(i),
     }
 }
@@ -77,18 +77,15 @@ fn smallest(width: Width, sought: Sought) -> Option<u64>
     requires { IsWidth width.bits }
 {
     let top = width.top();
-    let free = top ^ top & sought.mask;
+    let free = top & !sought.mask;
     let mut x = sought.value | free;
-    if top < x {
+    if top < x || x < sought.p {
         return None;
     }
-    if x < sought.p {
-        return None;
-    }
-    for k in 0..width.bits {
-        let bit = 1 << (width.bits - 1 - k);
-        if sought.p <= x ^ free & bit {
-            x = x ^ free & bit;
+    for k in (0..width.bits).rev() {
+        let cleared = x ^ free & 1 << k;
+        if sought.p <= cleared {
+            x = cleared;
         }
     }
     Some(x)
@@ -98,16 +95,15 @@ fn smallest(width: Width, sought: Sought) -> Option<u64>
 fn largest(width: Width, sought: Sought) -> Option<u64>
     requires { IsWidth width.bits }
 {
-    let top = width.top();
-    let free = top ^ top & sought.mask;
+    let free = width.top() & !sought.mask;
     let mut x = sought.value;
     if sought.p < x {
         return None;
     }
-    for k in 0..width.bits {
-        let bit = 1 << (width.bits - 1 - k);
-        if x | free & bit <= sought.p {
-            x = x | free & bit;
+    for k in (0..width.bits).rev() {
+        let set = x | free & 1 << k;
+        if set <= sought.p {
+            x = set;
         }
     }
     Some(x)

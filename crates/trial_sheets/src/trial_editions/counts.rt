@@ -1,10 +1,15 @@
 // What was compared: sheets by their verdicts, the links of their chains, and words at both ends.
-use crate::expected::{Expected, LINKS, NUMBERS};
-use trial::trial_tally::{Split, Tally};
+ghost use Rattle.trial_sheets.specs.Counts.{nothing_seen, both_seen, seen_laws, nothing_answered, both_answered, both_laws};
 
-// The sheets; their links, those among them that name the bits, and the most that a sheet has; and how many sheets have 0 for their
-// smallest word, and the top word for their largest.
-#[derive(Clone, Copy)]
+use crate::expected::{Expected, NUMBERS};
+use std::io;
+use std::iter::Sum;
+use trial::trial_tally;
+use trial::trial_tally::{Count, Split, Tally, Verdicts};
+
+/// The sheets; their links, those among them that name the bits, and the most that a sheet has; and how many sheets have 0 for their
+/// smallest word, and the top word for their largest.
+#[derive(Clone, Copy, Debug)]
 pub struct Seen {
     pub sheets: Split,
     pub links: u64,
@@ -14,8 +19,8 @@ pub struct Seen {
     pub tops: u64,
 }
 
-// The same for each edition, and how many sheets were answered in both, and compared.
-#[derive(Clone, Copy)]
+/// The same for each edition, and how many sheets were answered in both, and compared.
+#[derive(Clone, Copy, Debug)]
 pub struct Both {
     pub new: Seen,
     pub old: Seen,
@@ -23,7 +28,48 @@ pub struct Both {
 }
 
 impl Seen {
-    pub fn none() -> Seen {
+    /// One sheet, of which this was expected.
+    pub fn one(expected: Expected, buffer: &[u64; NUMBERS], top: u64, same: bool) -> Seen {
+        let Expected {
+            verdict,
+            smallest,
+            largest,
+            links,
+        } = expected;
+        Seen {
+            sheets: Split::one(verdict, same),
+            links: links as u64,
+            bits: of_bits(buffer, links),
+            most: links as u64,
+            zeros: u64::from(verdict != 0 && smallest == 0),
+            tops: u64::from(verdict != 0 && largest == top),
+        }
+    }
+
+    /// Two lines of the program's output.
+    pub fn print(self, rt: &impl Print, name: &str, edition: &str) -> io::Result<()> {
+        let Seen {
+            sheets,
+            links,
+            bits,
+            most,
+            zeros,
+            tops,
+        } = self;
+        println!(rt; "{name} {edition} {}", Verdicts(sheets))?;
+        print!(rt; "{name} {edition} {links} links, {bits} of bits, at most {most} a sheet; ")?;
+        println!(rt; "{zeros} from 0, {tops} to the top")
+    }
+}
+
+impl Count for Seen {
+    ghost empty = { nothing_seen };
+
+    ghost both = { both_seen };
+
+    ghost laws = { seen_laws };
+
+    fn none() -> Seen {
         Seen {
             sheets: Split::none(),
             links: 0,
@@ -34,56 +80,44 @@ impl Seen {
         }
     }
 
-    // One sheet, of which this was expected.
-    pub fn one(expected: Expected, buffer: &[u64; NUMBERS], top: u64, same: bool) -> Seen {
-        let verdict = expected.verdict;
-        let links = expected.links;
+    fn plus(self, more: Seen) -> Seen {
         Seen {
-            sheets: Split::one(verdict, same),
-            links: links as u64,
-            bits: of_bits(buffer, links),
-            most: links as u64,
-            zeros: found_at(verdict, expected.smallest, 0),
-            tops: found_at(verdict, expected.largest, top),
+            sheets: self.sheets.plus(more.sheets),
+            links: self.links.wrapping_add(more.links),
+            bits: self.bits.wrapping_add(more.bits),
+            most: self.most.max(more.most),
+            zeros: self.zeros.wrapping_add(more.zeros),
+            tops: self.tops.wrapping_add(more.tops),
         }
     }
+}
 
-    // The sheets of both.
-    pub fn plus(self, more: Seen) -> Seen {
-        let sheets = self.sheets;
-        let other = more.sheets;
-        Seen {
-            sheets: sheets.plus(other),
-            links: std::num::wrapping_add_u64(self.links, more.links),
-            bits: std::num::wrapping_add_u64(self.bits, more.bits),
-            most: if self.most < more.most {
-                more.most
-            } else {
-                self.most
-            },
-            zeros: std::num::wrapping_add_u64(self.zeros, more.zeros),
-            tops: std::num::wrapping_add_u64(self.tops, more.tops),
-        }
-    }
-
-    // Two lines of the program's output.
-    pub fn print(self, name: &[u8], edition: &[u8]) {
-        let sheets = self.sheets;
-        io::write_all(1, name);
-        sheets.print_verdicts(edition);
-        io::write_all(1, name);
-        io::write_all(1, edition);
-        field(b" ", self.links);
-        field(b" links, ", self.bits);
-        field(b" of bits, at most ", self.most);
-        field(b" a sheet; ", self.zeros);
-        field(b" from 0, ", self.tops);
-        io::write_all(1, b" to the top\n");
+impl Sum<Seen> for Seen {
+    fn sum<I: Iterator<Item = Seen> + Drop>(all: I) -> Seen {
+        trial_tally::total(all)
     }
 }
 
 impl Both {
-    pub fn none() -> Both {
+    /// Two lines for each edition, and one for the comparison of the two; or the new edition's alone, of widths that the old has not.
+    pub fn print(self, rt: &impl Print, name: &str) -> io::Result<()> {
+        self.new.print(rt, name, "new")?;
+        if self.editions.compared == 0 {
+            return Ok(());
+        }
+        self.old.print(rt, name, "old")?;
+        println!(rt; "{name} in both {}", self.editions)
+    }
+}
+
+impl Count for Both {
+    ghost empty = { nothing_answered };
+
+    ghost both = { both_answered };
+
+    ghost laws = { both_laws };
+
+    fn none() -> Both {
         Both {
             new: Seen::none(),
             old: Seen::none(),
@@ -91,59 +125,27 @@ impl Both {
         }
     }
 
-    // The sheets of both.
-    pub fn plus(self, more: Both) -> Both {
-        let new = self.new;
-        let new_too = more.new;
-        let old = self.old;
-        let old_too = more.old;
-        let editions = self.editions;
-        let editions_too = more.editions;
+    fn plus(self, more: Both) -> Both {
         Both {
-            new: new.plus(new_too),
-            old: old.plus(old_too),
-            editions: editions.plus(editions_too),
+            new: self.new.plus(more.new),
+            old: self.old.plus(more.old),
+            editions: self.editions.plus(more.editions),
         }
-    }
-
-    // Two lines for each edition, and one for the comparison of the two; or the new edition's alone, of widths that the old has not.
-    pub fn print(self, name: &[u8]) {
-        let new = self.new;
-        let old = self.old;
-        let editions = self.editions;
-        new.print(name, b" new");
-        if editions.compared == 0 {
-            return;
-        }
-        old.print(name, b" old");
-        io::write_all(1, name);
-        editions.print(b" in both");
     }
 }
 
-// 1 where there is a word and it is this one, else 0.
-fn found_at(verdict: u64, word: u64, end: u64) -> u64 {
-    if verdict == 0 {
-        return 0;
+impl Sum<Both> for Both {
+    fn sum<I: Iterator<Item = Both> + Drop>(all: I) -> Both {
+        trial_tally::total(all)
     }
-    if word == end { 1 } else { 0 }
 }
 
 // How many of the links name the bits.
 fn of_bits(buffer: &[u64; NUMBERS], links: usize) -> u64 {
-    let mut count = 0;
-    for i in 0..LINKS {
-        if i < links {
-            if buffer[3 * i + 2] == 255 {
-                count = std::num::wrapping_add_u64(count, 1);
-            }
-        }
-    }
-    count
-}
-
-// A number after its text.
-fn field(text: &[u8], number: u64) {
-    io::write_all(1, text);
-    io::print_decimal(1, number);
+    let (places, _) = buffer.as_chunks::<3>();
+    places
+        .iter()
+        .take(links)
+        .filter(|[_, _, reason]| *reason == 255)
+        .count() as u64
 }

@@ -7,7 +7,7 @@ use trial::trial_wheel::turning::{Stretch, TURNS};
 use trial::trial_wheel::wheel::Wheel;
 use trial::trial_wheel::{bit_rules, meaning, turning};
 
-// The most stretches of a sheet.
+/// The most stretches of a sheet of few rules.
 pub const STRETCHES: u64 = TURNS * FEW as u64 + 1;
 
 // The reason of a link whose words fail a form 7 rule.
@@ -16,15 +16,15 @@ const BITS: u64 = 255;
 // A link.
 #[derive(Clone, Copy)]
 struct Link {
-    pub from: u64,
-    pub to: u64,
-    pub reason: u64,
+    from: u64,
+    to: u64,
+    reason: u64,
 }
 
-// The verdict and its words, and for none the chain. Puts its links into the buffer.
-pub fn searched(rules: [Rule; FEW], wheel: Wheel, out: &mut [u64; NUMBERS]) -> Expected {
+/// The verdict and its words, and for none the chain. Puts its links into the buffer.
+pub fn searched(rules: &[Rule], wheel: Wheel, out: &mut [u64; NUMBERS]) -> Expected {
     let Some(smallest) = next(rules, wheel, 0) else {
-        return Expected::none(chain(rules, wheel, &mut *out));
+        return Expected::none(chain(rules, wheel, out));
     };
     let Some(largest) = largest(rules, wheel) else {
         return Expected::none(0);
@@ -32,72 +32,58 @@ pub fn searched(rules: [Rule; FEW], wheel: Wheel, out: &mut [u64; NUMBERS]) -> E
     Expected::some(smallest, largest)
 }
 
-// Whether x meets all rules outside form 7.
-pub fn holds(rules: [Rule; FEW], wheel: Wheel, x: u64) -> bool {
-    for i in 0..FEW {
-        if fails(wheel, rules[i], x) {
-            return false;
-        }
-    }
-    true
+/// Whether x meets all rules outside form 7.
+pub fn holds(rules: &[Rule], wheel: Wheel, x: u64) -> bool {
+    !rules.iter().any(|rule| fails(wheel, *rule, x))
 }
 
 // Whether the rule is not of form 7, and x fails it.
 fn fails(wheel: Wheel, rule: Rule, x: u64) -> bool {
-    if rule.form == 7 {
-        return false;
-    }
-    !meaning::meets(wheel, rule, x)
+    rule.form != 7 && !meaning::meets(wheel, rule, x)
 }
 
-// The words around x within which no rule turns.
-pub fn around(rules: [Rule; FEW], wheel: Wheel, x: u64) -> Stretch {
-    let mut from = 0;
-    let mut to = wheel.top;
-    for i in 0..FEW {
-        let one = turning::around(wheel, rules[i], x);
-        if from < one.from {
-            from = one.from;
-        }
-        if one.to < to {
-            to = one.to;
-        }
-    }
-    Stretch { from, to }
+/// The words around x within which no rule turns.
+pub fn around(rules: &[Rule], wheel: Wheel, x: u64) -> Stretch {
+    let whole = Stretch {
+        from: 0,
+        to: wheel.top,
+    };
+    rules.iter().fold(whole, |within, rule| {
+        within.common(turning::around(wheel, *rule, x))
+    })
 }
 
 // The smallest word from one to another that fits, where no rule turns within.
-fn first(rules: [Rule; FEW], wheel: Wheel, from: u64, to: u64) -> Option<u64> {
+fn first(rules: &[Rule], wheel: Wheel, from: u64, to: u64) -> Option<u64> {
     if !holds(rules, wheel, from) {
         return None;
     }
-    let Some(word) = bit_rules::next(rules, wheel, from) else {
-        return None;
-    };
-    if word <= to { Some(word) } else { None }
+    match bit_rules::next(rules, wheel, from) {
+        Some(word) if word <= to => Some(word),
+        _ => None,
+    }
 }
 
 // The largest, going down.
-fn last(rules: [Rule; FEW], wheel: Wheel, from: u64, to: u64) -> Option<u64> {
+fn last(rules: &[Rule], wheel: Wheel, from: u64, to: u64) -> Option<u64> {
     if !holds(rules, wheel, from) {
         return None;
     }
-    let Some(word) = bit_rules::prev(rules, wheel, from) else {
-        return None;
-    };
-    if to <= word { Some(word) } else { None }
+    match bit_rules::prev(rules, wheel, from) {
+        Some(word) if to <= word => Some(word),
+        _ => None,
+    }
 }
 
-// The smallest word at or above p that fits.
-pub fn next(rules: [Rule; FEW], wheel: Wheel, p: u64) -> Option<u64> {
-    let top = wheel.top;
+/// The smallest word at or above p that fits.
+pub fn next(rules: &[Rule], wheel: Wheel, p: u64) -> Option<u64> {
     let mut x = p;
     for _ in 0..STRETCHES {
         let end = around(rules, wheel, x).to;
         if let Some(word) = first(rules, wheel, x, end) {
             return Some(word);
         }
-        if top <= end {
+        if wheel.top <= end {
             break;
         }
         x = end + 1;
@@ -106,7 +92,7 @@ pub fn next(rules: [Rule; FEW], wheel: Wheel, p: u64) -> Option<u64> {
 }
 
 // The largest word that fits.
-fn largest(rules: [Rule; FEW], wheel: Wheel) -> Option<u64> {
+fn largest(rules: &[Rule], wheel: Wheel) -> Option<u64> {
     let mut x = wheel.top;
     for _ in 0..STRETCHES {
         let start = around(rules, wheel, x).from;
@@ -122,38 +108,33 @@ fn largest(rules: [Rule; FEW], wheel: Wheel) -> Option<u64> {
 }
 
 // "Stop after the link that ends at the top word; else go on with p = q + 1."
-fn chain(rules: [Rule; FEW], wheel: Wheel, out: &mut [u64; NUMBERS]) -> usize {
-    let top = wheel.top;
-    let mut links = 0;
+fn chain(rules: &[Rule], wheel: Wheel, out: &mut [u64; NUMBERS]) -> usize {
+    let (places, _) = out.as_chunks_mut::<3>();
     let mut p = 0;
-    while links < LINKS {
+    for (links, place) in places.iter_mut().enumerate() {
         let link = link_at(rules, wheel, p);
-        out[3 * links] = link.from;
-        out[3 * links + 1] = link.to;
-        out[3 * links + 2] = link.reason;
-        links += 1;
-        if top <= link.to {
-            break;
+        *place = [link.from, link.to, link.reason];
+        if wheel.top <= link.to {
+            return links + 1;
         }
         p = link.to + 1;
     }
-    links
+    LINKS
 }
 
 // "Take the rule of furthest reach, the lowest number on a tie." "Otherwise p fails a form 7 rule."
-fn link_at(rules: [Rule; FEW], wheel: Wheel, p: u64) -> Link {
+fn link_at(rules: &[Rule], wheel: Wheel, p: u64) -> Link {
     let mut link = Link {
         from: p,
         to: gap(rules, wheel, p),
         reason: BITS,
     };
-    for i in 0..FEW {
-        let rule = rules[i];
-        if fails(wheel, rule, p) {
-            let to = turning::reach(wheel, rule, p);
+    for (i, rule) in rules.iter().enumerate() {
+        if fails(wheel, *rule, p) {
+            let to = turning::reach(wheel, *rule, p);
             if is_further(link, to) {
                 link = Link {
-                    from: turning::start(wheel, rule, p),
+                    from: turning::start(wheel, *rule, p),
                     to,
                     reason: i as u64,
                 };
@@ -165,20 +146,16 @@ fn link_at(rules: [Rule; FEW], wheel: Wheel, p: u64) -> Link {
 
 // Whether a rule's link takes the place of the one so far. The first that is found does.
 fn is_further(link: Link, to: u64) -> bool {
-    if link.reason == BITS {
-        return true;
-    }
-    link.to < to
+    link.reason == BITS || link.to < to
 }
 
 // "one less than the smallest word above p that meets all form 7 rules, or the top word if there is none"
-fn gap(rules: [Rule; FEW], wheel: Wheel, p: u64) -> u64 {
-    let top = wheel.top;
-    if top <= p {
-        return top;
+fn gap(rules: &[Rule], wheel: Wheel, p: u64) -> u64 {
+    if wheel.top <= p {
+        return wheel.top;
     }
-    let Some(word) = bit_rules::next(rules, wheel, p + 1) else {
-        return top;
-    };
-    std::num::wrapping_sub_u64(word, 1)
+    match bit_rules::next(rules, wheel, p + 1) {
+        Some(word) => word.wrapping_sub(1),
+        None => wheel.top,
+    }
 }

@@ -3,6 +3,6 @@ use Rattle.word.specs.Word.{top}
 use borrow.Author.Rules.{rules}
 use Rattle.try_rules.proofs.paper.answers.Goals as goal
 
-pub signed-reads-requires : goal.signed-reads-requires
+pub signed-requires : goal.signed-requires
 unfolding top
-signed-reads-requires c = search rules
+signed-requires c = search rules

@@ -2,5 +2,5 @@
 use Rattle.gate.proofs.Closed.{equals_itself, has_bits}
 use Rattle.try_watts.proofs.made.bits_of.Goals as goal
 
-pub float_to_bits-x : goal.float_to_bits-x
-float_to_bits-x c = has_bits _ (equals_itself _ c.if-x.false)
+pub float_to_bits-result : goal.float_to_bits-result
+float_to_bits-result c = has_bits _ (equals_itself _ c.if-x.false)

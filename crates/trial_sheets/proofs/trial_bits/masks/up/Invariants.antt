@@ -1,9 +1,0 @@
--- `up` ends: the measure is the words left. Assumes nothing.
-use Rattle.std.proofs.Common.{◌-◌}
-use Rattle.trial_sheets.proofs.trial_bits.masks.up.Given as goal
-
-abbrev pub invariant-loop-x : goal.invariant-loop-x
-invariant-loop-x l = Unit
-
-abbrev pub decreases-loop-x : goal.decreases-loop-x
-decreases-loop-x l = l.end - l.x

@@ -1,9 +1,0 @@
--- `furthest` is safe and ends: the measure is the rules left. Assumes nothing.
-use Rattle.std.proofs.Common.{◌-◌}
-use Rattle.trial_sheets.proofs.walk.furthest.Given as goal
-
-abbrev pub invariant-loop-i : goal.invariant-loop-i
-invariant-loop-i l = Unit
-
-abbrev pub decreases-loop-i : goal.decreases-loop-i
-decreases-loop-i l = l.n - l.i
