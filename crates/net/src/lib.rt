@@ -27,7 +27,7 @@ pub struct Net {
 }
 
 // How a run ends: refused with a number, with an empty cut, with nothing left to change, or with the steps spent.
-#[derive(Clone, Copy)]
+#[derive(Clone, Copy, PartialEq, Eq)]
 pub enum Ended {
     Refused(u64),
     Empty,
@@ -36,7 +36,7 @@ pub enum Ended {
 }
 
 // What a run answers: how it ended, the steps used, and the intervals. Places not in use are as they came.
-#[derive(Clone, Copy)]
+#[derive(Clone, Copy, PartialEq, Eq)]
 pub struct Answer {
     pub ended: Ended,
     pub steps: u64,

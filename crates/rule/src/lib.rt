@@ -14,7 +14,7 @@ pub mod bits;
 use word::Width;
 
 // A form, a sense (0 as written, 1 negated) and two constants.
-#[derive(Clone, Copy)]
+#[derive(Clone, Copy, PartialEq, Eq)]
 pub struct Rule {
     pub form: u64,
     pub sense: u64,

@@ -3,7 +3,7 @@
 pub mod laid;
 
 // The verdict (0 none, 1 one, 2 many) and the smallest and largest fitting word; for none both are 0.
-#[derive(Clone, Copy)]
+#[derive(Clone, Copy, PartialEq, Eq)]
 pub struct Kept {
     pub verdict: u64,
     pub smallest: u64,

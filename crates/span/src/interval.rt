@@ -5,7 +5,7 @@ ghost use Rattle.span.specs.interval.Interval.{cut, hollow, lower, turned, upper
 ghost use Rattle.span.specs.interval.Op.{inverted, second};
 
 // What joins the words.
-#[derive(Clone, Copy)]
+#[derive(Clone, Copy, Debug, PartialEq, Eq)]
 pub enum Op {
     Not,
     And,
@@ -14,7 +14,7 @@ pub enum Op {
 }
 
 // The words from low to high.
-#[derive(Clone, Copy)]
+#[derive(Clone, Copy, Debug, PartialEq, Eq)]
 pub struct Interval {
     pub low: u64,
     pub high: u64,

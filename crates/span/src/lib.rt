@@ -17,7 +17,7 @@ pub use crate::interval::{Interval, Op};
 use word::Width;
 
 // What a join answers: 0 or the number of a refusal, whether a cut is empty, and the three intervals.
-#[derive(Clone, Copy)]
+#[derive(Clone, Copy, PartialEq, Eq)]
 pub struct Joined {
     pub number: u64,
     pub empty: bool,

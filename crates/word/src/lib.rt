@@ -14,7 +14,7 @@ pub struct Width {
 }
 
 // An edition of the exchange. A sheet keeps the one that it was opened in.
-#[derive(Clone, Copy)]
+#[derive(Clone, Copy, PartialEq, Eq)]
 pub enum Edition {
     Old,
     New,
