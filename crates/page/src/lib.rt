@@ -8,7 +8,7 @@ use word::Edition;
 pub const MARKS: usize = 32;
 
 // What an opening is given: a width, and the edition of its frame.
-#[derive(Clone, Copy)]
+#[derive(Clone, Copy, PartialEq, Eq)]
 pub struct Opening {
     pub width: u64,
     pub edition: Edition,

@@ -28,7 +28,7 @@ use word::Edition;
 // A rule desk's sheet: the width, the rules in the order added, for each mark how many rules there were when it was set, what is
 // kept of the rules in force, and the edition that it was opened in. The first `count` rules and the first `marked` marks are in force; the rules up to `given` and the next
 // `waiting` marks wait to come back. Places not in use hold zeros, and the blank sheet is all zeros, of the old edition.
-#[derive(Clone, Copy)]
+#[derive(Clone, Copy, PartialEq, Eq)]
 pub struct Sheet {
     pub width: u64,
     pub rules: [Rule; Rule::LIMIT],
@@ -42,7 +42,7 @@ pub struct Sheet {
 }
 
 // What a call answers: 0 or the number of a refusal, and the sheet as it is then.
-#[derive(Clone, Copy)]
+#[derive(Clone, Copy, PartialEq, Eq)]
 pub struct Answer {
     pub number: u64,
     pub sheet: Sheet,

@@ -11,7 +11,7 @@ use search::verdict::Kept;
 use word::Width;
 
 // What asking answers: 0 or the number of a refusal, what is kept, and how many links were written.
-#[derive(Clone, Copy)]
+#[derive(Clone, Copy, PartialEq, Eq)]
 pub struct Reply {
     pub number: u64,
     pub kept: Kept,

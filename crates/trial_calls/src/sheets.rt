@@ -5,16 +5,12 @@ use sheet::Sheet;
 use trial::trial_direct::cases;
 use word::Edition;
 
-// The rules that leave one place free.
-const ALL_BUT_ONE: usize = Rule::LIMIT - 1;
-
-// The rule of the paper's case 2, which the words from 11 to 14 meet at width 4.
+/// The rule of the paper's case 2, which the words from 11 to 14 meet at width 4.
 pub fn case2() -> Rule {
-    let case = cases::at(cases::CASE2);
-    cases::rule_at(case.rules, 0)
+    cases::rule_at(cases::at(cases::CASE2).rules, 0)
 }
 
-// The edition that is not the one.
+/// The edition that is not the one.
 pub fn other(edition: Edition) -> Edition {
     match edition {
         Edition::Old => Edition::New,
@@ -22,61 +18,47 @@ pub fn other(edition: Edition) -> Edition {
     }
 }
 
-// A sheet that is just opened, in the old edition.
+/// A sheet that is just opened, in the old edition.
 pub fn opened(width: u64) -> Sheet {
     opened_in(width, Edition::Old)
 }
 
-// The same in any edition.
+/// The same in any edition.
 pub fn opened_in(width: u64, edition: Edition) -> Sheet {
-    let answer = Sheet::blank().open(Opening { width, edition });
-    answer.sheet
+    Sheet::blank().open(Opening { width, edition }).sheet
 }
 
-// The sheet that is left by adding a rule, in the edition that the sheet has.
+/// The sheet that is left by adding a rule, in the edition that the sheet has.
 pub fn added(sheet: Sheet, rule: Rule) -> Sheet {
-    let edition = sheet.edition;
-    let answer = sheet.add(edition, rule);
-    answer.sheet
+    sheet.add(sheet.edition, rule).sheet
 }
 
-// The sheet that is left by setting a mark.
+/// The sheet that is left by setting a mark.
 pub fn marked(sheet: Sheet) -> Sheet {
-    let answer = sheet.mark();
-    answer.sheet
+    sheet.mark().sheet
 }
 
-// The sheet that is left by going back.
+/// The sheet that is left by going back.
 pub fn gone_back(sheet: Sheet) -> Sheet {
-    let answer = sheet.back();
-    answer.sheet
+    sheet.back().sheet
 }
 
-// The sheet that is left by going forward.
+/// The sheet that is left by going forward.
 pub fn gone_forward(sheet: Sheet) -> Sheet {
-    let answer = sheet.forward();
-    answer.sheet
+    sheet.forward().sheet
 }
 
-// A sheet with one place free.
-pub fn all_but_one(edition: Edition) -> Sheet {
-    let mut sheet = opened_in(4, edition);
-    for i in 0..ALL_BUT_ONE {
-        sheet = added(sheet, case2());
-    }
-    sheet
+/// The sheet with n rules more.
+pub fn filled(sheet: Sheet, n: usize) -> Sheet {
+    (0..n).fold(sheet, |more, _| added(more, case2()))
 }
 
-// A sheet with no place free.
+/// A sheet with no place free.
 pub fn full(edition: Edition) -> Sheet {
-    added(all_but_one(edition), case2())
+    filled(opened_in(4, edition), Rule::LIMIT)
 }
 
-// A sheet on which no further mark may be set.
+/// A sheet on which no further mark may be set.
 pub fn all_marks(edition: Edition) -> Sheet {
-    let mut sheet = opened_in(4, edition);
-    for i in 0..Sheet::MARKS {
-        sheet = marked(sheet);
-    }
-    sheet
+    (0..Sheet::MARKS).fold(opened_in(4, edition), |more, _| marked(more))
 }

@@ -12,22 +12,21 @@ mod case;
 use batch::Batch;
 use page::Opening;
 use rule::Rule;
+use std::io::Result;
 use trial::trial_direct::rules::{NO_FORM, rule};
-use trial::trial_tally::Tally;
+use trial::trial_tally::{Tally, total};
 use trial_calls::trial_lists::{alike, parts, parts_of, with};
 use word::{Edition, Width};
 
 // The places of a list of which each is tried.
 const PLACES: usize = 5;
 
-fn main() {
-    widths().print(b"widths");
-    editions().print(b"editions");
-    rules(old(4)).plus(rules(new(4))).print(b"rules");
-    lengths().print(b"lengths");
-    case::known(old(4))
-        .plus(case::known(new(4)))
-        .print(b"known");
+fn main(rt: HostRuntime) -> Result<()> {
+    println!(rt; "widths {}", widths())?;
+    println!(rt; "editions {}", editions())?;
+    println!(rt; "rules {}", rules(old(4)).plus(rules(new(4))))?;
+    println!(rt; "lengths {}", lengths())?;
+    println!(rt; "known {}", case::known(old(4)).plus(case::known(new(4))))
 }
 
 fn old(width: u64) -> Opening {
@@ -56,36 +55,29 @@ fn widths() -> Tally {
 }
 
 fn opening(opening: Opening) -> Tally {
-    case::lent_enough(opening, alike(), 0, 2, 0)
-        .plus(case::lent_enough(opening, alike(), 3, 2, 3))
-        .plus(case::lent_enough(opening, parts(), Batch::MOST, 2, Batch::MOST))
+    case::lent_enough(opening, &[], 2, 0)
+        .plus(case::lent_enough(opening, &alike()[..3], 2, 3))
+        .plus(case::lent_enough(opening, &parts(), 2, Batch::MOST))
 }
 
 // Each width that the new edition has alone, and the one below it.
 fn editions() -> Tally {
-    let mut tally = Tally::none();
-    for below in 32..Width::LIMIT {
-        tally = tally.plus(edition(below, below + 1, u64::MAX >> (63 - below)));
-    }
-    tally
+    total((32..Width::LIMIT).map(|below| edition(below, below + 1, u64::MAX >> (63 - below))))
 }
 
 // A list whose last rule has the top word of a width: right there in the new edition, refused at once in the old one, and at that
 // rule one bit below.
 fn edition(below: u64, width: u64, top: u64) -> Tally {
     let rules = with(alike(), 2, rule(1, 0, top, top));
-    case::lent_enough(new(width), rules, 3, 0, 3)
-        .plus(case::lent_enough(old(width), rules, 3, 2, 3))
-        .plus(case::lent_enough(new(below), rules, 3, 5, 2))
+    let three = &rules[..3];
+    case::lent_enough(new(width), three, 0, 3)
+        .plus(case::lent_enough(old(width), three, 2, 3))
+        .plus(case::lent_enough(new(below), three, 5, 2))
 }
 
 // At width 4, each place of five.
 fn rules(opening: Opening) -> Tally {
-    let mut tally = Tally::none();
-    for place in 0..PLACES {
-        tally = tally.plus(each(opening, place));
-    }
-    tally
+    total((0..PLACES).map(|place| each(opening, place)))
 }
 
 // A rule that is refused with 3, one with 4, and two with 5; a stray bit of form 7, the lowest, a middle one and the top bit;
@@ -98,31 +90,32 @@ fn each(opening: Opening, place: usize) -> Tally {
         .plus(refused(opening, place, rule(7, 0, 6, 1), 5))
         .plus(refused(opening, place, rule(7, 0, 1, 2), 5))
         .plus(refused(opening, place, rule(7, 0, 7, 8), 5))
-        .plus(case::lent_enough(
-            opening,
-            with(alike(), place, rule(7, 0, 6, 6)),
-            PLACES,
-            0,
-            PLACES,
-        ))
+        .plus(among(opening, place, rule(7, 0, 6, 6), 0, PLACES))
 }
 
 fn refused(opening: Opening, place: usize, rule: Rule, number: u64) -> Tally {
-    case::lent_enough(opening, with(alike(), place, rule), PLACES, number, place)
+    among(opening, place, rule, number, place)
+}
+
+// A rule at a place of a list, with the number and the place that are answered.
+fn among(opening: Opening, place: usize, rule: Rule, number: u64, answered: usize) -> Tally {
+    let rules = with(alike(), place, rule);
+    case::lent_enough(opening, &rules[..PLACES], number, answered)
 }
 
 // No rule, one, as many as a sheet takes, and one more: "many" at width 4, and of a full sheet at widths 32 and 64 "none".
 fn lengths() -> Tally {
-    length(old(4), alike())
-        .plus(length(new(4), alike()))
-        .plus(length(old(32), parts()))
-        .plus(length(new(32), parts()))
-        .plus(length(new(64), parts_of(u64::MAX)))
+    length(old(4), &alike())
+        .plus(length(new(4), &alike()))
+        .plus(length(old(32), &parts()))
+        .plus(length(new(32), &parts()))
+        .plus(length(new(64), &parts_of(u64::MAX)))
 }
 
-fn length(opening: Opening, rules: [Rule; Batch::MOST]) -> Tally {
-    case::both_lent(opening, rules, 0)
-        .plus(case::both_lent(opening, rules, 1))
-        .plus(case::both_lent(opening, rules, Rule::LIMIT))
-        .plus(case::lent_enough(opening, rules, Batch::MOST, 6, Rule::LIMIT))
+fn length(opening: Opening, rules: &[Rule; Batch::MOST]) -> Tally {
+    let all_but_one = &rules[..Rule::LIMIT];
+    case::both_lent(opening, &[])
+        .plus(case::both_lent(opening, &rules[..1]))
+        .plus(case::both_lent(opening, all_but_one))
+        .plus(case::lent_enough(opening, rules, 6, Rule::LIMIT))
 }

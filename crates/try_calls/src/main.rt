@@ -9,18 +9,19 @@
 use page::Opening;
 use rule::Rule;
 use sheet::{Answer, Sheet};
+use std::io::Result;
 use trial::trial_direct::direct::UNTOUCHED;
 use trial::trial_direct::rules::{NO_FORM, rule};
-use trial::trial_tally::Tally;
-use trial_calls::answers::{accepted, ask_refused, kept, refused, replied};
+use trial::trial_tally::{Tally, total};
+use trial_calls::answers::{accepted, ask_refused, kept, looks, refused, replied};
 use trial_calls::sheets::{
-    added, all_but_one, all_marks, case2, gone_back, gone_forward, marked, opened, opened_in,
+    added, case2, filled, gone_back, gone_forward, marked, opened, opened_in,
 };
 use word::{Edition, Width};
 
-fn main() {
-    all().print(b"case13");
-    known().print(b"known");
+fn main(rt: HostRuntime) -> Result<()> {
+    println!(rt; "case13 {}", all())?;
+    println!(rt; "known {}", known())
 }
 
 fn all() -> Tally {
@@ -36,9 +37,9 @@ fn in_edition(edition: Edition) -> Tally {
     widths(sheet)
         .plus(rules(sheet))
         .plus(bit_rules(sheet))
-        .plus(one_too_many(edition))
+        .plus(one_too_many(sheet))
         .plus(asking(sheet))
-        .plus(marks(edition))
+        .plus(marks(sheet))
 }
 
 fn opens(sheet: Sheet, width: u64, edition: Edition) -> Answer {
@@ -47,55 +48,59 @@ fn opens(sheet: Sheet, width: u64, edition: Edition) -> Answer {
 
 // A refused opening keeps the old sheet with its edition.
 fn widths(sheet: Sheet) -> Tally {
-    Tally::one(refused(opens(sheet, 0, Edition::Old), 2, sheet))
-        .plus(Tally::one(refused(opens(sheet, 33, Edition::Old), 2, sheet)))
-        .plus(Tally::one(refused(opens(sheet, 0, Edition::New), 2, sheet)))
-        .plus(Tally::one(refused(opens(sheet, 65, Edition::New), 2, sheet)))
-        .plus(new_widths(sheet))
+    looks(&[
+        refused(opens(sheet, 0, Edition::Old), 2, sheet),
+        refused(opens(sheet, 33, Edition::Old), 2, sheet),
+        refused(opens(sheet, 0, Edition::New), 2, sheet),
+        refused(opens(sheet, 65, Edition::New), 2, sheet),
+    ])
+    .plus(new_widths(sheet))
 }
 
 // The widths that the new edition has alone.
 fn new_widths(sheet: Sheet) -> Tally {
-    let mut tally = Tally::none();
-    for width in 33..Width::LIMIT + 1 {
-        tally = tally.plus(Tally::one(accepted(opens(sheet, width, Edition::New))));
-    }
-    tally
+    let widths = 33..=Width::LIMIT;
+    total(widths.map(|width| Tally::one(accepted(opens(sheet, width, Edition::New)))))
 }
 
 fn adds(sheet: Sheet, rule: Rule) -> Answer {
-    let edition = sheet.edition;
-    sheet.add(edition, rule)
+    sheet.add(sheet.edition, rule)
 }
 
 // At width 4.
 fn rules(sheet: Sheet) -> Tally {
-    Tally::one(refused(adds(sheet, rule(NO_FORM, 0, 0, 0)), 3, sheet))
-        .plus(Tally::one(refused(adds(sheet, rule(1, 0, 16, 0)), 5, sheet)))
-        .plus(Tally::one(refused(adds(sheet, rule(1, 0, 0, 16)), 5, sheet)))
-        .plus(Tally::one(accepted(adds(sheet, rule(1, 0, 15, 0)))))
-        .plus(Tally::one(accepted(adds(sheet, rule(1, 0, 0, 15)))))
+    looks(&[
+        refused(adds(sheet, rule(NO_FORM, 0, 0, 0)), 3, sheet),
+        refused(adds(sheet, rule(1, 0, 16, 0)), 5, sheet),
+        refused(adds(sheet, rule(1, 0, 0, 16)), 5, sheet),
+        accepted(adds(sheet, rule(1, 0, 15, 0))),
+        accepted(adds(sheet, rule(1, 0, 0, 15))),
+    ])
 }
 
 // A bit of form 7 outside its mask, the lowest, a middle one (case 9) and the top bit; and a value that is its mask.
 fn bit_rules(sheet: Sheet) -> Tally {
-    Tally::one(refused(adds(sheet, rule(7, 0, 6, 1)), 5, sheet))
-        .plus(Tally::one(refused(adds(sheet, rule(7, 0, 1, 2)), 5, sheet)))
-        .plus(Tally::one(refused(adds(sheet, rule(7, 0, 7, 8)), 5, sheet)))
-        .plus(Tally::one(accepted(adds(sheet, rule(7, 0, 6, 6)))))
+    looks(&[
+        refused(adds(sheet, rule(7, 0, 6, 1)), 5, sheet),
+        refused(adds(sheet, rule(7, 0, 1, 2)), 5, sheet),
+        refused(adds(sheet, rule(7, 0, 7, 8)), 5, sheet),
+        accepted(adds(sheet, rule(7, 0, 6, 6))),
+    ])
 }
 
 // The last rule that a sheet takes stands after a mark, so that a step back strikes it alone, and a step forward brings it back.
-fn one_too_many(edition: Edition) -> Tally {
+fn one_too_many(opened: Sheet) -> Tally {
     let more = case2();
-    let sheet = marked(all_but_one(edition));
+    let sheet = marked(filled(opened, Rule::LIMIT - 1));
     let full = added(sheet, more);
     let back = gone_back(full);
-    Tally::one(accepted(adds(sheet, more)))
-        .plus(Tally::one(refused(adds(full, more), 6, full)))
-        .plus(Tally::one(accepted(full.back())))
-        .plus(Tally::one(accepted(adds(back, more))))
-        .plus(Tally::one(refused(adds(gone_forward(back), more), 6, full)))
+    looks(&[
+        accepted(adds(sheet, more)),
+        refused(adds(full, more), 6, full),
+        accepted(full.back()),
+        accepted(adds(back, more)),
+        refused(adds(gone_forward(back), more), 6, full),
+    ])
 }
 
 // One rule, with 14 numbers lent and with 15.
@@ -103,57 +108,47 @@ fn asking(opened: Sheet) -> Tally {
     let sheet = added(opened, case2());
     let mut out = [UNTOUCHED; 15];
     let reply = sheet.ask(&mut out);
-    Tally::one(ask_refused(sheet, 9)).plus(Tally::one(replied(reply, 0, kept(2, 11, 14), 0)))
+    looks(&[ask_refused(sheet, 9), replied(reply, 0, kept(2, 11, 14), 0)])
 }
 
-fn marks(edition: Edition) -> Tally {
-    let full = all_marks(edition);
-    marking(opened_in(4, edition))
-        .plus(Tally::one(refused(full.mark(), 7, full)))
-        .plus(striking(full))
+// As many marks as a sheet takes are accepted, and none after them; then a step back for each; and then a step forward for each, when the
+// sheet is the one from before.
+fn marks(opened: Sheet) -> Tally {
+    let (marking, full) = all_accepted(opened, |sheet| sheet.mark());
+    let (striking, struck) = all_accepted(full, |sheet| sheet.back());
+    let (returning, returned) = all_accepted(struck, |sheet| sheet.forward());
+    looks(&[
+        refused(full.mark(), 7, full),
+        refused(struck.back(), 8, struck),
+        refused(returned.forward(), 12, full),
+    ])
+    .plus(marking)
+    .plus(striking)
+    .plus(returning)
 }
 
-// As many marks as a sheet takes are accepted.
-fn marking(opened: Sheet) -> Tally {
+// A call for each mark that a sheet takes, one after another, and the sheet that they leave.
+fn all_accepted<F: Fn(Sheet) -> Answer>(start: Sheet, call: F) -> (Tally, Sheet)
+    requires { F.IsAlwaysCallable call }
+{
     let mut tally = Tally::none();
-    let mut sheet = opened;
-    for i in 0..Sheet::MARKS {
-        tally = tally.plus(Tally::one(accepted(sheet.mark())));
-        sheet = marked(sheet);
+    let mut sheet = start;
+    for _ in 0..Sheet::MARKS {
+        let answer = call(sheet);
+        tally = tally.plus(Tally::one(accepted(answer)));
+        sheet = answer.sheet;
     }
-    tally
-}
-
-// A step back for each mark is accepted, and none after them; and then a step forward for each.
-fn striking(full: Sheet) -> Tally {
-    let mut tally = Tally::none();
-    let mut sheet = full;
-    for i in 0..Sheet::MARKS {
-        tally = tally.plus(Tally::one(accepted(sheet.back())));
-        sheet = gone_back(sheet);
-    }
-    tally
-        .plus(Tally::one(refused(sheet.back(), 8, sheet)))
-        .plus(returning(sheet, full))
-}
-
-// A step forward for each mark is accepted, and none after them, when the sheet is the one from before.
-fn returning(struck: Sheet, full: Sheet) -> Tally {
-    let mut tally = Tally::none();
-    let mut sheet = struck;
-    for i in 0..Sheet::MARKS {
-        tally = tally.plus(Tally::one(accepted(sheet.forward())));
-        sheet = gone_forward(sheet);
-    }
-    tally.plus(Tally::one(refused(sheet.forward(), 12, full)))
+    (tally, sheet)
 }
 
 fn on_blank(blank: Sheet) -> Tally {
-    Tally::one(refused(blank.add(Edition::Old, case2()), 1, blank))
-        .plus(Tally::one(refused(blank.mark(), 1, blank)))
-        .plus(Tally::one(refused(blank.back(), 1, blank)))
-        .plus(Tally::one(refused(blank.forward(), 1, blank)))
-        .plus(Tally::one(ask_refused(blank, 1)))
+    looks(&[
+        refused(blank.add(Edition::Old, case2()), 1, blank),
+        refused(blank.mark(), 1, blank),
+        refused(blank.back(), 1, blank),
+        refused(blank.forward(), 1, blank),
+        ask_refused(blank, 1),
+    ])
 }
 
 // Wrong expectations: no mark is in force, and the number is 8; 14 numbers are too few for one rule, and the number is 9; a refused
@@ -161,13 +156,12 @@ fn on_blank(blank: Sheet) -> Tally {
 fn known() -> Tally {
     let sheet = opened(4);
     let more = added(sheet, case2());
-    Tally::one(refused(sheet.back(), 7, sheet))
-        .plus(Tally::one(refused(sheet.back(), 8, more)))
-        .plus(Tally::one(ask_refused(more, 6)))
-        .plus(Tally::one(accepted(sheet.back())))
-        .plus(Tally::one(refused(
-            opens(sheet, 65, Edition::New),
-            2,
-            opened_in(4, Edition::New),
-        )))
+    let other = opened_in(4, Edition::New);
+    looks(&[
+        refused(sheet.back(), 7, sheet),
+        refused(sheet.back(), 8, more),
+        ask_refused(more, 6),
+        accepted(sheet.back()),
+        refused(opens(sheet, 65, Edition::New), 2, other),
+    ])
 }

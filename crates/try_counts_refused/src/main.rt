@@ -10,27 +10,28 @@
 ghost use Rattle.std.specs.Prelude.{◌≤◌};
 
 use sheet::Sheet;
-use trial::trial_tally::Tally;
-use trial_calls::records::{NO_SHEETS, no_sheet};
+use std::io::Result;
+use trial::trial_tally::{Tally, total};
+use trial_calls::answers::looks;
+use trial_calls::records::{AMOUNTS, NUMBERS, of_one_edition, raised, sound, turned};
 use trial_calls::sheets::opened_in;
 use trial_counts::pieces;
 use trial_counts::refused::{count_refused, list_refused};
 use word::{Edition, Width};
 
-fn main() {
-    on_blank().print(b"blank");
-    above(Edition::New, 63)
-        .plus(above(Edition::Old, 32))
-        .print(b"above");
-    no_sheets().print(b"no sheet");
-    known().print(b"known");
+fn main(rt: HostRuntime) -> Result<()> {
+    println!(rt; "blank {}", on_blank())?;
+    println!(rt;
+        "above {}",
+        above(Edition::New, 63).plus(above(Edition::Old, 32))
+    )?;
+    println!(rt; "no sheet {}", no_sheets())?;
+    println!(rt; "known {}", known())
 }
 
 // A listing from a start, with 0, 1 and 7 numbers lent.
 fn from_start(sheet: Sheet, start: u64, number: u64) -> Tally {
-    Tally::one(list_refused(sheet, start, 0, number))
-        .plus(Tally::one(list_refused(sheet, start, 1, number)))
-        .plus(Tally::one(list_refused(sheet, start, 7, number)))
+    looks(&[0, 1, 7].map(|room| list_refused(sheet, start, room, number)))
 }
 
 // 1 comes before 5: the blank sheet has no top word.
@@ -47,8 +48,8 @@ fn above(edition: Edition, widest: u64) -> Tally
     requires { widest ≤ 63 }
 {
     let mut tally = Tally::none();
-    for i in 0..widest {
-        tally = tally.plus(above_top(edition, 1 + i));
+    for bits in 1..=widest {
+        tally = tally.plus(above_top(edition, bits));
     }
     tally
 }
@@ -58,43 +59,51 @@ fn above_top(edition: Edition, bits: u64) -> Tally
 {
     let sheet = opened_in(bits, edition);
     let top = Width { bits }.top();
-    let past = std::num::wrapping_add_u64(top, 1);
+    let past = top.wrapping_add(1);
     from_start(sheet, past, 5)
-        .plus(from_start(sheet, std::num::wrapping_add_u64(past, top / 2), 5))
+        .plus(from_start(sheet, past.wrapping_add(top / 2), 5))
         .plus(from_start(sheet, u64::MAX, 5))
         .plus(at_top(sheet, top))
 }
 
 // The top word is a start.
 fn at_top(sheet: Sheet, top: u64) -> Tally {
-    Tally::one(pieces::only(sheet, top, 0))
-        .plus(Tally::one(pieces::only(sheet, top, 1)))
-        .plus(Tally::one(pieces::only(sheet, top, 7)))
+    looks(&[0, 1, 7].map(|room| pieces::only(sheet, top, room)))
 }
 
-// 17 comes before 1 and 5.
+// 17 comes before 1 and 5: records with one number raised, and those with the other edition.
 fn no_sheets() -> Tally {
-    let mut tally = Tally::none();
-    for at in 0..NO_SHEETS {
-        tally = tally.plus(looks(no_sheet(at)));
+    let mut tally = total(
+        of_one_edition()
+            .iter()
+            .map(|sheet| no_sheet(turned(*sheet))),
+    );
+    for sheet in &sound() {
+        for by in AMOUNTS {
+            for at in 0..NUMBERS {
+                tally = tally.plus(no_sheet(raised(*sheet, at, by)));
+            }
+        }
     }
     tally
 }
 
-fn looks(sheet: Sheet) -> Tally {
-    Tally::one(count_refused(sheet, 17))
-        .plus(from_start(sheet, 0, 17))
-        .plus(from_start(sheet, u64::MAX, 17))
+fn no_sheet(record: Sheet) -> Tally {
+    Tally::one(count_refused(record, 17))
+        .plus(from_start(record, 0, 17))
+        .plus(from_start(record, u64::MAX, 17))
 }
 
 // Wrong expectations: a free sheet is not refused, the blank one with 1, and a start above the top word with 5.
 fn known() -> Tally {
     let sheet = opened_in(4, Edition::Old);
     let blank = Sheet::blank();
-    Tally::one(count_refused(sheet, 1))
-        .plus(Tally::one(count_refused(blank, 17)))
-        .plus(Tally::one(list_refused(sheet, 15, 0, 5)))
-        .plus(Tally::one(list_refused(sheet, 16, 1, 1)))
-        .plus(Tally::one(list_refused(blank, 16, 1, 5)))
-        .plus(Tally::one(pieces::only(sheet, 14, 7)))
+    looks(&[
+        count_refused(sheet, 1),
+        count_refused(blank, 17),
+        list_refused(sheet, 15, 0, 5),
+        list_refused(sheet, 16, 1, 1),
+        list_refused(blank, 16, 1, 5),
+        pieces::only(sheet, 14, 7),
+    ])
 }

@@ -1,7 +1,8 @@
 // The calls of sequences: gates by the number that they get, and the others.
+use std::io::Result;
 use trial::trial_tally::{Split, Tally};
 
-// Gates that are accepted, and those refused: on the blank sheet, for its width, for a limit, and for want of room; and other calls.
+/// Gates that are accepted, and those refused: on the blank sheet, for its width, for a limit, and for want of room; and other calls.
 #[derive(Clone, Copy)]
 pub struct Counts {
     accepted: Tally,
@@ -24,34 +25,34 @@ impl Counts {
         }
     }
 
-    // One gate more, that gets a number.
-    pub fn gate(self, number: u64, same: bool) -> Counts {
+    /// One gate more, that gets a number.
+    pub fn gate(&mut self, number: u64, same: bool) {
         let one = Tally::one(same);
-        let mut counts = self;
         match number {
-            0 => counts.accepted = self.accepted.plus(one),
-            1 => counts.blank = self.blank.plus(one),
-            13 => counts.width = self.width.plus(one),
-            14 => counts.limit = self.limit.plus(one),
-            _ => counts.room = self.room.plus(one),
+            0 => self.accepted = self.accepted.plus(one),
+            1 => self.blank = self.blank.plus(one),
+            13 => self.width = self.width.plus(one),
+            14 => self.limit = self.limit.plus(one),
+            _ => self.room = self.room.plus(one),
         }
-        counts
     }
 
-    // One other call more.
-    pub fn other(self, number: u64, same: bool) -> Counts {
+    /// One other call more.
+    pub fn other(&mut self, number: u64, same: bool) {
         let kind = if number == 0 { 0 } else { 1 };
-        let mut counts = self;
-        counts.others = self.others.plus(Split::one(kind, same));
-        counts
+        self.others = self.others.plus(Split::one(kind, same));
     }
 
-    pub fn print(self) {
-        self.accepted.print(b"accepted");
-        self.blank.print(b"blank");
-        self.width.print(b"width");
-        self.limit.print(b"limit");
-        self.room.print(b"room");
-        self.others.print_calls(b"others");
+    pub fn tell(self, rt: &impl Print) -> Result<()> {
+        println!(rt; "accepted {}", self.accepted)?;
+        println!(rt; "blank {}", self.blank)?;
+        println!(rt; "width {}", self.width)?;
+        println!(rt; "limit {}", self.limit)?;
+        println!(rt; "room {}", self.room)?;
+        println!(rt; "others {}", self.others.joined())?;
+        println!(rt;
+            "others {} accepted, {} refused",
+            self.others.first, self.others.second
+        )
     }
 }

@@ -1,16 +1,18 @@
 // Gates and calls drawn from a fixed seed, so that every run makes the same ones.
-use gate::Gate;
+use gate::{Gate, Turned};
 use page::Opening;
+use rule::Rule;
 use sheet::Call;
 use trial::trial_direct::draw::next;
 use trial::trial_gates::direct::Kind;
 use trial::trial_gates::{direct, made};
+use trial_calls::trial_draws::draw;
 
 const SIGN: u32 = 0x8000_0000;
 
 const INFINITY: u32 = 0x7f80_0000;
 
-// The kind of a gate, and the patterns of its limits: at least a limit has only a low one, at most a limit only a high one.
+/// The kind of a gate, and the patterns of its limits: at least a limit has only a low one, at most a limit only a high one.
 #[derive(Clone, Copy)]
 pub struct Limits {
     pub kind: Kind,
@@ -23,25 +25,33 @@ impl Limits {
         made::gate(self.kind, self.low, self.high)
     }
 
+    /// The four rules that the gate is turned into, if it is.
+    pub fn rules(self) -> Option<[Rule; 4]> {
+        match self.gate().rules() {
+            Turned::Rules(four) => Some([four.first, four.second, four.third, four.fourth]),
+            Turned::NotANumber => None,
+        }
+    }
+
     pub fn are_numbers(self) -> bool {
         direct::limits(self.kind, self.low, self.high)
     }
 
-    // Whether the reading x meets the gate.
+    /// Whether the reading x meets the gate.
     pub fn met(self, x: u64) -> bool {
         direct::meets(self.kind, self.low, self.high, x)
     }
 }
 
-// What is called next.
+/// What is called next.
 #[derive(Clone, Copy)]
 pub enum Next {
     Set(Limits),
     Other(Call),
 }
 
-// A gate or another call for a sheet that was opened so, on which something waits or nothing does. A sheet that takes no gate is soon
-// opened anew; once something waits gates are rare, as each clears the pile.
+/// A gate or another call for a sheet that was opened so, on which something waits or nothing does. A sheet that takes no gate is soon
+/// opened anew; once something waits gates are rare, as each clears the pile.
 pub fn drawn(seed: u64, opening: Opening, waits: bool) -> Next {
     let more = next(seed);
     if opens(seed / 0x1_0000_0000, opening.width) {
@@ -50,37 +60,33 @@ pub fn drawn(seed: u64, opening: Opening, waits: bool) -> Next {
     if sets(seed / 0x100_0000_0000, waits) {
         return Next::Set(some_limits(more));
     }
-    Next::Other(trial_calls::trial_draws::draw::drawn(seed, opening, waits))
+    Next::Other(draw::drawn(seed, opening, waits))
 }
 
 fn opens(seed: u64, width: u64) -> bool {
     let kind = seed % 128;
-    if width == Gate::WIDTH {
-        return kind == 0;
-    }
-    kind < 16
+    kind == 0 || width != Gate::WIDTH && kind < 16
 }
 
 fn sets(seed: u64, waits: bool) -> bool {
     let kind = seed % 16;
-    if waits {
-        return kind == 0;
-    }
-    kind < 6
+    kind == 0 || !waits && kind < 6
 }
 
 // An opening in either edition, mostly of the width of gates, else of a neighbouring one.
 fn anew(seed: u64) -> Opening {
-    let edition = trial_calls::trial_draws::draw::either(seed);
     let width = if seed % 8 == 0 {
         30 + seed / 8 % 4
     } else {
         Gate::WIDTH
     };
-    Opening { width, edition }
+    Opening {
+        width,
+        edition: draw::either(seed),
+    }
 }
 
-// A gate, whose low limit is mostly negative and whose high one is mostly not.
+/// A gate, whose low limit is mostly negative and whose high one is mostly not.
 pub fn some_limits(seed: u64) -> Limits {
     let more = next(seed);
     let low = pattern(seed / 8);

@@ -13,11 +13,25 @@ mod draw;
 mod pages;
 mod reading;
 
-fn main() {
-    reading::over(reading::GATES).print(b"drawn");
-    reading::over(reading::FIT).print(b"fit");
-    reading::over(reading::UNFIT).print(b"unfit");
-    reading::over(reading::ASKED).print(b"asked");
-    pages::all().print();
-    pages::known().plus(reading::known()).print(b"known");
+use std::io::Result;
+
+fn main(rt: HostRuntime) -> Result<()> {
+    println!(rt;
+        "drawn {}",
+        reading::over(|_, limits| reading::turned(limits))
+    )?;
+    println!(rt;
+        "fit {}",
+        reading::over(|seed, limits| reading::on_words(limits, seed, true))
+    )?;
+    println!(rt;
+        "unfit {}",
+        reading::over(|seed, limits| reading::on_words(limits, seed, false))
+    )?;
+    println!(rt;
+        "asked {}",
+        reading::over(|seed, limits| reading::asked(limits, seed))
+    )?;
+    pages::all().tell(&rt)?;
+    println!(rt; "known {}", pages::known().plus(reading::known()))
 }

@@ -12,48 +12,44 @@ mod made;
 use gate::Gate;
 use rule::Rule;
 use sheet::{Answer, Sheet};
+use std::io::Result;
 use trial::trial_tally::Tally;
-use trial_calls::answers::{accepted, refused, same_sheet};
+use trial_calls::answers::{accepted, kept, looks, refused};
 use trial_calls::records::hurt;
-use trial_calls::sheets::{added, case2, gone_back, marked, opened_in};
+use trial_calls::sheets::{added, case2, filled, gone_back, marked, opened_in};
 use word::Edition;
 
-fn main() {
-    kept(Edition::Old).plus(kept(Edition::New)).print(b"kept");
-    as_added(Edition::Old)
-        .plus(as_added(Edition::New))
-        .print(b"added");
-    order(Edition::Old)
-        .plus(order(Edition::New))
-        .print(b"order");
-    room(Edition::Old).plus(room(Edition::New)).print(b"room");
-    waits(Edition::Old)
-        .plus(waits(Edition::New))
-        .print(b"waits");
-    known().print(b"known");
+fn main(rt: HostRuntime) -> Result<()> {
+    println!(rt; "kept {}", in_both(|edition| as_kept(edition)))?;
+    println!(rt; "added {}", in_both(|edition| as_added(edition)))?;
+    println!(rt; "order {}", in_both(|edition| order(edition)))?;
+    println!(rt; "room {}", in_both(|edition| room(edition)))?;
+    println!(rt; "waits {}", in_both(|edition| waits(edition)))?;
+    println!(rt; "known {}", known())
+}
+
+fn in_both<F: Fn(Edition) -> Tally>(tried: F) -> Tally
+    requires { F.IsAlwaysCallable tried }
+{
+    tried(Edition::Old).plus(tried(Edition::New))
 }
 
 // Whether a gate is accepted and leaves these numbers.
-fn keeps(sheet: Sheet, gate: Gate, verdict: u64, smallest: u64, largest: u64) -> Tally {
+fn keeps(sheet: Sheet, gate: Gate, verdict: u64, smallest: u64, largest: u64) -> bool {
     let answer = gating::set(sheet, gate);
-    let left = answer.sheet;
-    let kept = left.kept;
-    Tally::one(
-        accepted(answer)
-            & (kept.verdict == verdict)
-            & (kept.smallest == smallest)
-            & (kept.largest == largest),
-    )
+    accepted(answer) && answer.sheet.kept == kept(verdict, smallest, largest)
 }
 
-fn kept(edition: Edition) -> Tally {
+fn as_kept(edition: Edition) -> Tally {
     let sheet = opened_in(32, edition);
-    keeps(sheet, Gate::AtLeast(1.0), 2, 0x3f80_0000, 0x7f80_0000)
-        .plus(keeps(sheet, Gate::AtMost(1.0), 2, 0, 0xff80_0000))
-        .plus(keeps(sheet, made::within(1.0, 2.0), 2, 0x3f80_0000, 0x4000_0000))
-        .plus(keeps(sheet, made::within(2.0, 2.0), 1, 0x4000_0000, 0x4000_0000))
-        .plus(keeps(sheet, made::within(0.0, -0.0), 2, 0, 0x8000_0000))
-        .plus(keeps(sheet, made::within(2.0, 1.0), 0, 0, 0))
+    looks(&[
+        keeps(sheet, Gate::AtLeast(1.0), 2, 0x3f80_0000, 0x7f80_0000),
+        keeps(sheet, Gate::AtMost(1.0), 2, 0, 0xff80_0000),
+        keeps(sheet, made::within(1.0, 2.0), 2, 0x3f80_0000, 0x4000_0000),
+        keeps(sheet, made::within(2.0, 2.0), 1, 0x4000_0000, 0x4000_0000),
+        keeps(sheet, made::within(0.0, -0.0), 2, 0, 0x8000_0000),
+        keeps(sheet, made::within(2.0, 1.0), 0, 0, 0),
+    ])
 }
 
 // A gate against its rules, added one by one.
@@ -63,18 +59,20 @@ fn as_added(edition: Edition) -> Tally {
 }
 
 fn added_on(sheet: Sheet) -> Tally {
-    same_as(sheet, Gate::AtLeast(-1.0))
-        .plus(same_as(sheet, Gate::AtMost(100.0)))
-        .plus(same_as(sheet, made::within(-0.5, 0.5)))
+    looks(&[
+        same_as(sheet, Gate::AtLeast(-1.0)),
+        same_as(sheet, Gate::AtMost(100.0)),
+        same_as(sheet, made::within(-0.5, 0.5)),
+    ])
 }
 
-fn same_as(sheet: Sheet, gate: Gate) -> Tally {
+fn same_as(sheet: Sheet, gate: Gate) -> bool {
     let answer = gating::set(sheet, gate);
-    Tally::one(accepted(answer) & same_sheet(answer.sheet, made::adds(sheet, gate)))
+    accepted(answer) && answer.sheet == made::adds(sheet, gate)
 }
 
-fn refuses(sheet: Sheet, gate: Gate, number: u64) -> Tally {
-    Tally::one(refused(gating::set(sheet, gate), number, sheet))
+fn refuses(sheet: Sheet, gate: Gate, number: u64) -> bool {
+    refused(gating::set(sheet, gate), number, sheet)
 }
 
 // Which number is given.
@@ -83,61 +81,66 @@ fn order(edition: Edition) -> Tally {
     let none = Gate::AtLeast(made::no_number());
     let sheet = opened_in(32, edition);
     let narrow = opened_in(4, edition);
-    let full = made::filled(sheet, Rule::LIMIT);
-    let narrow_full = made::filled(narrow, Rule::LIMIT);
-    refuses(hurt(Sheet::blank()), one, 17)
-        .plus(refuses(hurt(narrow), one, 17))
-        .plus(refuses(hurt(sheet), none, 17))
-        .plus(refuses(hurt(full), one, 17))
-        .plus(refuses(Sheet::blank(), one, 1))
-        .plus(refuses(Sheet::blank(), none, 1))
-        .plus(refuses(opened_in(31, edition), one, 13))
-        .plus(refuses(narrow, one, 13))
-        .plus(refuses(narrow, none, 13))
-        .plus(refuses(narrow_full, one, 13))
-        .plus(limits(sheet))
-        .plus(refuses(full, none, 14))
+    let full = filled(sheet, Rule::LIMIT);
+    let narrow_full = filled(narrow, Rule::LIMIT);
+    looks(&[
+        refuses(hurt(Sheet::blank()), one, 17),
+        refuses(hurt(narrow), one, 17),
+        refuses(hurt(sheet), none, 17),
+        refuses(hurt(full), one, 17),
+        refuses(Sheet::blank(), one, 1),
+        refuses(Sheet::blank(), none, 1),
+        refuses(opened_in(31, edition), one, 13),
+        refuses(narrow, one, 13),
+        refuses(narrow, none, 13),
+        refuses(narrow_full, one, 13),
+        refuses(full, none, 14),
+    ])
+    .plus(limits(sheet))
 }
 
 fn limits(sheet: Sheet) -> Tally {
     let none = made::no_number();
-    refuses(sheet, Gate::AtLeast(none), 14)
-        .plus(refuses(sheet, Gate::AtMost(none), 14))
-        .plus(refuses(sheet, made::within(none, 1.0), 14))
-        .plus(refuses(sheet, made::within(1.0, none), 14))
+    looks(&[
+        refuses(sheet, Gate::AtLeast(none), 14),
+        refuses(sheet, Gate::AtMost(none), 14),
+        refuses(sheet, made::within(none, 1.0), 14),
+        refuses(sheet, made::within(1.0, none), 14),
+    ])
 }
 
 // How many rules leave room.
 fn room(edition: Edition) -> Tally {
     let gate = Gate::AtMost(1.0);
-    let most = made::filled(opened_in(32, edition), 196);
-    let more = added(most, case2());
-    same_as(most, gate)
-        .plus(refuses(more, gate, 6))
-        .plus(refuses(added(added(more, case2()), case2()), gate, 6))
-        .plus(refuses(made::filled(more, 3), gate, 6))
+    let most = filled(opened_in(32, edition), Rule::LIMIT - Gate::RULES);
+    looks(&[
+        same_as(most, gate),
+        refuses(filled(most, 1), gate, 6),
+        refuses(filled(most, 3), gate, 6),
+        refuses(filled(most, 4), gate, 6),
+    ])
 }
 
 // A sheet on which a stretch waits.
 fn waits(edition: Edition) -> Tally {
-    let sheet = gone_back(added(marked(opened_in(32, edition)), case2()));
-    let full = gone_back(marked(made::filled(opened_in(32, edition), 197)));
-    forward_after(gating::set(sheet, Gate::AtLeast(1.0)), 12)
-        .plus(forward_after(gating::set(sheet, Gate::AtLeast(made::no_number())), 0))
-        .plus(forward_after(gating::set(full, Gate::AtLeast(1.0)), 0))
+    let opened = opened_in(32, edition);
+    let sheet = gone_back(added(marked(opened), case2()));
+    let full = gone_back(marked(filled(opened, 197)));
+    looks(&[
+        forward_after(gating::set(sheet, Gate::AtLeast(1.0)), 12),
+        forward_after(gating::set(sheet, Gate::AtLeast(made::no_number())), 0),
+        forward_after(gating::set(full, Gate::AtLeast(1.0)), 0),
+    ])
 }
 
-fn forward_after(answer: Answer, number: u64) -> Tally {
-    let sheet = answer.sheet;
-    let forward = sheet.forward();
-    Tally::one(forward.number == number)
+fn forward_after(answer: Answer, number: u64) -> bool {
+    answer.sheet.forward().number == number
 }
 
 fn known() -> Tally {
     let sheet = opened_in(32, Edition::Old);
-    keeps(sheet, Gate::AtLeast(0.0), 2, 0, 0x7f80_0000).plus(refuses(
-        sheet,
-        made::within(2.0, 1.0),
-        5,
-    ))
+    looks(&[
+        keeps(sheet, Gate::AtLeast(0.0), 2, 0, 0x7f80_0000),
+        refuses(sheet, made::within(2.0, 1.0), 5),
+    ])
 }

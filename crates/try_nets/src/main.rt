@@ -10,98 +10,69 @@ mod refused;
 
 use net::{Ended, Net};
 use places::Way;
+use trial::trial_direct::draw::next;
 use trial::trial_tally::Tally;
 use trial_joins::trial_nets::{assignments, made, plain};
 
 // The widths 1 to 3, each with 2 to 4 words.
-const CLASSES: u64 = 9;
+const CLASSES: u32 = 9;
 
 const DRAWN: u64 = 50;
 
 const PAID: u64 = 40;
 
-// What a drawn net is compared with.
-#[derive(Clone, Copy)]
-enum Side {
-    Plain,
-    Search,
-}
-
 fn main() {
-    over_classes(Side::Plain).print(b"plain rule:");
-    over_classes(Side::Search).print(b"search:");
+    over_nets(|_, net| by_rule(net)).print(b"plain rule:");
+    over_nets(|class, net| Tally::one(nothing_lost(class, net))).print(b"search:");
     places::over_joins(Way::Empty).print(b"empty at each place:");
     places::over_joins(Way::Steady).print(b"steady at each place:");
     refused::over_ways().print(b"refusals:");
     known().print(b"known:");
 }
 
-fn over_classes(side: Side) -> Tally {
+// The nets that are drawn of each class, compared so.
+fn over_nets<F: Fn(u32, &Net) -> Tally>(compared: F) -> Tally
+    requires { F.IsAlwaysCallable compared }
+{
     let mut tally = Tally::none();
     for class in 0..CLASSES {
-        tally = tally.plus(over_nets(side, class));
+        let mut seed = 0x9e37_79b9_7f4a_7c15 ^ u64::from(class);
+        for _ in 0..DRAWN {
+            seed = next(seed);
+            let net = made::drawn(seed, u64::from(1 + class % 3), (2 + class / 3) as usize);
+            tally = tally.plus(compared(class, &net));
+        }
     }
     tally
 }
 
-fn over_nets(side: Side, class: u64) -> Tally {
-    let mut tally = Tally::none();
-    let mut seed = 0x9e37_79b9_7f4a_7c15 ^ class;
-    for i in 0..DRAWN {
-        seed = made::further(seed);
-        let net = made::drawn(seed, 1 + class % 3, (2 + class / 3 % 3) as usize);
-        tally = tally.plus(over_pay(side, class, net));
-    }
-    tally
-}
-
-fn over_pay(side: Side, class: u64, net: Net) -> Tally {
-    if let Side::Search = side {
-        return Tally::one(nothing_lost(class, net));
-    }
+// A net against the plain rule, for each pay.
+fn by_rule(net: &Net) -> Tally {
     let mut tally = Tally::none();
     for pay in 0..PAID {
-        tally = tally.plus(Tally::one(plain::same(net.run(pay), plain::run(net, pay))));
+        tally = tally.plus(Tally::one(net.run(pay) == plain::run(net, pay)));
     }
     tally
 }
 
-// How many words a place of the class has, and how many assignments there are.
-fn words(class: u64) -> u64 {
-    match class % 3 {
-        0 => 2,
-        1 => 4,
-        _ => 8,
-    }
+// How many words a place of the class has.
+fn words(class: u32) -> u64 {
+    2 << (class % 3)
 }
 
-fn assignments(class: u64) -> u64 {
-    match class {
-        0 => 4,
-        1 => 16,
-        2 => 64,
-        3 => 8,
-        4 => 64,
-        5 => 512,
-        6 => 16,
-        7 => 256,
-        _ => 4096,
-    }
-}
-
-fn nothing_lost(class: u64, net: Net) -> bool {
+// Whether the search over all assignments finds what was left.
+fn nothing_lost(class: u32, net: &Net) -> bool {
     let answer = net.run(PAID);
-    let ended = answer.ended;
-    let left = answer.words;
-    if let Ended::Empty = ended {
-        return assignments::none(net, words(class), assignments(class));
+    let count = words(class).wrapping_pow(2 + class / 3);
+    if answer.ended == Ended::Empty {
+        return assignments::none(net, words(class), count);
     }
-    assignments::all_kept(net, left, words(class), assignments(class))
+    assignments::all_kept(net, &answer.words, words(class), count)
 }
 
 // A difference that is known: spent, where the last step paid for makes the net steady.
 fn known() -> Tally {
     let net = places::made(Way::Steady, 1, 0);
     let wrong = plain::answer(Ended::Spent, 2, made::changed());
-    Tally::one(plain::same(net.run(2), wrong))
+    Tally::one(net.run(2) == wrong)
 }

@@ -7,17 +7,18 @@
 
 use rule::Rule;
 use sheet::Sheet;
+use std::io::Result;
 use trial::trial_direct::direct::UNTOUCHED;
 use trial::trial_direct::rules::{NO_FORM, rule};
 use trial::trial_tally::Tally;
-use trial_calls::answers::{ask_refused, kept, refused, replied, untouched};
+use trial_calls::answers::{ask_refused, kept, looks, refused, replied, untouched};
 use trial_calls::records::hurt;
 use trial_calls::sheets::{added, all_marks, case2, full, opened_in, other};
 use word::Edition;
 
-fn main() {
-    all().print(b"order");
-    known().print(b"known");
+fn main(rt: HostRuntime) -> Result<()> {
+    println!(rt; "order {}", all())?;
+    println!(rt; "known {}", known())
 }
 
 fn all() -> Tally {
@@ -39,98 +40,110 @@ fn in_edition(edition: Edition) -> Tally {
         .plus(places(full))
 }
 
-// An add in the sheet's edition, and one in another.
-fn adds(sheet: Sheet, rule: Rule, number: u64) -> Tally {
-    let edition = sheet.edition;
-    adds_in(sheet, edition, rule, number)
+// Whether an add in the sheet's edition is refused with the number, and one in another.
+fn adds(sheet: Sheet, rule: Rule, number: u64) -> bool {
+    adds_in(sheet, sheet.edition, rule, number)
 }
 
-fn adds_in(sheet: Sheet, edition: Edition, rule: Rule, number: u64) -> Tally {
-    Tally::one(refused(sheet.add(edition, rule), number, sheet))
+fn adds_in(sheet: Sheet, edition: Edition, rule: Rule, number: u64) -> bool {
+    refused(sheet.add(edition, rule), number, sheet)
 }
 
 // 17 before 3, 4, 5, 11, 8, 9 and 12.
 fn no_sheet(sheet: Sheet, one_rule: Sheet) -> Tally {
-    let edition = sheet.edition;
-    adds(sheet, rule(NO_FORM, 0, 0, 0), 17)
-        .plus(adds(sheet, rule(1, 2, 0, 0), 17))
-        .plus(adds(sheet, rule(1, 0, 16, 0), 17))
-        .plus(adds_in(sheet, other(edition), case2(), 17))
-        .plus(Tally::one(refused(sheet.back(), 17, sheet)))
-        .plus(Tally::one(refused(sheet.forward(), 17, sheet)))
-        .plus(Tally::one(ask_refused(one_rule, 17)))
+    looks(&[
+        adds(sheet, rule(NO_FORM, 0, 0, 0), 17),
+        adds(sheet, rule(1, 2, 0, 0), 17),
+        adds(sheet, rule(1, 0, 16, 0), 17),
+        adds_in(sheet, other(sheet.edition), case2(), 17),
+        refused(sheet.back(), 17, sheet),
+        refused(sheet.forward(), 17, sheet),
+        ask_refused(one_rule, 17),
+    ])
 }
 
 // 17 before 1.
 fn no_blank(sheet: Sheet) -> Tally {
-    adds(sheet, case2(), 17)
-        .plus(Tally::one(refused(sheet.mark(), 17, sheet)))
-        .plus(Tally::one(refused(sheet.back(), 17, sheet)))
-        .plus(Tally::one(refused(sheet.forward(), 17, sheet)))
-        .plus(Tally::one(ask_refused(sheet, 17)))
+    looks(&[
+        adds(sheet, case2(), 17),
+        refused(sheet.mark(), 17, sheet),
+        refused(sheet.back(), 17, sheet),
+        refused(sheet.forward(), 17, sheet),
+        ask_refused(sheet, 17),
+    ])
 }
 
 // 17 before 6 and 7.
 fn no_room(full: Sheet, all_marks: Sheet) -> Tally {
-    adds(full, case2(), 17).plus(Tally::one(refused(all_marks.mark(), 17, all_marks)))
+    looks(&[
+        adds(full, case2(), 17),
+        refused(all_marks.mark(), 17, all_marks),
+    ])
 }
 
 // 1 before 11, 3, 4, 5, 8, 9 and 12. No width has a second constant in form 4, and the blank sheet is of the old edition.
 fn blank(blank: Sheet) -> Tally {
-    adds_in(blank, Edition::New, case2(), 1)
-        .plus(adds(blank, rule(NO_FORM, 0, 0, 0), 1))
-        .plus(adds(blank, rule(7, 1, 0, 0), 1))
-        .plus(adds(blank, rule(4, 0, 0, 1), 1))
-        .plus(Tally::one(refused(blank.back(), 1, blank)))
-        .plus(Tally::one(refused(blank.forward(), 1, blank)))
-        .plus(Tally::one(short(blank)))
+    looks(&[
+        adds_in(blank, Edition::New, case2(), 1),
+        adds(blank, rule(NO_FORM, 0, 0, 0), 1),
+        adds(blank, rule(7, 1, 0, 0), 1),
+        adds(blank, rule(4, 0, 0, 1), 1),
+        refused(blank.back(), 1, blank),
+        refused(blank.forward(), 1, blank),
+        short(blank),
+    ])
 }
 
 // Whether asking with two numbers lent is refused with 1. The chain of no rules wants three.
 fn short(blank: Sheet) -> bool {
     let mut out = [UNTOUCHED; 2];
     let reply = blank.ask(&mut out);
-    if replied(reply, 1, kept(0, 0, 0), 0) {
-        return untouched(&out, 0);
-    }
-    false
+    replied(reply, 1, kept(0, 0, 0), 0) && untouched(&out, 0)
 }
 
 // 11 before 3, 4, 5 and 6, and by itself.
 fn other_edition(sheet: Sheet, full: Sheet, edition: Edition) -> Tally {
-    adds_in(sheet, edition, rule(NO_FORM, 0, 0, 0), 11)
-        .plus(adds_in(sheet, edition, rule(1, 2, 0, 0), 11))
-        .plus(adds_in(sheet, edition, rule(1, 0, 16, 0), 11))
-        .plus(adds_in(sheet, edition, rule(7, 0, 6, 1), 11))
-        .plus(adds_in(full, edition, case2(), 11))
-        .plus(adds_in(sheet, edition, case2(), 11))
+    looks(&[
+        adds_in(sheet, edition, rule(NO_FORM, 0, 0, 0), 11),
+        adds_in(sheet, edition, rule(1, 2, 0, 0), 11),
+        adds_in(sheet, edition, rule(1, 0, 16, 0), 11),
+        adds_in(sheet, edition, rule(7, 0, 6, 1), 11),
+        adds_in(full, edition, case2(), 11),
+        adds_in(sheet, edition, case2(), 11),
+    ])
 }
 
 // 3 before 4 and 5.
 fn form(sheet: Sheet) -> Tally {
-    adds(sheet, rule(NO_FORM, 2, 0, 0), 3).plus(adds(sheet, rule(0, 0, 16, 0), 3))
+    looks(&[
+        adds(sheet, rule(NO_FORM, 2, 0, 0), 3),
+        adds(sheet, rule(0, 0, 16, 0), 3),
+    ])
 }
 
 // 4 before 5.
 fn sense(sheet: Sheet) -> Tally {
-    adds(sheet, rule(7, 1, 16, 0), 4).plus(adds(sheet, rule(7, 1, 6, 1), 4))
+    looks(&[
+        adds(sheet, rule(7, 1, 16, 0), 4),
+        adds(sheet, rule(7, 1, 6, 1), 4),
+    ])
 }
 
 // 3, 4 and 5 before 6.
 fn places(full: Sheet) -> Tally {
-    adds(full, rule(NO_FORM, 0, 0, 0), 3)
-        .plus(adds(full, rule(1, 2, 0, 0), 4))
-        .plus(adds(full, rule(6, 0, 0, 1), 5))
-        .plus(adds(full, rule(7, 0, 6, 1), 5))
+    looks(&[
+        adds(full, rule(NO_FORM, 0, 0, 0), 3),
+        adds(full, rule(1, 2, 0, 0), 4),
+        adds(full, rule(6, 0, 0, 1), 5),
+        adds(full, rule(7, 0, 6, 1), 5),
+    ])
 }
 
 // Wrong expectations: 3 before 11, and 11 before 1.
 fn known() -> Tally {
-    adds_in(
-        opened_in(4, Edition::Old),
-        Edition::New,
-        rule(NO_FORM, 0, 0, 0),
-        3,
-    )
-    .plus(adds_in(Sheet::blank(), Edition::New, case2(), 11))
+    let sheet = opened_in(4, Edition::Old);
+    looks(&[
+        adds_in(sheet, Edition::New, rule(NO_FORM, 0, 0, 0), 3),
+        adds_in(Sheet::blank(), Edition::New, case2(), 11),
+    ])
 }

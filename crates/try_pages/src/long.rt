@@ -3,8 +3,7 @@
 use page::Opening;
 use sheet::{Call, Sheet};
 use trial::trial_direct::draw::next;
-use trial::trial_tally::{Split, Tally};
-use trial_calls::answers::same_sheet;
+use trial::trial_tally::{Split, Tally, total};
 use trial_calls::sheets::{added, case2, gone_back, marked, opened, opened_in};
 use trial_calls::trial_draws::draw;
 use trial_calls::trial_pages::calls::made;
@@ -15,77 +14,71 @@ const SEQUENCES: u64 = 30;
 
 const CALLS: u64 = 200;
 
-// A desk and a clerk at work: what the next call is drawn from, the desk's sheet, the clerk's page, and the calls so far.
-#[derive(Clone, Copy)]
+/// A desk and a clerk at work: what the next call is drawn from, the desk's sheet, and the clerk's page.
+#[derive(Drop)]
 pub struct Work {
     pub seed: u64,
     pub sheet: Sheet,
     pub page: Page,
-    pub calls: Split,
 }
 
 pub fn all() -> Split {
-    let mut calls = Split::none();
-    for i in 0..SEQUENCES {
-        calls = calls.plus(sequence(next(i + 1)));
-    }
-    calls
+    total((1..=SEQUENCES).map(|seed| sequence(next(seed))))
 }
 
 // Calls from the blank sheet on.
 fn sequence(seed: u64) -> Split {
-    let mut work = Work {
+    let work = Work {
         seed,
         sheet: Sheet::blank(),
         page: Page::blank(),
-        calls: Split::none(),
     };
-    for i in 0..CALLS {
-        work = step(work);
-    }
-    work.calls
+    work.drawn(CALLS)
 }
 
-// One call more.
-pub fn step(work: Work) -> Work {
-    let sheet = work.sheet;
-    let page = work.page;
-    let calls = work.calls;
-    let opening = page.opening;
-    let call = draw::drawn(work.seed, opening, page.waits());
-    let answer = made(sheet, call);
-    let left = answer.sheet;
-    let stands = standing(page, call, answer.number);
-    Work {
-        seed: draw::further(work.seed),
-        sheet: left,
-        page: stands,
-        calls: calls.plus(compared(answer.number, left, stands)),
+impl Work {
+    /// So many drawn calls, each compared.
+    pub fn drawn(mut self, calls: u64) -> Split {
+        let mut compared = Split::none();
+        for _ in 0..calls {
+            compared = compared.plus(self.step());
+        }
+        compared
     }
-}
 
-// The page after a call that was answered with a number.
-pub fn standing(page: Page, call: Call, number: u64) -> Page {
-    if number == 0 {
-        return page.after(call);
+    // One call more.
+    fn step(&mut self) -> Split {
+        let call = draw::drawn(self.seed, self.page.opening, self.page.waits());
+        let number = self.made(call);
+        compared(number, self.sheet, &self.page)
     }
-    page
+
+    /// Makes a call on the desk, has the clerk write it down where it is accepted, and gives its number.
+    pub fn made(&mut self, call: Call) -> u64 {
+        let answer = made(self.sheet, call);
+        self.seed = draw::further(self.seed);
+        self.sheet = answer.sheet;
+        if answer.number == 0 {
+            self.page.write(call);
+        }
+        answer.number
+    }
 }
 
 // A call accepted or refused, and the sheet that is left compared with the page.
-fn compared(number: u64, left: Sheet, stands: Page) -> Split {
+fn compared(number: u64, left: Sheet, stands: &Page) -> Split {
     let kind = if number == 0 { 0 } else { 1 };
-    Split::one(kind, same_sheet(left, stands.fresh()))
+    Split::one(kind, left == stands.fresh())
 }
 
-// Wrong pages: the clerk missed an add; missed a mark and a step back, so that the pile alone is wrong; took the edition for the other.
+/// Wrong pages: the clerk missed an add; missed a mark and a step back, so that the pile alone is wrong; took the edition for the other.
 pub fn known() -> Tally {
     let page = Page::new(Opening {
         width: 4,
         edition: Edition::Old,
     });
-    compared(0, added(opened(4), case2()), page)
+    compared(0, added(opened(4), case2()), &page)
+        .plus(compared(0, gone_back(marked(opened(4))), &page))
+        .plus(compared(0, opened_in(4, Edition::New), &page))
         .joined()
-        .plus(compared(0, gone_back(marked(opened(4))), page).joined())
-        .plus(compared(0, opened_in(4, Edition::New), page).joined())
 }

@@ -8,8 +8,17 @@
 mod full;
 mod long;
 
-fn main() {
-    long::all().print_calls(b"long");
-    full::all().print_calls(b"full");
-    long::known().print(b"known");
+use std::io::Result;
+use trial::trial_tally::Split;
+
+fn main(rt: HostRuntime) -> Result<()> {
+    tell(&rt, "long", long::all())?;
+    tell(&rt, "full", full::all())?;
+    println!(rt; "known {}", long::known())
+}
+
+// How many calls were compared, and how many of them were accepted and refused.
+fn tell(rt: &impl Print, name: &str, calls: Split) -> Result<()> {
+    println!(rt; "{name} {}", calls.joined())?;
+    println!(rt; "{name} {} accepted, {} refused", calls.first, calls.second)
 }

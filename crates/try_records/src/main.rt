@@ -12,75 +12,85 @@
 #![tactic(auto)]
 
 use sheet::Sheet;
+use std::io::Result;
 use trial::trial_direct::rules::rule;
-use trial::trial_tally::Tally;
-use trial_calls::answers::{accepted, ask_refused, refused, same_sheet};
-use trial_calls::records::{NO_SHEETS, NUMBERS, RAISED, no_sheet, raised, stands, turned, waited};
+use trial::trial_tally::{Tally, total};
+use trial_calls::answers::{accepted, ask_refused, looks, refused};
+use trial_calls::records::{
+    AMOUNTS, NUMBERS, of_one_edition, raised, sound, stands, turned, waited,
+};
 use trial_calls::sheets::{opened, opened_in, other};
 use word::Edition;
 
-fn main() {
-    no_sheets(0, RAISED).print(b"damaged");
-    editions().print(b"edition");
-    known().print(b"known");
+fn main(rt: HostRuntime) -> Result<()> {
+    println!(rt; "damaged {}", damaged())?;
+    println!(rt; "edition {}", editions())?;
+    println!(rt; "known {}", known())
 }
 
-// Records that are no sheet, from one number to another.
-fn no_sheets(from: usize, to: usize) -> Tally {
+// Records with one number raised.
+fn damaged() -> Tally {
     let mut tally = Tally::none();
-    for at in from..to {
-        tally = tally.plus(looks(no_sheet(at)));
+    for sheet in &sound() {
+        for by in AMOUNTS {
+            for at in 0..NUMBERS {
+                tally = tally.plus(no_sheet(raised(*sheet, at, by)));
+            }
+        }
     }
     tally
 }
 
 // Records with the other edition.
 fn editions() -> Tally {
-    no_sheets(RAISED, NO_SHEETS)
-        .plus(turned_to(Edition::Old))
-        .plus(turned_to(Edition::New))
+    total(
+        of_one_edition()
+            .iter()
+            .map(|sheet| no_sheet(turned(*sheet))),
+    )
+    .plus(turned_to(Edition::Old))
+    .plus(turned_to(Edition::New))
 }
 
 // Sheets that are turned to an edition, where the same calls give them too.
 fn turned_to(edition: Edition) -> Tally {
     let sheet = stands(4, 15, edition);
     let from = stands(4, 15, other(edition));
+    let narrow = turned(opened_in(1, other(edition)));
+    let wide = turned(opened_in(32, other(edition)));
     same_page(turned(from), sheet)
         .plus(same_page(turned(waited(from, 15)), waited(sheet, 15)))
-        .plus(same_page(turned(opened_in(1, other(edition))), opened_in(1, edition)))
-        .plus(same_page(
-            turned(opened_in(32, other(edition))),
-            opened_in(32, edition),
-        ))
+        .plus(same_page(narrow, opened_in(1, edition)))
+        .plus(same_page(wide, opened_in(32, edition)))
 }
 
 // What is said of a record that is a sheet: it is the one that calls give, and its adds are those of the edition that it has.
 fn same_page(record: Sheet, sheet: Sheet) -> Tally {
     let more = rule(3, 0, 0, 1);
-    let edition = sheet.edition;
-    Tally::one(record.is_sheet())
-        .plus(Tally::one(same_sheet(record, sheet)))
-        .plus(Tally::one(accepted(record.add(edition, more))))
-        .plus(Tally::one(refused(record.add(other(edition), more), 11, record)))
+    looks(&[
+        record.is_sheet(),
+        record == sheet,
+        accepted(record.add(sheet.edition, more)),
+        refused(record.add(other(sheet.edition), more), 11, record),
+    ])
 }
 
 // The sheet compared with itself, with the other edition and with each number raised.
 fn known() -> Tally {
     let sheet = opened(4);
-    let mut tally = Tally::one(same_sheet(sheet, turned(sheet)));
-    for at in 0..NUMBERS {
-        tally = tally.plus(Tally::one(same_sheet(sheet, raised(sheet, at, 1))));
-    }
-    tally
+    Tally::one(sheet == turned(sheet)).plus(total((0..NUMBERS).map(|at| Tally::one(
+        sheet == raised(sheet, at, 1),
+    ))))
 }
 
 // What is_sheet and each call but an opening say of a record that is no sheet.
-fn looks(sheet: Sheet) -> Tally {
-    let edition = sheet.edition;
-    Tally::one(!sheet.is_sheet())
-        .plus(Tally::one(refused(sheet.add(edition, rule(3, 0, 0, 1)), 17, sheet)))
-        .plus(Tally::one(refused(sheet.mark(), 17, sheet)))
-        .plus(Tally::one(refused(sheet.back(), 17, sheet)))
-        .plus(Tally::one(refused(sheet.forward(), 17, sheet)))
-        .plus(Tally::one(ask_refused(sheet, 17)))
+fn no_sheet(record: Sheet) -> Tally {
+    looks(&[
+        !record.is_sheet(),
+        refused(record.add(record.edition, rule(3, 0, 0, 1)), 17, record),
+        refused(record.mark(), 17, record),
+        refused(record.back(), 17, record),
+        refused(record.forward(), 17, record),
+        ask_refused(record, 17),
+    ])
 }

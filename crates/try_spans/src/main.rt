@@ -7,10 +7,9 @@
 use span::{Interval, Op};
 use trial::trial_direct::draw::next;
 use trial::trial_tally::Tally;
-use trial_joins::trial_spans::expected::Way;
-use trial_joins::trial_spans::{expected, made};
-
-const OPERATIONS: u64 = 4;
+use trial_joins::trial_spans::expected::{Asked, reversed};
+use trial_joins::trial_spans::made::Intervals;
+use trial_joins::trial_spans::{blocks, expected, made, words};
 
 // The widest words with all pairs of intervals, and with all triples.
 const PAIRED: u64 = 4;
@@ -19,83 +18,67 @@ const TRIPLED: u64 = 3;
 
 const DRAWN: u64 = 4000;
 
-// How many wide widths there are.
-const WIDTHS: u64 = 4;
-
-// Three intervals of h, with four ends of seven corners each.
-const CORNERED: u64 = 7203;
-
-// Four operations, three widths, and six ends of three each.
-const REFUSED: u64 = 8748;
-
 fn main() {
-    pairs_over_widths(Way::Words).print(b"pairs, word by word:");
-    pairs_over_widths(Way::Blocks).print(b"pairs, block by block:");
-    triples_over_widths().print(b"triples:");
+    pairs(words::span).print(b"pairs, word by word:");
+    pairs(blocks::span).print(b"pairs, block by block:");
+    triples().print(b"triples:");
     drawn().print(b"drawn:");
-    corners_over_widths().print(b"corners:");
+    corners().print(b"corners:");
     refusals().print(b"refusals:");
     known().print(b"known:");
 }
 
-// A join against the one that is expected.
-fn one(way: Way, width: u64, op: Op, h: Interval, x: Interval, y: Interval) -> Tally {
-    let answer = span::join(width, op, h, x, y);
-    Tally::one(expected::same(answer, expected::join(way, width, op, h, x, y)))
+// A join against the one that is expected, where an operation's span is searched so.
+fn one<S: Fn(Op, u64, Interval, Interval) -> Interval>(span: S, asked: Asked) -> Tally
+    requires { S.IsAlwaysCallable span }
+{
+    let Asked { width, op, h, x, y } = asked;
+    Tally::one(span::join(width, op, h, x, y) == asked.joined(span))
 }
 
-// The four operations, where x and y are in order.
-fn four(way: Way, width: u64, h: Interval, x: Interval, y: Interval) -> Tally {
+// The four operations.
+fn four<S: Fn(Op, u64, Interval, Interval) -> Interval + Copy>(
+    span: S,
+    width: u64,
+    h: Interval,
+    x: Interval,
+    y: Interval,
+) -> Tally
+    requires { S.IsAlwaysCallable span }
+{
     let mut tally = Tally::none();
-    if made::ordered(x) {
-        if made::ordered(y) {
-            for k in 0..OPERATIONS {
-                tally = tally.plus(one(way, width, made::op(k), h, x, y));
+    for op in made::OPERATIONS {
+        tally = tally.plus(one(span, Asked { width, op, h, x, y }));
+    }
+    tally
+}
+
+// All intervals of x and of y at widths 1 to 4, with every word for h.
+fn pairs<S: Fn(Op, u64, Interval, Interval) -> Interval + Copy>(span: S) -> Tally
+    requires { S.IsAlwaysCallable span }
+{
+    let mut tally = Tally::none();
+    for width in 1..=PAIRED {
+        let every = made::all(width);
+        for x in Intervals::of(width) {
+            for y in Intervals::of(width) {
+                tally = tally.plus(four(span, width, every, x, y));
             }
         }
     }
     tally
 }
 
-// All intervals of x and of y at widths 1 to 4, with every word for h.
-fn pairs_over_widths(way: Way) -> Tally {
-    let mut tally = Tally::none();
-    for width in 1..PAIRED + 1 {
-        tally = tally.plus(pairs(way, width, 1 << width, 1 << (4 * width)));
-    }
-    tally
-}
-
-// At one width of n words: four ends to the base n.
-fn pairs(way: Way, width: u64, n: u64, count: u64) -> Tally {
-    let mut tally = Tally::none();
-    for i in 0..count {
-        let x = made::digits(i, n);
-        let y = made::digits(made::further(i, n), n);
-        tally = tally.plus(four(way, width, made::all(width), x, y));
-    }
-    tally
-}
-
 // All intervals of h, x and y at widths 1 to 3.
-fn triples_over_widths() -> Tally {
+fn triples() -> Tally {
     let mut tally = Tally::none();
-    for width in 1..TRIPLED + 1 {
-        tally = tally.plus(triples(width, 1 << width, 1 << (6 * width)));
-    }
-    tally
-}
-
-// At one width of n words: six ends to the base n.
-fn triples(width: u64, n: u64, count: u64) -> Tally {
-    let mut tally = Tally::none();
-    for i in 0..count {
-        let h = made::digits(i, n);
-        let rest = made::further(i, n);
-        let x = made::digits(rest, n);
-        let y = made::digits(made::further(rest, n), n);
-        if made::ordered(h) {
-            tally = tally.plus(four(Way::Words, width, h, x, y));
+    for width in 1..=TRIPLED {
+        for h in Intervals::of(width) {
+            for x in Intervals::of(width) {
+                for y in Intervals::of(width) {
+                    tally = tally.plus(four(words::span, width, h, x, y));
+                }
+            }
         }
     }
     tally
@@ -110,33 +93,39 @@ fn drawn() -> Tally {
         let top = expected::top(width);
         let second = next(seed);
         let third = next(second);
-        let op = made::op(i / 4);
-        let h = made::drawn(seed, top);
-        let x = made::drawn(second, top);
-        tally = tally.plus(one(Way::Words, width, op, h, x, made::drawn(third, top)));
+        let asked = Asked {
+            width,
+            op: made::op(i / 4),
+            h: made::drawn(seed, top),
+            x: made::drawn(second, top),
+            y: made::drawn(third, top),
+        };
+        tally = tally.plus(one(words::span, asked));
         seed = next(third);
     }
     tally
 }
 
-// Corners at widths 31, 32, 63 and 64.
-fn corners_over_widths() -> Tally {
+// Corners at widths 31, 32, 63 and 64: three intervals of h, and those of x and y between seven corners.
+fn corners() -> Tally {
     let mut tally = Tally::none();
-    for k in 0..WIDTHS {
-        let width = made::wide(k);
-        tally = tally.plus(corners(width, expected::top(width)));
+    for width in made::WIDE {
+        for h in made::corner_hs(expected::top(width)) {
+            tally = tally.plus(at_corners(width, h));
+        }
     }
     tally
 }
 
-// Four corners for the ends of x and y, seven each, and three intervals of h.
-fn corners(width: u64, top: u64) -> Tally {
+fn at_corners(width: u64, h: Interval) -> Tally {
+    let top = expected::top(width);
     let mut tally = Tally::none();
-    for i in 0..CORNERED {
-        let h = made::corner_h(i / 2401, top);
-        let x = made::cornered(i, top);
-        let y = made::cornered(i / 49, top);
-        tally = tally.plus(four(Way::Blocks, width, h, x, y));
+    for k in 0..made::CORNERED * made::CORNERED {
+        let x = made::cornered(k, top);
+        let y = made::cornered(k / made::CORNERED, top);
+        if !reversed(x) && !reversed(y) {
+            tally = tally.plus(four(blocks::span, width, h, x, y));
+        }
     }
     tally
 }
@@ -144,12 +133,14 @@ fn corners(width: u64, top: u64) -> Tally {
 // Four operations, three widths, and six ends of three each.
 fn refusals() -> Tally {
     let mut tally = Tally::none();
-    for i in 0..REFUSED {
-        let width = made::odd_width(i / 4);
-        let h = made::odd(i / 12);
-        let x = made::odd(i / 108);
-        let y = made::odd(i / 972);
-        tally = tally.plus(one(Way::Words, width, made::op(i), h, x, y));
+    for width in made::ODD_WIDTHS {
+        for h in (0..made::ODD).map(|k| made::odd(k)) {
+            for x in (0..made::ODD).map(|k| made::odd(k)) {
+                for y in (0..made::ODD).map(|k| made::odd(k)) {
+                    tally = tally.plus(four(words::span, width, h, x, y));
+                }
+            }
+        }
     }
     tally
 }
@@ -159,6 +150,12 @@ fn known() -> Tally {
     let x = Interval { low: 1, high: 2 };
     let y = Interval { low: 3, high: 3 };
     let answer = span::join(3, Op::And, made::all(3), x, y);
-    let wrong = expected::answer(0, false, Interval { low: 0, high: 2 }, x, y);
-    Tally::one(expected::same(answer, wrong))
+    let wrong = Asked {
+        width: 3,
+        op: Op::And,
+        h: Interval { low: 0, high: 2 },
+        x,
+        y,
+    };
+    Tally::one(answer == wrong.answered())
 }

@@ -1,5 +1,6 @@
 // The next word that has given bits, again and again.
 use rule::bits::Fixed;
+use std::io::Result;
 use trial::trial_direct::draw::next;
 use word::Width;
 
@@ -8,12 +9,11 @@ const LOOKED: u64 = 10_000_000;
 // What the words that are found come to, by any right way to look for them.
 const SUM: u64 = 1_475_656_598_760_131_695;
 
-pub fn all() {
-    io::print_decimal(1, LOOKED);
+pub fn all(rt: &impl Print) -> Result<()> {
     if summed() == SUM {
-        io::write_all(1, b" words found as expected\n");
+        println!(rt; "{LOOKED} words found as expected")
     } else {
-        io::write_all(1, b" words found, and the sum differs\n");
+        println!(rt; "{LOOKED} words found, and the sum differs")
     }
 }
 
@@ -25,7 +25,7 @@ fn summed() -> u64 {
         let mask = next(s);
         let value = next(mask);
         s = next(value);
-        sum = std::num::wrapping_add_u64(sum, found(mask & value >> (i % 64), value, s));
+        sum = sum.wrapping_add(found(mask & value >> (i % 64), value, s));
     }
     sum
 }

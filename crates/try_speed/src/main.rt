@@ -10,6 +10,7 @@ use page::Opening;
 use rule::Rule;
 use sheet::Sheet;
 use std::env::Env;
+use std::io::Result;
 use trial_calls::sheets::{added, opened_in};
 use trial_calls::trial_lists::{calls, parts, parts_of};
 use word::Edition;
@@ -18,102 +19,77 @@ const ASKED: u64 = 10_000;
 
 const MADE: u64 = 1_000;
 
-#[derive(Clone, Copy)]
-enum Way {
-    Ask,
-    Batch,
-    Calls,
-    Bits,
-}
-
-fn main(rt: HostRuntime) {
+fn main(rt: HostRuntime) -> Result<()> {
     let mut word = [0u8; 8];
     let _ = rt.arg(1, &mut word);
     let mut bits = [0u8; 8];
     let _ = rt.arg(2, &mut bits);
     let wide = bits[0] == b'6';
-    match chosen(word) {
-        Way::Ask => print(answered(Way::Ask, ASKED, opening(wide), rules(wide))),
-        Way::Batch => print(answered(Way::Batch, MADE, opening(wide), rules(wide))),
-        Way::Calls => print(answered(Way::Calls, MADE, opening(wide), rules(wide))),
-        Way::Bits => look::all(),
+    let opening = opening(wide);
+    let rules = rules(wide);
+    // By the first letters of the argument.
+    match (word[0], word[1]) {
+        (b'b', b'i') => look::all(&rt),
+        (b'b', _) => tell(&rt, right(MADE, |out| batch_links(opening, rules, out))),
+        (b'c', _) => tell(&rt, right(MADE, |out| call_links(opening, rules, out))),
+        _ => {
+            let sheet = full(opening, rules);
+            tell(&rt, right(ASKED, |out| sheet.ask(out).links))
+        }
     }
 }
 
-// By the first letters of the argument.
-fn chosen(word: [u8; 8]) -> Way {
-    if word[0] == b'c' {
-        return Way::Calls;
-    }
-    if word[0] != b'b' {
-        return Way::Ask;
-    }
-    if word[1] == b'i' {
-        return Way::Bits;
-    }
-    Way::Batch
-}
-
-fn print(right: u64) {
-    io::print_decimal(1, right);
-    io::write_all(1, b" answers of ");
-    io::print_decimal(1, Rule::LIMIT as u64);
-    io::write_all(1, b" links\n");
+fn tell(rt: &impl Print, right: u64) -> Result<()> {
+    println!(rt; "{right} answers of {} links", Rule::LIMIT)
 }
 
 // The widest sheet of the new edition, or of the old one.
 fn opening(wide: bool) -> Opening {
     if wide {
-        return Opening {
+        Opening {
             width: 64,
             edition: Edition::New,
-        };
-    }
-    Opening {
-        width: 32,
-        edition: Edition::Old,
+        }
+    } else {
+        Opening {
+            width: 32,
+            edition: Edition::Old,
+        }
     }
 }
 
 // As many as a sheet takes, each of which fails on one part of the words.
 fn rules(wide: bool) -> [Rule; Batch::MOST] {
-    if wide {
-        return parts_of(u64::MAX);
-    }
-    parts()
+    if wide { parts_of(u64::MAX) } else { parts() }
 }
 
 fn full(opening: Opening, rules: [Rule; Batch::MOST]) -> Sheet {
-    let edition = opening.edition;
-    let mut sheet = opened_in(opening.width, edition);
-    for i in 0..Rule::LIMIT {
-        sheet = added(sheet, rules[i]);
+    let mut sheet = opened_in(opening.width, opening.edition);
+    for rule in &rules[..Rule::LIMIT] {
+        sheet = added(sheet, *rule);
     }
     sheet
 }
 
-// How many of the answers have a link for each part of the wheel.
-fn answered(way: Way, times: u64, opening: Opening, rules: [Rule; Batch::MOST]) -> u64 {
-    let sheet = full(opening, rules);
+// The links that the batch call writes, and the calls one by one.
+fn batch_links(opening: Opening, rules: [Rule; Batch::MOST], out: &mut [u64]) -> usize {
+    batch::first(opening, rules, Rule::LIMIT, out).reply.links
+}
+
+fn call_links(opening: Opening, rules: [Rule; Batch::MOST], out: &mut [u64]) -> usize {
+    calls(opening, &rules[..Rule::LIMIT], out).reply.links
+}
+
+// How many of so many answers have a link for each part of the wheel.
+fn right<F: Fn(&mut [u64]) -> usize>(times: u64, links: F) -> u64
+    requires { F.IsAlwaysCallable links }
+{
     let mut right: u64 = 0;
-    for i in 0..times {
-        if links(way, opening, sheet, rules) == Rule::LIMIT {
-            right = std::num::wrapping_add_u64(right, 1);
+    for _ in 0..times {
+        let mut out = [0; Sheet::LENT];
+        if links(&mut out) == Rule::LIMIT {
+            right = right.wrapping_add(1);
         }
     }
     right
-}
-
-fn links(way: Way, opening: Opening, sheet: Sheet, rules: [Rule; Batch::MOST]) -> usize {
-    let mut out = [0; Sheet::LENT];
-    if let Way::Batch = way {
-        let made = batch::first(opening, rules, Rule::LIMIT, &mut out);
-        return made.reply.links;
-    }
-    if let Way::Calls = way {
-        let made = calls(opening, rules, Rule::LIMIT, &mut out);
-        return made.reply.links;
-    }
-    let reply = sheet.ask(&mut out);
-    reply.links
 }

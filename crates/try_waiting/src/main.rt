@@ -6,17 +6,18 @@
 
 use page::Opening;
 use sheet::{Answer, Sheet};
+use std::io::Result;
 use trial::trial_direct::rules::rule;
 use trial::trial_tally::Tally;
-use trial_calls::answers::{accepted, refused, same_sheet};
+use trial_calls::answers::{accepted, looks, refused};
 use trial_calls::sheets::{
     added, case2, gone_back, gone_forward, marked, opened, opened_in, other,
 };
 use word::Edition;
 
-fn main() {
-    all(Edition::Old).plus(all(Edition::New)).print(b"waiting");
-    known().print(b"known");
+fn main(rt: HostRuntime) -> Result<()> {
+    println!(rt; "waiting {}", all(Edition::Old).plus(all(Edition::New)))?;
+    println!(rt; "known {}", known())
 }
 
 fn all(edition: Edition) -> Tally {
@@ -35,42 +36,44 @@ fn all(edition: Edition) -> Tally {
 // Of two stretches the one most recently taken back comes first, and each step gives the very sheet from before a step back.
 fn in_turn(none: Sheet, last: Sheet, two: Sheet) -> Tally {
     let both = gone_back(last);
-    Tally::one(refused(none.forward(), 12, none))
-        .plus(Tally::one(refused(two.forward(), 12, two)))
-        .plus(leaves(last.forward(), two))
-        .plus(leaves(both.forward(), last))
-        .plus(leaves(gone_forward(both).forward(), two))
-        .plus(Tally::one(refused(gone_forward(last).forward(), 12, two)))
+    looks(&[
+        none_waits(none),
+        none_waits(two),
+        refused(gone_forward(last).forward(), 12, two),
+    ])
+    .plus(leaves(last.forward(), two))
+    .plus(leaves(both.forward(), last))
+    .plus(leaves(gone_forward(both).forward(), two))
 }
 
 // An accepted add, mark or opening, in either edition, empties what waits.
 fn emptied(waits: Sheet) -> Tally {
-    none_waits(added(waits, case2()))
-        .plus(none_waits(marked(waits)))
-        .plus(none_waits(reopened(waits, 4, Edition::Old)))
-        .plus(none_waits(reopened(waits, 4, Edition::New)))
+    looks(&[
+        none_waits(added(waits, case2())),
+        none_waits(marked(waits)),
+        none_waits(reopened(waits, 4, Edition::Old)),
+        none_waits(reopened(waits, 4, Edition::New)),
+    ])
 }
 
 // The sheet that is left by opening where another is open.
 fn reopened(sheet: Sheet, width: u64, edition: Edition) -> Sheet {
-    let answer = sheet.open(Opening { width, edition });
-    answer.sheet
+    sheet.open(Opening { width, edition }).sheet
 }
 
-fn none_waits(sheet: Sheet) -> Tally {
-    Tally::one(refused(sheet.forward(), 12, sheet))
+fn none_waits(sheet: Sheet) -> bool {
+    refused(sheet.forward(), 12, sheet)
 }
 
 // Refused adds, one of them in the other edition, and a refused opening leave what waits, which comes back after them.
 fn left(waits: Sheet, before: Sheet) -> Tally {
-    let edition = waits.edition;
-    let foreign = waits.add(other(edition), case2());
-    let kept = foreign.sheet;
+    let other = other(waits.edition);
+    let foreign = waits.add(other, case2()).sheet;
     leaves(added(waits, rule(9, 0, 0, 0)).forward(), before)
         .plus(leaves(added(waits, rule(1, 2, 0, 0)).forward(), before))
         .plus(leaves(added(waits, rule(1, 0, 16, 0)).forward(), before))
-        .plus(leaves(kept.forward(), before))
-        .plus(leaves(reopened(waits, 65, other(edition)).forward(), before))
+        .plus(leaves(foreign.forward(), before))
+        .plus(leaves(reopened(waits, 65, other).forward(), before))
 }
 
 // So does a step back where no mark is left.
@@ -80,8 +83,7 @@ fn no_step_back(waits: Sheet, before: Sheet) -> Tally {
 
 // A call accepted, and the sheet that it leaves.
 fn leaves(answer: Answer, sheet: Sheet) -> Tally {
-    let left = answer.sheet;
-    Tally::one(accepted(answer)).plus(Tally::one(same_sheet(left, sheet)))
+    looks(&[accepted(answer), answer.sheet == sheet])
 }
 
 // Wrong expectations: both stretches come back at once; nothing waits after a step back; something waits after an add.
@@ -89,7 +91,9 @@ fn known() -> Tally {
     let one = added(marked(opened(4)), case2());
     let two = marked(one);
     let last = gone_back(two);
-    Tally::one(same_sheet(gone_forward(gone_back(last)), two))
-        .plus(none_waits(last))
-        .plus(Tally::one(accepted(added(last, case2()).forward())))
+    looks(&[
+        gone_forward(gone_back(last)) == two,
+        none_waits(last),
+        accepted(added(last, case2()).forward()),
+    ])
 }

@@ -14,19 +14,16 @@ pub fn further(seed: u64) -> u64 {
     next(next(next(next(seed))))
 }
 
-// A call for a sheet that was opened so, on which something waits or nothing does. Openings are rare, as each starts a page afresh, but
-// on the blank sheet are not. Once something waits most calls are steps, as an add or a mark clears the pile.
+/// A call for a sheet that was opened so, on which something waits or nothing does. Openings are rare, as each starts a page afresh, but
+/// on the blank sheet are not. Once something waits most calls are steps, as an add or a mark clears the pile.
 pub fn drawn(seed: u64, opening: Opening, waits: bool) -> Call {
+    let Opening { width, edition } = opening;
     let more = next(seed);
-    let width = opening.width;
-    let edition = opening.edition;
     if opens(seed, width) {
         return Call::Open(anew(more));
     }
-    if waits {
-        if seed / 0x1000 % 4 != 0 {
-            return step(seed / 0x1_0000);
-        }
+    if waits && seed / 0x1000 % 4 != 0 {
+        return step(seed / 0x1_0000);
     }
     match seed / 64 % 64 {
         0..=11 => Call::Mark,
@@ -41,24 +38,24 @@ pub fn drawn(seed: u64, opening: Opening, waits: bool) -> Call {
 
 fn step(seed: u64) -> Call {
     if seed % 2 == 0 {
-        return Call::Back;
+        Call::Back
+    } else {
+        Call::Forward
     }
-    Call::Forward
 }
 
 fn opens(seed: u64, width: u64) -> bool {
     let kind = seed % 256;
-    if width == 0 {
-        return kind < 64;
-    }
-    kind == 0
+    kind == 0 || width == 0 && kind < 64
 }
 
+/// Either edition.
 pub fn either(seed: u64) -> Edition {
     if seed / 0x1_0000 % 2 == 0 {
-        return Edition::Old;
+        Edition::Old
+    } else {
+        Edition::New
     }
-    Edition::New
 }
 
 // An opening in either edition. The width is mostly 1 to 6, where words are few and rules clash; else any, with some that are refused.
@@ -83,12 +80,13 @@ fn any_width(seed: u64, edition: Edition) -> u64 {
 // The edition of an add: mostly the sheet's.
 fn frame(seed: u64, edition: Edition) -> Edition {
     if seed % 16 == 0 {
-        return other(edition);
+        other(edition)
+    } else {
+        edition
     }
-    edition
 }
 
-// A rule, each of whose numbers is mostly one that is accepted at the width.
+/// A rule, each of whose numbers is mostly one that is accepted at the width.
 pub fn rule(seed: u64, more: u64, width: u64) -> Rule {
     let form = form(seed);
     let c1 = constant(seed / 0x1_0000, more, width);
@@ -102,40 +100,35 @@ pub fn rule(seed: u64, more: u64, width: u64) -> Rule {
 
 fn form(seed: u64) -> u64 {
     if seed % 16 == 0 {
-        return seed / 16 % ANY;
+        seed / 16 % ANY
+    } else {
+        1 + seed / 16 % Rule::FORMS
     }
-    1 + seed / 16 % Rule::FORMS
 }
 
 // Form 7 is mostly not negated.
 fn sense(form: u64, seed: u64) -> u64 {
-    if seed % 16 == 0 {
-        return seed / 16 % 4;
+    match seed % 16 {
+        0 => seed / 16 % 4,
+        _ if form == 7 => 0,
+        _ => seed / 16 % 2,
     }
-    if form == 7 {
-        return 0;
-    }
-    seed / 16 % 2
 }
 
 // Mostly a word of the width: as many of the highest bits drawn. Else a small number or one of any size, a word or not.
 fn constant(seed: u64, more: u64, width: u64) -> u64 {
-    if seed % 64 == 0 {
-        return more / 32 % 100;
+    match seed % 64 {
+        0 => more / 32 % 100,
+        32 => more,
+        _ => more >> 64u64.wrapping_sub(width) % 64,
     }
-    if seed % 64 == 32 {
-        return more;
-    }
-    more >> std::num::wrapping_sub_u64(64, width) % 64
 }
 
 // Forms 4 to 6 mostly have no second constant, and form 7 one with no bit that the first lacks.
 fn second(form: u64, seed: u64, more: u64, width: u64, c1: u64) -> u64 {
     let any = constant(seed, more, width);
-    if seed % 32 == 1 {
-        return any;
-    }
     match form {
+        _ if seed % 32 == 1 => any,
         4..=6 => 0,
         7 => any & c1,
         _ => any,

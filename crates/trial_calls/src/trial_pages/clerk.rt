@@ -1,21 +1,22 @@
 // The clerk's page: how it was opened, what stands on it, in order, and beside it the pile of what was struck out and waits.
-use crate::sheets::opened_in;
-use crate::trial_pages::lines::{Line, Lines, MARK};
+use crate::sheets::{gone_back, opened_in};
+use crate::trial_pages::lines::{LINES, Line};
+use arrayvec::ArrayVec;
 use page::Opening;
 use sheet::{Call, Sheet};
 use word::Edition;
 
-// What it was opened with; the lines that stand, the newest last; and those of the pile, the one next to come back last. A stretch lies
-// on the pile with its mark on top.
-#[derive(Clone, Copy)]
+/// What it was opened with; the lines that stand, the newest last; and those of the pile, the one next to come back last. A stretch lies
+/// on the pile with its mark on top. Where no place is free for a line more it is left out: a desk that accepts it is seen to differ.
+#[derive(Drop)]
 pub struct Page {
     pub opening: Opening,
-    stands: Lines,
-    pile: Lines,
+    stands: ArrayVec<Line, LINES>,
+    pile: ArrayVec<Line, LINES>,
 }
 
 impl Page {
-    // The page before any opening: the blank sheet has width 0, and is of the old edition.
+    /// The page before any opening: the blank sheet has width 0, and is of the old edition.
     pub fn blank() -> Page {
         Page::new(Opening {
             width: 0,
@@ -23,99 +24,70 @@ impl Page {
         })
     }
 
-    // A page with nothing on it, and nothing beside it.
+    /// A page with nothing on it, and nothing beside it.
     pub fn new(opening: Opening) -> Page {
         Page {
             opening,
-            stands: Lines::none(),
-            pile: Lines::none(),
+            stands: ArrayVec::new(),
+            pile: ArrayVec::new(),
         }
     }
 
-    // The page after an accepted call.
-    pub fn after(self, call: Call) -> Page {
+    /// Writes an accepted call down.
+    pub fn write(&mut self, call: Call) {
         match call {
-            Call::Open(opening) => Page::new(opening),
-            Call::Add(_, rule) => self.with(Line { mark: false, rule }),
-            Call::Mark => self.with(MARK),
-            Call::Back => self.struck(),
-            Call::Forward => self.written_back(),
+            Call::Open(opening) => *self = Page::new(opening),
+            Call::Add(_, rule) => self.add(Line::Rule(rule)),
+            Call::Mark => self.add(Line::Mark),
+            Call::Back => self.strike(),
+            Call::Forward => self.write_back(),
         }
     }
 
-    // Whether something lies on the pile.
-    pub fn waits(self) -> bool {
-        let pile = self.pile;
-        0 < pile.length
+    /// Whether something lies on the pile.
+    pub fn waits(&self) -> bool {
+        !self.pile.is_empty()
     }
 
     // One line more, and the pile cleared.
-    fn with(self, line: Line) -> Page {
-        let opening = self.opening;
-        let stands = self.stands;
-        Page {
-            opening,
-            stands: stands.with(line),
-            pile: Lines::none(),
-        }
+    fn add(&mut self, line: Line) {
+        let _ = self.stands.try_push(line);
+        self.pile.clear();
     }
 
     // The newest mark struck, and what was written after it: line by line, until the mark lies on the pile.
-    fn struck(self) -> Page {
-        let mut page = self;
-        for i in 0..Lines::LIMIT {
-            page = page.line_struck();
-            let pile = page.pile;
-            if pile.mark_last() {
-                return page;
+    fn strike(&mut self) {
+        for _ in 0..LINES {
+            let line = self.stands.pop().unwrap_or(Line::Mark);
+            let _ = self.pile.try_push(line);
+            if line == Line::Mark {
+                return;
             }
         }
-        page
     }
 
     // The stretch on top of the pile written back: line by line, until the mark of another lies on top, or nothing does.
-    fn written_back(self) -> Page {
-        let mut page = self;
-        for i in 0..Lines::LIMIT {
-            page = page.line_written_back();
-            let pile = page.pile;
-            if pile.mark_last() {
-                return page;
+    fn write_back(&mut self) {
+        for _ in 0..LINES {
+            let line = self.pile.pop().unwrap_or(Line::Mark);
+            let _ = self.stands.try_push(line);
+            if !matches!(self.pile.as_slice().last(), Some(Line::Rule(_))) {
+                return;
             }
         }
-        page
     }
 
-    fn line_struck(self) -> Page {
-        let opening = self.opening;
-        let stands = self.stands;
-        let pile = self.pile;
-        Page {
-            opening,
-            stands: stands.without_last(),
-            pile: pile.with(stands.last()),
-        }
-    }
-
-    fn line_written_back(self) -> Page {
-        let opening = self.opening;
-        let stands = self.stands;
-        let pile = self.pile;
-        Page {
-            opening,
-            stands: stands.with(pile.last()),
-            pile: pile.without_last(),
-        }
-    }
-
-    // A sheet opened afresh at the page's width and edition, given what stands on the page, then every stretch that waits, the one next to
-    // come back first, and then taken back once for each.
-    pub fn fresh(self) -> Sheet {
-        let opening = self.opening;
-        let edition = opening.edition;
-        let stands = self.stands;
-        let pile = self.pile;
-        let sheet = stands.given(opened_in(opening.width, edition));
-        pile.taken_back(pile.given_last_first(sheet))
+    /// A sheet opened afresh at the page's width and edition, given what stands on the page, then every stretch that waits, the one next to
+    /// come back first, and then taken back once for each.
+    pub fn fresh(&self) -> Sheet {
+        let opened = opened_in(self.opening.width, self.opening.edition);
+        let stands = self
+            .stands
+            .iter()
+            .fold(opened, |sheet, line| line.given(sheet));
+        let pile = self.pile.iter().rev();
+        let all = pile.fold(stands, |sheet, line| line.given(sheet));
+        let marks = self.pile.iter().filter(|line| **line == Line::Mark);
+        marks.fold(all, |sheet, _| gone_back(sheet))
     }
 }

@@ -4,15 +4,14 @@ use net::{Join, Net};
 use span::{Interval, Op};
 use trial::trial_direct::draw::next;
 
-// A net that the seed draws: so many words, and 1 to 6 joins of them.
+/// A net that the seed draws: so many words, and 1 to 6 joins of them.
 pub fn drawn(seed: u64, width: u64, count: usize) -> Net {
-    let joined = (1 + (seed >> 40) % 6) as usize;
     Net {
         width,
         words: intervals(seed, expected::top(width), count),
         count,
         joins: joins(seed, count),
-        joined,
+        joined: (1 + (seed >> 40) % 6) as usize,
     }
 }
 
@@ -20,11 +19,9 @@ pub fn drawn(seed: u64, width: u64, count: usize) -> Net {
 fn intervals(seed: u64, top: u64, count: usize) -> [Interval; Net::WORDS] {
     let mut words = [Interval { low: 7, high: 7 }; Net::WORDS];
     let mut s = seed;
-    for p in 0..Net::WORDS {
+    for word in words.iter_mut().take(count) {
         s = next(s);
-        if p < count {
-            words[p] = interval(s, top);
-        }
+        *word = interval(s, top);
     }
     words
 }
@@ -39,9 +36,9 @@ fn interval(s: u64, top: u64) -> Interval {
 fn joins(seed: u64, count: usize) -> [Join; Net::JOINS] {
     let mut joins = [join(Op::Not, 0, 0, 0); Net::JOINS];
     let mut s = next(seed);
-    for k in 0..Net::JOINS {
+    for drawn in joins.iter_mut() {
         s = next(s);
-        joins[k] = drawn_join(s, count);
+        *drawn = drawn_join(s, count);
     }
     joins
 }
@@ -60,8 +57,8 @@ pub fn join(op: Op, h: usize, x: usize, y: usize) -> Join {
     Join { op, h, x, y }
 }
 
-// Four words at width 2: 2, 1, which is NOT 2, 0, and any.
-fn four() -> [Interval; Net::WORDS] {
+/// Four words at width 2: 2, 1, which is NOT 2, 0, and any.
+pub fn unchanged() -> [Interval; Net::WORDS] {
     let mut words = [Interval { low: 9, high: 3 }; Net::WORDS];
     words[0] = Interval { low: 2, high: 2 };
     words[1] = Interval { low: 1, high: 1 };
@@ -70,7 +67,7 @@ fn four() -> [Interval; Net::WORDS] {
     words
 }
 
-// So many joins that change nothing, with the join at place p the odd one.
+/// So many joins that change nothing, with the join at place p the odd one.
 pub fn odd_at(joined: usize, p: usize, odd: Join) -> Net {
     let mut joins = [join(Op::Not, 0, 1, 99); Net::JOINS];
     if p < Net::JOINS {
@@ -78,21 +75,16 @@ pub fn odd_at(joined: usize, p: usize, odd: Join) -> Net {
     }
     Net {
         width: 2,
-        words: four(),
+        words: unchanged(),
         count: 4,
         joins,
         joined,
     }
 }
 
-// What the join that changes the fourth word leaves: NOT 2.
+/// What the join that changes the fourth word leaves: NOT 2.
 pub fn changed() -> [Interval; Net::WORDS] {
-    let mut words = four();
+    let mut words = unchanged();
     words[3] = Interval { low: 1, high: 1 };
     words
-}
-
-// The number drawn after s.
-pub fn further(s: u64) -> u64 {
-    next(s)
 }

@@ -4,73 +4,93 @@
 use crate::trial_spans::words;
 use span::{Interval, Op};
 
-// The bits of a number.
-const BITS: u64 = 64;
-
 // The most blocks that an interval needs: two of each size.
-const BLOCKS: u64 = 2 * BITS;
+const BLOCKS: usize = 2 * 64;
 
-// The lowest bits that are free in the largest block that starts at p and stays within high, set.
-fn free(p: u64, high: u64) -> u64 {
-    let mut ones = 0;
-    for k in 0..BITS {
-        let more = u64::MAX >> (63 - k);
-        if p & more == 0 {
-            if more <= std::num::wrapping_sub_u64(high, p) {
-                ones = more;
-            }
-        }
-    }
-    ones
+// The words from the first on that differ from it in free bits alone.
+#[derive(Clone, Copy)]
+struct Block {
+    pub first: u64,
+    pub free: u64,
 }
 
-// All blocks of x with all of y.
+impl Block {
+    // The largest block that starts at a word and stays within high.
+    fn largest(first: u64, high: u64) -> Block {
+        let room = high.wrapping_sub(first);
+        let free = (room.leading_zeros()..u64::BITS)
+            .map(|k| u64::MAX >> k)
+            .find(|ones| first & ones == 0 && *ones <= room);
+        Block {
+            first,
+            free: free.unwrap_or(0),
+        }
+    }
+
+    fn last(self) -> u64 {
+        self.first | self.free
+    }
+}
+
+// The blocks of an interval, one after the other.
+#[derive(Clone, Copy)]
+struct Blocks {
+    pub next: Option<Block>,
+    pub high: u64,
+}
+
+impl Blocks {
+    fn of(i: Interval) -> Blocks {
+        Blocks {
+            next: Some(Block::largest(i.low, i.high)),
+            high: i.high,
+        }
+    }
+}
+
+impl Iterator for Blocks {
+    type Item = Block;
+
+    fn next(&mut self) -> Option<Block> {
+        let block = self.next?;
+        self.next = if block.last() < self.high {
+            Some(Block::largest(block.last().wrapping_add(1), self.high))
+        } else {
+            None
+        };
+        Some(block)
+    }
+}
+
+/// What the operation makes of all blocks of x with all of y.
 pub fn span(op: Op, top: u64, x: Interval, y: Interval) -> Interval {
-    let mut s = words::none();
-    let mut p = x.low;
-    for _ in 0..BLOCKS {
-        let ones = free(p, x.high);
-        s = over_y(op, top, p, ones, y, s);
-        if std::num::wrapping_sub_u64(x.high, p) <= ones {
-            return s;
+    let mut wide = words::NONE;
+    for a in Blocks::of(x).take(BLOCKS) {
+        for b in Blocks::of(y).take(BLOCKS) {
+            wide = words::widened(wide, least(op, top, a, b));
+            wide = words::widened(wide, most(op, top, a, b));
         }
-        p = std::num::wrapping_add_u64(p | ones, 1);
-    }
-    s
-}
-
-// s, widened by what the block at p makes with all blocks of y.
-fn over_y(op: Op, top: u64, p: u64, ones: u64, y: Interval, s: Interval) -> Interval {
-    let mut wide = s;
-    let mut q = y.low;
-    for _ in 0..BLOCKS {
-        let more = free(q, y.high);
-        wide = words::widened(wide, least(op, top, p, ones, q, more));
-        wide = words::widened(wide, most(op, top, p, ones, q, more));
-        if std::num::wrapping_sub_u64(y.high, q) <= more {
-            return wide;
-        }
-        q = std::num::wrapping_add_u64(q | more, 1);
     }
     wide
 }
 
-// The smallest result of the blocks at p and q: of an XOR, a bit that is free in one of them cancels that of the other.
-fn least(op: Op, top: u64, p: u64, i: u64, q: u64, j: u64) -> u64 {
+// The smallest result of two blocks: of an XOR, a bit that is free in one of them cancels that of the other.
+fn least(op: Op, top: u64, a: Block, b: Block) -> u64 {
+    let free = a.free | b.free;
     match op {
-        Op::Not => (p | i) ^ top,
-        Op::And => p & q,
-        Op::Or => p | q,
-        Op::Xor => ((p ^ q) | i | j) ^ (i | j),
+        Op::Not => a.last() ^ top,
+        Op::And => a.first & b.first,
+        Op::Or => a.first | b.first,
+        Op::Xor => (a.first ^ b.first | free) ^ free,
     }
 }
 
 // The largest.
-fn most(op: Op, top: u64, p: u64, i: u64, q: u64, j: u64) -> u64 {
+fn most(op: Op, top: u64, a: Block, b: Block) -> u64 {
     match op {
-        Op::Not => p ^ top,
-        Op::And => (p | i) & (q | j),
-        Op::Or => p | i | q | j,
-        Op::Xor => (p ^ q) | i | j,
+        Op::Not => a.first ^ top,
+        Op::And => a.last() & b.last(),
+        Op::Or => a.last() | b.last(),
+        Op::Xor => a.first ^ b.first | a.free | b.free,
     }
 }

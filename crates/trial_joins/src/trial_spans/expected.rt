@@ -1,165 +1,114 @@
 // A join as the paper has it, over spans that are searched.
-use crate::trial_spans::{blocks, words};
 use span::{Interval, Joined, Op};
 
-// How a span is searched.
-#[derive(Clone, Copy)]
-pub enum Way {
-    Words,
-    Blocks,
-}
-
-fn searched(way: Way, op: Op, top: u64, x: Interval, y: Interval) -> Interval {
-    match way {
-        Way::Words => words::span(op, top, x, y),
-        Way::Blocks => blocks::span(op, top, x, y),
-    }
-}
-
-// The top word of a width from 1 to 64, and of another width the largest number.
+/// The top word of a width from 1 to 64, and of another width the largest number.
 pub fn top(width: u64) -> u64 {
-    if width < 1 {
-        return u64::MAX;
-    }
-    if 64 < width {
-        return u64::MAX;
-    }
-    u64::MAX >> (64 - width)
-}
-
-// A NOT has no y: one word stands there.
-fn second(op: Op, y: Interval) -> Interval {
-    match op {
-        Op::Not => Interval { low: 0, high: 0 },
-        _ => y,
+    match width {
+        1..=64 => u64::MAX >> (64 - width),
+        _ => u64::MAX,
     }
 }
 
-fn above(top: u64, i: Interval) -> bool {
-    if top < i.low {
-        return true;
+/// The words of both.
+pub fn common(i: Interval, j: Interval) -> Interval {
+    Interval {
+        low: i.low.max(j.low),
+        high: i.high.min(j.high),
     }
-    top < i.high
 }
 
-fn reversed(i: Interval) -> bool {
+/// Whether it has no word.
+pub fn reversed(i: Interval) -> bool {
     i.high < i.low
 }
 
-fn any_above(top: u64, h: Interval, x: Interval, y: Interval) -> bool {
-    if above(top, h) {
-        return true;
-    }
-    if above(top, x) {
-        return true;
-    }
-    above(top, y)
+/// A join that is asked for: an operation on words of a width, and an interval for each of them.
+#[derive(Clone, Copy)]
+pub struct Asked {
+    pub width: u64,
+    pub op: Op,
+    pub h: Interval,
+    pub x: Interval,
+    pub y: Interval,
 }
 
-fn any_reversed(h: Interval, x: Interval, y: Interval) -> bool {
-    if reversed(h) {
-        return true;
+impl Asked {
+    /// What is to be answered, where an operation's span over two intervals is searched so.
+    pub fn joined<S: Fn(Op, u64, Interval, Interval) -> Interval>(self, span: S) -> Joined
+        requires { S.IsAlwaysCallable span }
+    {
+        if let Some(number) = self.refusal() {
+            return Joined {
+                number,
+                ..self.answered()
+            };
+        }
+        let cut = self.cut(span);
+        if cut.intervals().iter().any(|i| reversed(*i)) {
+            return Joined {
+                empty: true,
+                ..self.answered()
+            };
+        }
+        cut.answered()
     }
-    if reversed(x) {
-        return true;
-    }
-    reversed(y)
-}
 
-// The number of the refusal, or 0.
-fn refusal(width: u64, h: Interval, x: Interval, y: Interval) -> u64 {
-    if width == 0 {
-        return 2;
+    /// These very intervals as an answer.
+    pub fn answered(self) -> Joined {
+        Joined {
+            number: 0,
+            empty: false,
+            h: self.h,
+            x: self.x,
+            y: self.y,
+        }
     }
-    if 65 <= width {
-        return 2;
-    }
-    if any_above(top(width), h, x, y) {
-        return 5;
-    }
-    if any_reversed(h, x, y) {
-        return 15;
-    }
-    0
-}
 
-// The words of both.
-pub fn common(i: Interval, j: Interval) -> Interval {
-    Interval {
-        low: if i.low < j.low { j.low } else { i.low },
-        high: if i.high < j.high { i.high } else { j.high },
+    // A NOT has no y: one word stands there.
+    fn second(self) -> Interval {
+        match self.op {
+            Op::Not => Interval { low: 0, high: 0 },
+            _ => self.y,
+        }
     }
-}
 
-// x, cut by NOT h or by h XOR y.
-fn new_x(way: Way, op: Op, top: u64, h: Interval, x: Interval, y: Interval) -> Interval {
-    match op {
-        Op::Not => common(x, searched(way, op, top, h, second(op, y))),
-        Op::And => x,
-        Op::Or => x,
-        Op::Xor => common(x, searched(way, op, top, h, y)),
+    fn intervals(self) -> [Interval; 3] {
+        [self.h, self.x, self.second()]
     }
-}
 
-// y, cut by h XOR x.
-fn new_y(way: Way, op: Op, top: u64, h: Interval, x: Interval, y: Interval) -> Interval {
-    match op {
-        Op::Xor => common(y, searched(way, op, top, h, x)),
-        _ => y,
+    // The number that it is refused with.
+    fn refusal(self) -> Option<u64> {
+        let top = top(self.width);
+        let intervals = self.intervals();
+        if self.width < 1 || 64 < self.width {
+            return Some(2);
+        }
+        if intervals.iter().any(|i| top < i.low || top < i.high) {
+            return Some(5);
+        }
+        if intervals.iter().any(|i| reversed(*i)) {
+            return Some(15);
+        }
+        None
     }
-}
 
-pub fn join(way: Way, width: u64, op: Op, h: Interval, x: Interval, y: Interval) -> Joined {
-    let number = refusal(width, h, x, second(op, y));
-    if number != 0 {
-        return answer(number, false, h, x, y);
+    // h cut by what the operation makes of x and y; x by NOT h or by h XOR y; and y by h XOR x.
+    fn cut<S: Fn(Op, u64, Interval, Interval) -> Interval>(self, span: S) -> Asked
+        requires { S.IsAlwaysCallable span }
+    {
+        let Asked { op, h, x, y, .. } = self;
+        let top = top(self.width);
+        let second = self.second();
+        let (by_h, by_x) = match op {
+            Op::Not => (span(op, top, h, second), y),
+            Op::And | Op::Or => (x, y),
+            Op::Xor => (span(op, top, h, y), span(op, top, h, x)),
+        };
+        Asked {
+            h: common(h, span(op, top, x, second)),
+            x: common(x, by_h),
+            y: common(y, by_x),
+            ..self
+        }
     }
-    let top = top(width);
-    let h2 = common(h, searched(way, op, top, x, second(op, y)));
-    let x2 = new_x(way, op, top, h, x, y);
-    let y2 = new_y(way, op, top, h, x, y);
-    if any_reversed(h2, x2, second(op, y2)) {
-        return answer(0, true, h, x, y);
-    }
-    answer(0, false, h2, x2, y2)
-}
-
-pub fn answer(number: u64, empty: bool, h: Interval, x: Interval, y: Interval) -> Joined {
-    Joined {
-        number,
-        empty,
-        h,
-        x,
-        y,
-    }
-}
-
-fn same_interval(i: Interval, j: Interval) -> bool {
-    if i.low != j.low {
-        return false;
-    }
-    i.high == j.high
-}
-
-// Whether two answers are the same in every field.
-pub fn same(a: Joined, b: Joined) -> bool {
-    if a.number != b.number {
-        return false;
-    }
-    if a.empty != b.empty {
-        return false;
-    }
-    let ah = a.h;
-    let bh = b.h;
-    let ax = a.x;
-    let bx = b.x;
-    let ay = a.y;
-    let by = b.y;
-    if !same_interval(ah, bh) {
-        return false;
-    }
-    if !same_interval(ax, bx) {
-        return false;
-    }
-    same_interval(ay, by)
 }

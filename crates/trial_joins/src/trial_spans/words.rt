@@ -1,7 +1,13 @@
 // The span of an operation word by word: every word of x with every word of y. It shares no code with what is tried.
 use span::{Interval, Op};
 
-// What the operation makes of two words.
+/// The interval that has no word, and is widened from there.
+pub const NONE: Interval = Interval {
+    low: u64::MAX,
+    high: 0,
+};
+
+/// What the operation makes of two words.
 pub fn result(op: Op, top: u64, a: u64, b: u64) -> u64 {
     match op {
         Op::Not => a ^ top,
@@ -11,39 +17,21 @@ pub fn result(op: Op, top: u64, a: u64, b: u64) -> u64 {
     }
 }
 
-// An interval that has v too.
+/// An interval that has v too.
 pub fn widened(s: Interval, v: u64) -> Interval {
     Interval {
-        low: if v < s.low { v } else { s.low },
-        high: if s.high < v { v } else { s.high },
+        low: s.low.min(v),
+        high: s.high.max(v),
     }
 }
 
-// The interval that has no word, and is widened from there.
-pub fn none() -> Interval {
-    Interval {
-        low: u64::MAX,
-        high: 0,
-    }
-}
-
+/// What the operation makes of all words of x with all of y.
 pub fn span(op: Op, top: u64, x: Interval, y: Interval) -> Interval {
-    let mut s = none();
-    let low = x.low;
-    let high = x.high;
-    for a in low..=high {
-        s = over_y(op, top, a, y, s);
-    }
-    s
-}
-
-// s, widened by what a makes with every word of y.
-fn over_y(op: Op, top: u64, a: u64, y: Interval, s: Interval) -> Interval {
-    let mut wide = s;
-    let low = y.low;
-    let high = y.high;
-    for b in low..=high {
-        wide = widened(wide, result(op, top, a, b));
+    let mut wide = NONE;
+    for a in x.low..=x.high {
+        for b in y.low..=y.high {
+            wide = widened(wide, result(op, top, a, b));
+        }
     }
     wide
 }

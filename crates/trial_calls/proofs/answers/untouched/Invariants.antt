@@ -1,9 +1,0 @@
--- `untouched` is safe and ends: the measure is the numbers left. Assumes nothing.
-use Rattle.std.proofs.Common.{◌-◌}
-use Rattle.trial_calls.proofs.answers.untouched.Given as goal
-
-abbrev pub invariant-loop-i : goal.invariant-loop-i
-invariant-loop-i l = Unit
-
-abbrev pub decreases-loop-i : goal.decreases-loop-i
-decreases-loop-i l = l.i-end - l.i
