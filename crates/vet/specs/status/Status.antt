@@ -2,6 +2,14 @@
 use Rattle.std.specs.Prelude.{cond, ℕ}
 use Rattle.checker.specs.declared.finding.Finding.{Finding}
 use Rattle.checker.specs.finding.Clauses.{is_yes}
+use Rattle.vet.specs.declared.status.Verdict.{Verdict}
+use Rattle.vet.specs.declared.status.Verdict.TheVariants.{No, Unsaid, Yes}
 
 unfoldable pub status_of : Finding → ℕ
 status_of f = cond (is_yes f) 0 1
+
+-- the status of what is said of a chain: 2 where that is neither
+abbrev pub number_of : Verdict → ℕ
+number_of Yes = 0
+number_of No = 1
+number_of Unsaid = 2

@@ -1,136 +1,148 @@
 // What is found of a chain, in one line on standard output.
 ghost use Rattle.std.specs.Prelude.{◌≡◌, IfOk};
-ghost use Rattle.vet.specs.status.Status.{status_of};
+ghost use Rattle.vet.specs.status.Status.{number_of, status_of};
 
-use crate::gathering::{LENT, LINKS, ROOM};
-use chain::Link;
+use crate::gathering::Chain;
+use crate::status::Verdict;
 use checker::clause::Finding;
 use naming::MOST;
 use rule::Rule;
+use std::fmt;
 use std::io::Result;
-use telling::printing::{put, put_number};
 
-// Tells it, and gives the status.
+/// Tells it, and gives the verdict.
 pub fn tell(
     rt: &impl Print,
     found: Finding,
     names: &[[u8; MOST]; Rule::LIMIT],
-    links: &[u64; LENT],
-) -> Result<u8>
-    ensures { IfOk result (λ k. k ≡ status_of found) }
+    chain: &Chain,
+) -> Result<Verdict>
+    ensures { IfOk result (λ v. number_of v ≡ status_of found) }
 {
     if found.is_yes() {
-        put(rt, b"yes: no word fits\n")?;
-        return Ok(crate::status::of(found));
+        println!(rt; "yes: no word fits")?;
+    } else {
+        let why = Why {
+            found,
+            names,
+            chain,
+        };
+        println!(rt; "no: {why}")?;
     }
-    put(rt, b"no: ")?;
-    put_found(rt, found, names, links)?;
-    put(rt, b"\n")?;
-    Ok(crate::status::of(found))
+    Ok(Verdict::of(found))
 }
 
-// The clause of the paper that does not hold, with the line of its link, where it is one of a link.
-fn put_found(
-    rt: &impl Print,
+// The clause of the paper that does not hold, with the names of the rules, and the chain whose link it may be one of.
+#[derive(Clone, Copy)]
+struct Why<'a> {
     found: Finding,
-    names: &[[u8; MOST]; Rule::LIMIT],
-    links: &[u64; LENT],
-) -> Result<()> {
-    match found {
-        Finding::Yes => Ok(()),
-        Finding::NoSheet => put(rt, b"no sheet is open"),
-        Finding::Empty => put(rt, b"the chain is empty"),
-        Finding::Ragged => put(rt, b"the numbers of the chain are no multiple of three"),
-        Finding::Short => put(rt, b"the largest end is not the top word"),
-        Finding::Backward { link } => put_at(rt, links, link, b"the link starts above its end"),
-        Finding::AboveTop { link } => put_at(rt, links, link, b"the link ends above the top word"),
-        Finding::NotFromZero { link } => put_at(
-            rt,
-            links,
-            link,
-            b"the first link does not start at 0",
-        ),
-        Finding::Gap { link } => put_at(
-            rt,
-            links,
-            link,
-            b"the link starts more than one past the largest end so far",
-        ),
-        _ => put_reason(rt, found, names, links),
+    names: &'a [[u8; MOST]; Rule::LIMIT],
+    chain: &'a Chain,
+}
+
+impl Why<'_> {
+    // The line of a link.
+    fn line(&self, link: usize) -> u64 {
+        self.chain.origin(link).line
+    }
+
+    // The number that a link has for its reason, and the rule of that number.
+    fn reason(&self, link: usize) -> u64 {
+        self.chain.reason(link).unwrap_or(0)
+    }
+
+    fn rule(&self, link: usize) -> Called<'_> {
+        Called {
+            number: self.reason(link),
+            names: self.names,
+        }
     }
 }
 
-// The clauses on the reason of a link.
-fn put_reason(
-    rt: &impl Print,
-    found: Finding,
-    names: &[[u8; MOST]; Rule::LIMIT],
-    links: &[u64; LENT],
-) -> Result<()> {
-    match found {
-        Finding::NoRule { link } => {
-            put_at(rt, links, link, b"there is no rule ")?;
-            put_number(rt, reason_of(links, link))
+impl fmt::Display for Why<'_> {
+    fn fmt<W: fmt::Write>(&self, f: &mut fmt::Formatter<W>) -> fmt::Result {
+        match self.found {
+            Finding::Yes => Ok(()),
+            Finding::NoSheet => write!(f, "no sheet is open"),
+            Finding::Empty => write!(f, "the chain is empty"),
+            Finding::Ragged => write!(f, "the numbers of the chain are no multiple of three"),
+            Finding::Short => write!(f, "the largest end is not the top word"),
+            Finding::Backward { link } => {
+                write!(f, "line {}: the link starts above its end", self.line(link))
+            }
+            Finding::AboveTop { link } => {
+                write!(
+                    f,
+                    "line {}: the link ends above the top word",
+                    self.line(link)
+                )
+            }
+            Finding::NotFromZero { link } => {
+                write!(
+                    f,
+                    "line {}: the first link does not start at 0",
+                    self.line(link)
+                )
+            }
+            Finding::Gap { link } => write!(
+                f,
+                "line {}: the link starts more than one past the largest end so far",
+                self.line(link),
+            ),
+            Finding::NoRule { link } => {
+                write!(
+                    f,
+                    "line {}: there is no rule {}",
+                    self.line(link),
+                    self.reason(link)
+                )
+            }
+            Finding::BitRule { link } => write!(
+                f,
+                "line {}: {} is one on bits, which a link shows as bits",
+                self.line(link),
+                self.rule(link),
+            ),
+            Finding::MeetsRule { link, word } => {
+                write!(
+                    f,
+                    "line {}: word {word} meets {}",
+                    self.line(link),
+                    self.rule(link)
+                )
+            }
+            Finding::MeetsBits { link, word } => {
+                write!(
+                    f,
+                    "line {}: word {word} has the fixed bits",
+                    self.line(link)
+                )
+            }
         }
-        Finding::BitRule { link } => {
-            put_at(rt, links, link, b"")?;
-            put_rule(rt, names, reason_of(links, link))?;
-            put(rt, b" is one on bits, which a link shows as bits")
-        }
-        Finding::MeetsRule { link, word } => {
-            put_at(rt, links, link, b"word ")?;
-            put_number(rt, word)?;
-            put(rt, b" meets ")?;
-            put_rule(rt, names, reason_of(links, link))
-        }
-        Finding::MeetsBits { link, word } => {
-            put_at(rt, links, link, b"word ")?;
-            put_number(rt, word)?;
-            put(rt, b" has the fixed bits")
-        }
-        _ => Ok(()),
     }
-}
-
-// `line 7: `, and a text.
-fn put_at(rt: &impl Print, links: &[u64; LENT], link: usize, text: &[u8]) -> Result<()> {
-    put(rt, b"line ")?;
-    if link < LINKS {
-        put_number(rt, links[ROOM + link] / 2)?;
-    }
-    put(rt, b": ")?;
-    put(rt, text)
 }
 
 // `rule late`, or `rule 3` where it has no name.
-fn put_rule(rt: &impl Print, names: &[[u8; MOST]; Rule::LIMIT], number: u64) -> Result<()> {
-    let place = number as usize;
-    put(rt, b"rule ")?;
-    if Rule::LIMIT <= place {
-        return put_number(rt, number);
-    }
-    let row = names[place];
-    let n = naming::length(&row);
-    if n == 0 {
-        return put_number(rt, number);
-    }
-    put_letters(rt, row, n)
+#[derive(Clone, Copy)]
+struct Called<'a> {
+    number: u64,
+    names: &'a [[u8; MOST]; Rule::LIMIT],
 }
 
-// So many letters of a row.
-fn put_letters(rt: &impl Print, row: [u8; MOST], n: usize) -> Result<()> {
-    for i in 0..MOST {
-        if i < n {
-            let letter = [row[i]];
-            put(rt, &letter)?;
+impl Called<'_> {
+    // A name is text: letters, digits, `_` and `.`.
+    fn name(&self) -> Option<&str> {
+        let row = self.names.get(self.number as usize)?;
+        let name = row.get(..naming::length(row))?;
+        str::from_utf8(name).ok().filter(|name| !name.is_empty())
+    }
+}
+
+impl fmt::Display for Called<'_> {
+    fn fmt<W: fmt::Write>(&self, f: &mut fmt::Formatter<W>) -> fmt::Result {
+        match self.name() {
+            Some(name) => write!(f, "rule {name}"),
+            None => write!(f, "rule {}", self.number),
         }
     }
-    Ok(())
-}
-
-fn reason_of(links: &[u64; LENT], link: usize) -> u64 {
-    if LINKS <= link {
-        return 0;
-    }
-    links[Link::NUMBERS * link + 2]
 }
