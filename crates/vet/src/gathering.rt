@@ -82,7 +82,11 @@ impl Reading<'_> {
             line: self.line,
             named,
         };
-        self.chain.push(link, origin).map_err(|_| Fault::TooMany)
+        if self.chain.push(link, origin) {
+            Ok(())
+        } else {
+            Err(Fault::TooMany)
+        }
     }
 }
 

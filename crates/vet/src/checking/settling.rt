@@ -1,11 +1,12 @@
 // What is found of a chain whose reasons may be names: a name that several rules in force share, as the four of a gate do, stands for the first of them that all words of the link
 // fail, and for the first of them where there is none.
-ghost use Rattle.std.specs.Prelude.{◌≡◌};
+ghost use Rattle.std.specs.Prelude.{◌≡◌, ◌*◌, take};
 ghost use Rattle.checker.specs.finding.Clauses.{is_yes};
 ghost use Rattle.checker.specs.Check.{accepts};
 ghost use Rattle.checker.specs.clause.Finding.{finding};
 
 use crate::gathering::Chain;
+use chain::Link;
 use checker::clause::Finding;
 use naming::MOST;
 use rule::Rule;
@@ -13,8 +14,8 @@ use sheet::Sheet;
 
 /// What is found of the links of a chain. It is yes just where the check says yes.
 pub fn found_of(sheet: Sheet, chain: &Chain) -> Finding
-    ensures value { result ≡ finding sheet chain.now.numbers.items }
-    ensures result_value { is_yes result ≡ accepts sheet chain.now.numbers.items }
+    ensures value { result ≡ finding sheet (take (Link.NUMBERS * chain.now.links) chain.now.numbers) }
+    ensures result_value { is_yes result ≡ accepts sheet (take (Link.NUMBERS * chain.now.links) chain.now.numbers) }
 {
     checker::clause::first(sheet, chain.numbers())
 }
@@ -26,11 +27,8 @@ pub fn unshown(found: Finding, chain: &Chain) -> Option<usize> {
         Finding::MeetsRule { link, word: _ } => link,
         _ => return None,
     };
-    if chain.origin(link).named {
-        Some(link)
-    } else {
-        None
-    }
+    let origin = chain.origin(link)?;
+    if origin.named { Some(link) } else { None }
 }
 
 /// The name of a link stands for the next rule that has it. After the last it is settled, and stands for the first.

@@ -43,7 +43,7 @@ struct Why<'a> {
 impl Why<'_> {
     // The line of a link.
     fn line(&self, link: usize) -> u64 {
-        self.chain.origin(link).line
+        self.chain.origin(link).unwrap_or_default().line
     }
 
     // The number that a link has for its reason, and the rule of that number.
@@ -129,20 +129,18 @@ struct Called<'a> {
     names: &'a [[u8; MOST]; Rule::LIMIT],
 }
 
-impl Called<'_> {
-    // A name is text: letters, digits, `_` and `.`.
-    fn name(&self) -> Option<&str> {
-        let row = self.names.get(self.number as usize)?;
-        let name = row.get(..naming::length(row))?;
-        str::from_utf8(name).ok().filter(|name| !name.is_empty())
-    }
-}
-
 impl fmt::Display for Called<'_> {
     fn fmt<W: fmt::Write>(&self, f: &mut fmt::Formatter<W>) -> fmt::Result {
-        match self.name() {
+        match name_of(self.names, self.number) {
             Some(name) => write!(f, "rule {name}"),
             None => write!(f, "rule {}", self.number),
         }
     }
+}
+
+// The name of a rule, if it has one. A name is text: letters, digits, `_` and `.`.
+fn name_of(names: &[[u8; MOST]; Rule::LIMIT], number: u64) -> Option<&str> {
+    let row = names.get(number as usize)?;
+    let name = row.get(..naming::length(row))?;
+    str::from_utf8(name).ok().filter(|name| !name.is_empty())
 }

@@ -1,6 +1,7 @@
 // A chain as it is read: its links, and where each comes from.
 
-use arrayvec::{ArrayVec, CapacityError};
+ghost use Rattle.std.specs.Prelude.{◌≡◌, ◌*◌, ◌<◌, ◌≤◌, take};
+
 use chain::Link;
 
 /// The most links of a chain, and the numbers that they take.
@@ -15,64 +16,72 @@ pub struct Origin {
     pub named: bool,
 }
 
-/// The numbers of the links, as the check of a chain takes them, which is why they are no part of what is kept of each link beside.
+/// The numbers of so many links, as the check of a chain takes them, and beside them, since they are no numbers of the chain, where each
+/// link comes from. Arrays of the most links, since no memory is asked for; an `ArrayVec` of that size is made by way of the stack.
 #[derive(Drop)]
 pub struct Chain {
-    numbers: ArrayVec<u64, ROOM>,
-    origins: ArrayVec<Origin, LINKS>,
+    numbers: [u64; ROOM],
+    origins: [Origin; LINKS],
+    links: usize,
+    ghost few: { links ≤ 32768 },
 }
 
 impl Chain {
     pub fn new() -> Chain {
         Chain {
-            numbers: ArrayVec::new(),
-            origins: ArrayVec::new(),
+            numbers: [0; ROOM],
+            origins: [Origin::default(); LINKS],
+            links: 0,
         }
     }
 
     /// The numbers of all links.
-    pub fn numbers(&self) -> &[u64] {
-        self.numbers.as_slice()
+    pub fn numbers(&self) -> &[u64]
+        ensures { result.now ≡ take (Link.NUMBERS * self.now.links) self.now.numbers }
+    {
+        &self.numbers[..Link::NUMBERS * self.links]
     }
 
     /// Where a link comes from.
-    pub fn origin(&self, link: usize) -> Origin {
-        self.origins.get(link).copied().unwrap_or_default()
+    pub fn origin(&self, link: usize) -> Option<Origin> {
+        self.origins.get(link).copied()
     }
 
     /// The reason of a link.
     pub fn reason(&self, link: usize) -> Option<u64> {
-        self.numbers.get(reason_at(link)?).copied()
+        if link < self.links {
+            Some(self.numbers[Link::NUMBERS * link + 2])
+        } else {
+            None
+        }
     }
 
-    /// Takes a link more, where there is room for it.
-    pub fn push(&mut self, link: Link, origin: Origin) -> Result<(), CapacityError> {
-        self.numbers
-            .try_extend_from_slice(&[link.from, link.to, link.reason])?;
-        self.origins
-            .try_push(origin)
-            .map_err(CapacityError::simplify)
+    /// Takes a link more, and says whether there was room for it.
+    pub fn push(&mut self, link: Link, origin: Origin) -> bool {
+        let links = self.links;
+        if links == LINKS {
+            return false;
+        }
+        let first = Link::NUMBERS * links;
+        self.numbers[first] = link.from;
+        self.numbers[first + 1] = link.to;
+        self.numbers[first + 2] = link.reason;
+        self.origins[links] = origin;
+        self.links = links + 1;
+        true
     }
 
     /// Puts another reason in the place of that of a link.
     pub fn put_reason(&mut self, link: usize, reason: u64) {
-        let Some(place) = reason_at(link) else {
-            return;
-        };
-        if let Some(number) = self.numbers.get_mut(place) {
-            *number = reason;
+        if link < self.links {
+            self.numbers[Link::NUMBERS * link + 2] = reason;
         }
     }
 
     /// The name of a link stands for its reason no longer.
     pub fn settle(&mut self, link: usize) {
-        if let Some(origin) = self.origins.get_mut(link) {
-            origin.named = false;
+        if link < self.links {
+            self.origins[link].named = false;
         }
     }
-}
-
-// Where the reason of a link stands among the numbers.
-fn reason_at(link: usize) -> Option<usize> {
-    link.checked_mul(Link::NUMBERS)?.checked_add(2)
 }
