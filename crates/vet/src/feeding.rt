@@ -66,7 +66,7 @@ impl Run {
             lines::say_failed(b"vet: standard input", error);
             self.course = Course::Failed;
         }
-        if let Manner::Check = self.manner {
+        if self.manner == Manner::Check {
             return self.check(rt).status();
         }
         if self.course.takes_lines() {

@@ -12,9 +12,9 @@ use fault::Fault;
 use line::scan::Name;
 use naming::MOST;
 use rule::Rule;
-use std::fs;
-use std::io::{Eprint, Result};
+use std::io::Eprint;
 use std::rt::Files;
+use std::{fs, io};
 use word::Found;
 
 // Where the chain is read from: descriptor 7, which is opened anew, so that a file is read from its start.
@@ -51,13 +51,13 @@ pub fn read_all(
     !reading.wrong
 }
 
-fn read_file(rt: &(impl Files + Print + Eprint), reading: &mut Reading) -> Result<()> {
+fn read_file(rt: &(impl Files + Print + Eprint), reading: &mut Reading) -> io::Result<()> {
     lines::listen(rt, fs::open(rt, CHAIN)?, reading)
 }
 
 impl Reading<'_> {
     // Takes what a line says.
-    fn cite(&mut self, text: &[u8]) -> std::result::Result<(), Fault> {
+    fn cite(&mut self, text: &[u8]) -> Result<(), Fault> {
         match citing::read(text) {
             Citation::Nothing => Ok(()),
             Citation::Numbered(link) => self.put(link, false),
@@ -70,14 +70,14 @@ impl Reading<'_> {
     }
 
     // The number of the first rule in force that has the name.
-    fn number_of(&self, name: Name, text: &[u8]) -> std::result::Result<u64, Fault> {
+    fn number_of(&self, name: Name, text: &[u8]) -> Result<u64, Fault> {
         match naming::by_name::number_of(self.names, self.rules, lines::name_in(name, text)) {
             Found::At(number) => Ok(number),
             Found::Nothing => Err(Fault::NoSuchName { at: name.from }),
         }
     }
 
-    fn put(&mut self, link: Link, named: bool) -> std::result::Result<(), Fault> {
+    fn put(&mut self, link: Link, named: bool) -> Result<(), Fault> {
         let origin = Origin {
             line: self.line,
             named,

@@ -21,14 +21,11 @@ type Held = ArrayVec<u8, HELD>;
 
 /// Hands on the lines of an input, until it ends or the listener has heard enough. The last line may lack its byte 10. A read that is
 /// interrupted is tried again.
-pub fn listen<P: Print + Eprint, R: Read, L: Listener>(
+pub fn listen<P: Print + Eprint, R: Read + Drop, L: Listener>(
     rt: &P,
     mut input: R,
     listener: &mut L,
-) -> Result<()>
-where
-    R: Drop,
-{
+) -> Result<()> {
     let mut held = Held::new();
     // No run uses up the turns, since a loop has to end.
     for _ in 0..u64::MAX {

@@ -1,6 +1,7 @@
 // A chain as it is read: its links, and where each comes from.
 
-ghost use Rattle.std.specs.Prelude.{◌≡◌, ◌*◌, ◌<◌, ◌≤◌, take};
+ghost use Rattle.std.specs.Prelude.{◌≡◌, ◌*◌, ◌≤◌, take};
+ghost use Rattle.vet.specs.declared.gathering.chain_read.TheConstants.{LINKS};
 
 use chain::Link;
 
@@ -16,14 +17,14 @@ pub struct Origin {
     pub named: bool,
 }
 
-/// The numbers of so many links, as the check of a chain takes them, and beside them, since they are no numbers of the chain, where each
-/// link comes from. Arrays of the most links, since no memory is asked for; an `ArrayVec` of that size is made by way of the stack.
+/// The numbers of so many links, as the check of a chain takes them; and beside them, since the check takes no more, where each link comes
+/// from. Arrays of the most links, since no memory is asked for. Tried as an `ArrayVec`: made by value, one of this size overflows the stack.
 #[derive(Drop)]
 pub struct Chain {
     numbers: [u64; ROOM],
     origins: [Origin; LINKS],
     links: usize,
-    ghost few: { links ≤ 32768 },
+    ghost few: { links ≤ LINKS },
 }
 
 impl Chain {

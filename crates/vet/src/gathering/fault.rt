@@ -5,6 +5,9 @@ use line::scan::Mistake;
 use std::fmt;
 use std::io::Eprint;
 
+// Where mistakes are said: a line itself need not be text, so it is written as bytes.
+const STDERR: i32 = 2;
+
 /// Why a line of a chain is not taken: what it says is mistaken, a name in it is none of a rule, or there is no room for its link.
 #[derive(Clone, Copy)]
 pub enum Fault {
@@ -47,9 +50,6 @@ impl fmt::Display for Fault {
         }
     }
 }
-
-// The line itself need not be text.
-const STDERR: i32 = 2;
 
 fn wanted(expected: u8) -> &'static str {
     match expected {
