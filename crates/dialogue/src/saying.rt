@@ -19,6 +19,7 @@ use word::Edition;
 
 /// Does what a statement says. What it opens and adds is of the new edition. A chain, or the numbers of rules that a word fails, are
 /// written to `numbers`, and words that fit to `words`.
+#[tactic(auto, using(crate::proofs::saying::SearchSays::wanted), unfolding(crate::specs::saying::Says::Says))]
 pub fn says(
     sheet: &mut Sheet,
     statement: Statement,

@@ -17,9 +17,9 @@ by_case s b b' r e p = subst (λ (t : Statement). Says s t b b' r) (sym e) p
 
 module _ (s : Sheet) (b : Lent) {w : Wanted} where
   -- the limits are read, and the gate is set
-  pub by_gate : {g : Gate} (r : Upshot) → w ≡ Ok g → Calls s (set_gate g) b b r → Gated s w b b r
+  pub by_gate : {g : Gate} (r : Upshot) → w ≡ Ok g → ((b : Lent) → Calls s (set_gate g) b b r) → Gated s w b b r
   unfolding Gated
-  by_gate r e p = subst (λ (w : Wanted). Gated s w b b r) (sym e) p
+  by_gate r e p = subst (λ (w : Wanted). Gated s w b b r) (sym e) (p b)
 
   -- one of them is a mistake
   pub by_mistake : {m : Mistake} (r : Result Response Stop) → w ≡ Err m → IsErrAnd r (λ e. e ≡ Mistaken m) → Gated s w b b (upshot_of s r)
