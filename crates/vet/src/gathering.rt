@@ -6,7 +6,7 @@ mod fault;
 use crate::lines;
 use crate::lines::Listener;
 use chain::Link;
-pub use chain_read::{Chain, LINKS, Origin, ROOM};
+pub use chain_read::{Chain, Origin};
 use citing::Citation;
 use fault::Fault;
 use line::scan::Name;

@@ -1,12 +1,12 @@
 // What is found of a chain whose reasons may be names: a name that several rules in force share, as the four of a gate do, stands for the first of them that all words of the link
 // fail, and for the first of them where there is none.
-ghost use Rattle.std.specs.Prelude.{◌≡◌, ◌*◌, take};
+ghost use Rattle.std.specs.Prelude.{◌≡◌};
 ghost use Rattle.checker.specs.finding.Clauses.{is_yes};
 ghost use Rattle.checker.specs.Check.{accepts};
 ghost use Rattle.checker.specs.clause.Finding.{finding};
+ghost use Rattle.vet.specs.gathering.Read.{numbers_in};
 
 use crate::gathering::Chain;
-use chain::Link;
 use checker::clause::Finding;
 use naming::MOST;
 use rule::Rule;
@@ -14,8 +14,8 @@ use sheet::Sheet;
 
 /// What is found of the links of a chain. It is yes just where the check says yes.
 pub fn found_of(sheet: Sheet, chain: &Chain) -> Finding
-    ensures value { result ≡ finding sheet (take (Link.NUMBERS * chain.now.links) chain.now.numbers) }
-    ensures result_value { is_yes result ≡ accepts sheet (take (Link.NUMBERS * chain.now.links) chain.now.numbers) }
+    ensures value { result ≡ finding sheet (numbers_in chain.now) }
+    ensures result_value { is_yes result ≡ accepts sheet (numbers_in chain.now) }
 {
     checker::clause::first(sheet, chain.numbers())
 }

@@ -1,6 +1,6 @@
 // A chain as it is read: its links, and where each comes from.
 
-ghost use Rattle.std.specs.Prelude.{◌≡◌, ◌*◌, ◌≤◌, take};
+ghost use Rattle.std.specs.Prelude.{◌≤◌};
 ghost use Rattle.vet.specs.declared.gathering.chain_read.TheConstants.{LINKS};
 
 use chain::Link;
@@ -8,7 +8,7 @@ use chain::Link;
 /// The most links of a chain, and the numbers that they take.
 pub const LINKS: usize = 32768;
 
-pub const ROOM: usize = Link::NUMBERS * LINKS;
+const ROOM: usize = Link::NUMBERS * LINKS;
 
 /// The line of a link, and whether a name stands for its reason.
 #[derive(Clone, Copy, Default)]
@@ -28,6 +28,10 @@ pub struct Chain {
 }
 
 impl Chain {
+    ghost use Rattle.std.specs.Prelude.{◌≡◌};
+    ghost use Rattle.vet.specs.gathering.Read.{numbers_in};
+
+    /// A chain without links.
     pub fn new() -> Chain {
         Chain {
             numbers: [0; ROOM],
@@ -38,7 +42,7 @@ impl Chain {
 
     /// The numbers of all links.
     pub fn numbers(&self) -> &[u64]
-        ensures { result.now ≡ take (Link.NUMBERS * self.now.links) self.now.numbers }
+        ensures { result.now ≡ numbers_in self.now }
     {
         &self.numbers[..Link::NUMBERS * self.links]
     }
