@@ -1,5 +1,5 @@
-// What is found of a chain whose reasons may be names: a name that several rules in force share, as the four of a gate do, stands for the first of them that all words of the link
-// fail, and for the first of them where there is none.
+// What is found of a chain whose reasons may be names: a name that several rules in force share, as the four of a gate do, stands for
+// the first of them that all words of the link fail, and for the first of them where there is none.
 ghost use Rattle.std.specs.Prelude.{◌≡◌};
 ghost use Rattle.checker.specs.finding.Clauses.{is_yes};
 ghost use Rattle.checker.specs.Check.{accepts};
