@@ -11,9 +11,8 @@ use Rattle.sheet.specs.Record.{blank, fresh}
 use Rattle.line.specs.declared.Statement.{Statement}
 use Rattle.dialogue.specs.declared.upshot.Response.{Response}
 use Rattle.dialogue.specs.declared.upshot.Response.TheVariants.{Silent}
-use Rattle.dialogue.specs.declared.upshot.Upshot.{Upshot}
 use Rattle.dialogue.specs.declared.Dialogue.{Dialogue}
-use Rattle.dialogue.specs.Takes.{upshot_of}
+use Rattle.dialogue.specs.upshot.Upshot.{Upshot}
 use Rattle.dialogue.specs.Heard.{Heard, all, answer_on, answers_to, ending, next, page_after, page_on}
 use Rattle.dialogue.proofs.OnPage.{Answered, on_a_page, reached_on}
 use Rattle.dialogue.proofs.Said.{takes_says, takes_silent}
@@ -33,11 +32,11 @@ unfolding answers_to page_after
 heard_so all q h e = (refl, e)
 heard_so {m} {d} {e = z} {pg = pg} (next {st = st} {sts = sts} {rs = rs} b b' r ln lw p rest) q h e = go (ending (answer_on m pg st)) refl (λ f w. heard_so rest f (reached_on h st) w)
   where
-    own : Answered m pg st (upshot_of r)
-    own = on_a_page m pg h e b b' (upshot_of r) ln lw st (takes_says d st b b' r q p)
+    own : Answered m pg st r
+    own = on_a_page m pg h e b b' r ln lw st (takes_says d st b b' r q p)
 
     go : (v : Bool) → ending (answer_on m pg st) ≡ v
-        → (r.dialogue.stopped ≡ false → r.dialogue.sheet ≡ fresh (page_on pg st)
+        → (r.stopped ≡ false → r.sheet ≡ fresh (page_on pg st)
         → (rs ≡ answers_to m (page_on pg st) sts) × (z.sheet ≡ fresh (page_after m (page_on pg st) sts)))
         → (r.response ∷ rs ≡ answer_on m pg st ∷ cond v (replicate (length sts) Silent) (answers_to m (page_on pg st) sts))
         × (z.sheet ≡ fresh (cond v (page_on pg st) (page_after m (page_on pg st) sts)))

@@ -2,7 +2,7 @@
 -- Assumes nothing.
 use mathlib.Core.Path.{◌≡◌, refl, sym, ap, ◌∙◌}
 use mathlib.Core.Bool.{Bool, true, false, cond}
-use mathlib.Core.List.{List}
+use Rattle.std.specs.Prelude.{Ok, Err}
 use Prim.Native.Nat.{ℕ}
 use lib.Dec.{eqb}
 use lib.ListN.{length}
@@ -31,9 +31,8 @@ use Rattle.line.specs.declared.Statement.{Statement}
 use Rattle.line.specs.declared.Statement.TheVariants as said
 use Rattle.dialogue.specs.declared.upshot.Response.{Response}
 use Rattle.dialogue.specs.declared.upshot.Response.TheVariants.{Asked, Blamed, Counted, Done, Listed, Refused, Shown}
-use Rattle.dialogue.specs.declared.upshot.Upshot.{Upshot}
-use Rattle.dialogue.specs.upshot.Upshot.{by_number, goes, stops, upshot}
-use Rattle.dialogue.specs.saying.Says.{Calls, Gated, Lent, Says, Wanted, at_least, at_most, sets, unread, up_to, within}
+use Rattle.dialogue.specs.upshot.Upshot.{Upshot, by_number, goes, stops, upshot}
+use Rattle.dialogue.specs.saying.Says.{Calls, Gated, Lent, Says, Wanted, at_least, at_most, up_to, within}
 use Rattle.dialogue.specs.Heard.{answer_on, ending, gate_answer, gate_page, numbered, page_on}
 
 -- a call's number, and what follows from it
@@ -79,8 +78,8 @@ module _ (m : ℕ) (pg : Page) (h : Reached pg) {s : Sheet} (e : s ≡ fresh pg)
 
   gated : (st : Statement) (w : Wanted) → answer_on m pg st ≡ gate_answer pg w → page_on pg st ≡ gate_page pg w → Gated s w b b' r → Answered m pg st r
   unfolding Gated gate_answer gate_page ending
-  gated st (sets g) x y p = by_page st x (ap fresh y) (called (set_gate g) p)
-  gated st (unread w) x y p = plain st true x refl y p.0
+  gated st (Ok g) x y p = by_page st x (ap fresh y) (called (set_gate g) p)
+  gated st (Err w) x y p = plain st true x refl y p.0
 
   stands_on : {k : ℕ} → Stands s k → k ≡ first_that_applies (count_grounds pg)
   unfolding first_that_applies count_grounds is_blank
@@ -116,8 +115,8 @@ module _ (m : ℕ) (pg : Page) (h : Reached pg) {s : Sheet} (e : s ≡ fresh pg)
 
 reached_gate : {pg : Page} → Reached pg → (w : Wanted) → Reached (gate_page pg w)
 unfolding gate_page
-reached_gate h (sets g) = after_reached h (set_gate g)
-reached_gate h (unread w) = h
+reached_gate h (Ok g) = after_reached h (set_gate g)
+reached_gate h (Err w) = h
 
 pub reached_on : {pg : Page} → Reached pg → (st : Statement) → Reached (page_on pg st)
 unfolding page_on

@@ -1,3 +1,4 @@
 pub mod Case
+pub mod SearchSays
 pub mod Sentences
 pub mod Unique

@@ -1,5 +1,5 @@
 -- Statements one after another: what they are answered on the clerk's pages, up to the first mistake or refusal, and nothing after it.
-use Rattle.std.specs.Prelude.{◌≡◌, Bool, true, false, cond, List, [], ◌∷◌, ℕ, eqb, length, replicate}
+use Rattle.std.specs.Prelude.{◌≡◌, Bool, true, false, cond, List, [], ◌∷◌, ℕ, eqb, length, replicate, Ok, Err}
 use Rattle.word.specs.declared.Edition.TheVariants.{New}
 use Rattle.rule.specs.Meaning.{RULES}
 use Rattle.chain.specs.Links.{chain_room}
@@ -14,10 +14,10 @@ use Rattle.line.specs.declared.Statement.{Statement}
 use Rattle.line.specs.declared.Statement.TheVariants as said
 use Rattle.dialogue.specs.declared.upshot.Response.{Response}
 use Rattle.dialogue.specs.declared.upshot.Response.TheVariants.{Asked, Blamed, Counted, Done, Listed, Mistaken, Refused, Shown, Silent}
-use Rattle.dialogue.specs.saying.Says.{Lent, Wanted, at_least, at_most, sets, unread, up_to, within}
+use Rattle.dialogue.specs.upshot.Upshot.{Upshot}
+use Rattle.dialogue.specs.saying.Says.{Lent, Wanted, at_least, at_most, up_to, within}
 use Rattle.dialogue.specs.declared.Dialogue.{Dialogue}
-use Rattle.dialogue.specs.declared.Taken.{Taken}
-use Rattle.dialogue.specs.Takes.{Takes}
+use Rattle.dialogue.specs.Takes.{Takes, dialogue_of}
 
 -- what is answered, or the number of a refusal
 unfoldable pub numbered : ℕ → Response → Response
@@ -25,12 +25,12 @@ numbered k a = cond (eqb k 0) a (Refused k)
 
 -- a line on watts: the call that sets its gate
 unfoldable pub gate_answer : Page → Wanted → Response
-gate_answer pg (sets g) = numbered (refusal pg (set_gate g)) Done
-gate_answer pg (unread e) = Mistaken e
+gate_answer pg (Ok g) = numbered (refusal pg (set_gate g)) Done
+gate_answer pg (Err e) = Mistaken e
 
 unfoldable pub gate_page : Page → Wanted → Page
-gate_page pg (sets g) = after pg (set_gate g)
-gate_page pg (unread e) = pg
+gate_page pg (Ok g) = after pg (set_gate g)
+gate_page pg (Err e) = pg
 
 -- what a statement is answered on the sheet of a page, with so many words lent
 unfoldable pub answer_on : (room : ℕ) → Page → Statement → Response
@@ -96,6 +96,6 @@ page_after m pg (st ∷ sts) = cond (ending (answer_on m pg st)) (page_on pg st)
 -- Statements one after another, each with any outcome that satisfies what taking it promises, with buffers of these lengths.
 pub data Heard (m : ℕ) : Dialogue → List Statement → List Response → Dialogue → Type 0 where
   all : {d : Dialogue} → Heard m d [] [] d
-  next : {d e : Dialogue} {st : Statement} {sts : List Statement} {rs : List Response} (b b' : Lent) (r : Taken)
-      → length b.numbers ≡ chain_room RULES → length b.words ≡ m → Takes d st b b' r
-      → Heard m r.dialogue sts rs e → Heard m d (st ∷ sts) (r.response ∷ rs) e
+  next : {d e : Dialogue} {st : Statement} {sts : List Statement} {rs : List Response} (b b' : Lent) (u : Upshot)
+      → length b.numbers ≡ chain_room RULES → length b.words ≡ m → Takes d st b b' u
+      → Heard m (dialogue_of u) sts rs e → Heard m d (st ∷ sts) (u.response ∷ rs) e

@@ -5,8 +5,8 @@ use Rattle.line.specs.Line.{read}
 use Rattle.dialogue.specs.saying.Says.{Lent}
 use Rattle.dialogue.specs.declared.Dialogue.{Dialogue}
 use Rattle.dialogue.specs.declared.Hearing.{Hearing}
-use Rattle.dialogue.specs.Takes.{Takes}
+use Rattle.dialogue.specs.Takes.{Takes, taken}
 
-pub record Hears (d : Dialogue) (text : List ℕ) (b b' : Lent) (r : Hearing) : Type 0 where
+pub record Hears (d : Dialogue) (text : List ℕ) (b b' : Lent) (e : Dialogue) (r : Hearing) : Type 0 where
   pub line : r.line ≡ read (reading_at d.sheet.width) text
-  pub takes : Takes d r.line.statement b b' r.taken
+  pub takes : Takes d r.line.statement b b' (taken e r.response)

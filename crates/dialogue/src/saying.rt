@@ -1,161 +1,144 @@
 // What a statement does on a sheet: its call is made, and what the statement comes to goes by the number that the call answers.
 
 ghost use Rattle.std.specs.Prelude.{◌≡◌};
-ghost use Rattle.dialogue.specs.declared.upshot.Response.TheVariants.{Asked, Blamed, Counted, Done, Listed, Mistaken};
-ghost use Rattle.dialogue.specs.upshot.Upshot.{by_number, stops};
-ghost use Rattle.dialogue.specs.saying.Says.{Says, SetsGate, Shows, lent, limit_at, too_fine, up_to, wanted};
+ghost use Rattle.page.specs.Calls.{set_gate};
+ghost use Rattle.dialogue.specs.declared.upshot.Response.TheVariants.{Done};
+ghost use Rattle.dialogue.specs.upshot.Upshot.{by_number, upshot_of};
+ghost use Rattle.dialogue.specs.saying.Says.{Calls, Lent, Says, Shows, at_least, at_most, lent, limit_at, up_to, within};
 
-use crate::upshot::{Response, Upshot};
-use counting::Share;
+use crate::upshot::{Response, Stop};
+use gate::{Gate, Span};
 use line::Statement;
 use line::grammar::kind;
 use line::scan::{Amount, Mistake};
 use listing::Listing;
-use listing::blaming::why;
 use page::Opening;
-use sheet::{Answer, Reply, Sheet};
+use sheet::{Answer, Sheet};
 use watts::Limit;
 use word::Edition;
 
-// The kinds of gates.
-const AT_LEAST: u64 = 0;
-
-const AT_MOST: u64 = 1;
-
-const WITHIN: u64 = 2;
-
-// Does what a statement says. What it opens and adds is of the new edition. A chain, or the numbers of rules that a word fails, are
-// written to `numbers`, and words that fit to `words`.
+/// Does what a statement says. What it opens and adds is of the new edition. A chain, or the numbers of rules that a word fails, are
+/// written to `numbers`, and words that fit to `words`.
+#[tactic(auto, using(crate::proofs::saying::SearchSays::wanted), unfolding(crate::specs::saying::Says::Says))]
 pub fn says(
-    sheet: Sheet,
+    sheet: &mut Sheet,
     statement: Statement,
     numbers: &mut [u64; Sheet::LENT],
     words: &mut [u64],
-) -> Upshot
-    ensures { Says sheet statement (lent numbers.old words.old) (lent numbers.new words.new) result }
+) -> Result<Response, Stop>
+    ensures { Says sheet.old statement (lent numbers.old words.old) (lent numbers.new words.new) (upshot_of sheet.new result) }
 {
     match statement {
-        Statement::Blank => crate::upshot::goes(sheet, Response::Silent),
-        Statement::Rule(rule) => done(sheet.add(Edition::New, rule)),
-        Statement::AtLeast(limit) => gated(sheet, AT_LEAST, limit, limit),
-        Statement::AtMost(limit) => gated(sheet, AT_MOST, limit, limit),
-        Statement::Within(low, high) => gated(sheet, WITHIN, low, high),
-        Statement::Open(width) => done(sheet.open(Opening {
-            width,
-            edition: Edition::New,
-        })),
-        Statement::Mark => done(sheet.mark()),
-        Statement::Back => done(sheet.back()),
-        Statement::Forward => done(sheet.forward()),
-        Statement::Ask => asked(sheet, sheet.ask(&mut *numbers)),
-        Statement::Count => counted(sheet, counting::count(sheet)),
-        Statement::List(wanted) => listed(
+        Statement::Blank => Ok(Response::Silent),
+        Statement::Rule(rule) => done(sheet.add(Edition::New, rule), sheet),
+        Statement::AtLeast(limit) => set(at_least(limit)?, sheet),
+        Statement::AtMost(limit) => set(at_most(limit)?, sheet),
+        Statement::Within(low, high) => set(within(low, high)?, sheet),
+        Statement::Open(width) => done(
+            sheet.open(Opening {
+                width,
+                edition: Edition::New,
+            }),
             sheet,
-            wanted.most,
-            listing::list(sheet, wanted.from, &mut *words),
         ),
-        Statement::Why(x) => blamed(sheet, why(sheet, x, &mut *numbers)),
-        Statement::Show => shown(sheet),
-        Statement::Wrong(mistake) => crate::upshot::stops(sheet, Response::Mistaken(mistake)),
+        Statement::Mark => done(sheet.mark(), sheet),
+        Statement::Back => done(sheet.back(), sheet),
+        Statement::Forward => done(sheet.forward(), sheet),
+        Statement::Ask => {
+            let reply = sheet.ask(numbers);
+            Response::Asked(reply).by_number(reply.number)
+        }
+        Statement::Count => {
+            let share = counting::count(*sheet);
+            Response::Counted(share).by_number(share.number)
+        }
+        Statement::List(wanted) => {
+            let listing = listing::list(*sheet, wanted.from, words);
+            Response::Listed(up_to(wanted.most, listing)).by_number(listing.number)
+        }
+        Statement::Why(word) => {
+            let listing = listing::blaming::why(*sheet, word, numbers);
+            Response::Blamed(listing).by_number(listing.number)
+        }
+        Statement::Show => shown(*sheet),
+        Statement::Wrong(mistake) => Err(Stop::Mistaken(mistake)),
     }
 }
 
-// Sets a gate of a kind. A limit with more digits after the point than are read is a mistake where it stands; no line that was read has one.
-fn gated(sheet: Sheet, kind: u64, low: Amount, high: Amount) -> Upshot
-    ensures { SetsGate sheet (wanted kind low high) result }
+// A call that may change the sheet was made.
+fn done(answer: Answer, sheet: &mut Sheet) -> Result<Response, Stop>
+    ensures { upshot_of sheet.new result ≡ by_number answer.number answer.sheet Done }
 {
-    let Limit::Bits(least) = limit_at(low) else {
-        return too_fine(sheet, low.at);
-    };
-    let Limit::Bits(most) = limit_at(high) else {
-        return too_fine(sheet, high.at);
-    };
-    done(gating::set(sheet, outside::on_words::gate_of(kind, least, most)))
+    *sheet = answer.sheet;
+    Response::Done.by_number(answer.number)
 }
 
-// The bits of a limit, as it is written.
-fn limit_at(amount: Amount) -> Limit
+// Sets a gate, whatever is lent, which stays as it is.
+fn set(gate: Gate, sheet: &mut Sheet) -> Result<Response, Stop>
+    ensures { (b : Lent) → Calls sheet.old (set_gate gate) b b (upshot_of sheet.new result) }
+{
+    done(gating::set(*sheet, gate), sheet)
+}
+
+#[tactic(auto, unfolding(crate::specs::saying::Says::by_limit))]
+fn at_least(limit: Amount) -> Result<Gate, Mistake>
+    ensures { result ≡ at_least limit }
+{
+    Ok(Gate::AtLeast(limit_at(limit)?))
+}
+
+#[tactic(auto, unfolding(crate::specs::saying::Says::by_limit))]
+fn at_most(limit: Amount) -> Result<Gate, Mistake>
+    ensures { result ≡ at_most limit }
+{
+    Ok(Gate::AtMost(limit_at(limit)?))
+}
+
+#[tactic(auto, unfolding(crate::specs::saying::Says::by_limits))]
+fn within(low: Amount, high: Amount) -> Result<Gate, Mistake>
+    ensures { result ≡ within low high }
+{
+    Ok(Gate::Within(Span {
+        low: limit_at(low)?,
+        high: limit_at(high)?,
+    }))
+}
+
+// A limit, as it is written. One with more digits after the point than are read is a mistake where it stands; no line that was read has one.
+#[tactic(auto, unfolding(crate::specs::saying::Says::by_bits))]
+fn limit_at(amount: Amount) -> Result<f32, Mistake>
     ensures { result ≡ limit_at amount }
 {
-    let n = amount.numeral;
-    watts::nearest(n.minus, n.value, n.places)
-}
-
-fn too_fine(sheet: Sheet, at: usize) -> Upshot
-    ensures { result ≡ stops sheet (Mistaken (too_fine at)) }
-{
-    crate::upshot::stops(
-        sheet,
-        Response::Mistaken(Mistake {
-            at,
+    let numeral = amount.numeral;
+    match watts::nearest(numeral.minus, numeral.value, numeral.places) {
+        Limit::Bits(bits) => Ok(outside::on_words::watts(bits)),
+        Limit::TooFine => Err(Mistake {
+            at: amount.at,
             expected: kind::AMOUNT,
         }),
-    )
+    }
 }
 
-// A call that changes the sheet was made.
-fn done(answer: Answer) -> Upshot
-    ensures { result ≡ by_number answer.number answer.sheet Done }
-{
-    let sheet = answer.sheet;
-    crate::upshot::by_number(answer.number, sheet, Response::Done)
-}
-
-// The sheet was asked.
-fn asked(sheet: Sheet, reply: Reply) -> Upshot
-    ensures { result ≡ by_number reply.number sheet (Asked reply) }
-{
-    crate::upshot::by_number(reply.number, sheet, Response::Asked(reply))
-}
-
-// Its words were counted.
-fn counted(sheet: Sheet, share: Share) -> Upshot
-    ensures { result ≡ by_number share.number sheet (Counted share) }
-{
-    crate::upshot::by_number(share.number, sheet, Response::Counted(share))
-}
-
-// Its words were listed, of which at most so many are wanted.
-fn listed(sheet: Sheet, most: u64, listing: Listing) -> Upshot
-    ensures { result ≡ by_number listing.number sheet (Listed (up_to most listing)) }
-{
-    crate::upshot::by_number(
-        listing.number,
-        sheet,
-        Response::Listed(up_to(most, listing)),
-    )
-}
-
+// Of the words that were listed at most so many are wanted.
+#[tactic(auto, unfolding(crate::specs::saying::Says::up_to))]
 fn up_to(most: u64, listing: Listing) -> Listing
     ensures { result ≡ up_to most listing }
 {
-    let wanted = most as usize;
-    if wanted < listing.written {
-        return Listing {
-            number: listing.number,
-            written: wanted,
-        };
+    Listing {
+        written: listing.written.min(most as usize),
+        ..listing
     }
-    listing
-}
-
-// The rules that a word fails were looked for.
-fn blamed(sheet: Sheet, listing: Listing) -> Upshot
-    ensures { result ≡ by_number listing.number sheet (Blamed listing) }
-{
-    crate::upshot::by_number(listing.number, sheet, Response::Blamed(listing))
 }
 
 // What stands is to be shown.
-fn shown(sheet: Sheet) -> Upshot
-    ensures { Shows sheet result }
+fn shown(sheet: Sheet) -> Result<Response, Stop>
+    ensures { Shows sheet (upshot_of sheet result) }
 {
-    let stands = sheet.is_sheet();
-    if !stands {
-        return crate::upshot::by_number(17, sheet, Response::Shown);
+    if !sheet.is_sheet() {
+        return Err(Stop::Refused(17));
     }
     if sheet.width == 0 {
-        return crate::upshot::by_number(1, sheet, Response::Shown);
+        return Err(Stop::Refused(1));
     }
-    crate::upshot::by_number(0, sheet, Response::Shown)
+    Ok(Response::Shown)
 }

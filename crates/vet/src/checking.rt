@@ -4,45 +4,44 @@
 mod settling;
 mod words;
 
-ghost use Rattle.std.specs.Prelude.{◌≡◌};
 ghost use Rattle.vet.specs.checking.Checked.{Checked};
+ghost use Rattle.vet.specs.status.Status.{number_of};
 
-use crate::gathering::{LENT, Reading};
-use crate::status::MISTAKE;
-use coming::Answer;
+use crate::gathering::Chain;
+use crate::status::Verdict;
+use crate::{gathering, lines};
 use naming::MOST;
 use rule::Rule;
 use sheet::Sheet;
-use std::io::Error;
+use std::io::Eprint;
 use std::rt::Files;
 
-// Checks the chain against a sheet, whose rules have names, and gives the status.
-pub fn check(rt: &(impl Files + Print), sheet: Sheet, names: &[[u8; MOST]; Rule::LIMIT]) -> u8
-    ensures { Checked sheet result }
+/// Checks the chain against a sheet, whose rules have names.
+pub fn check(
+    rt: &(impl Files + Print + Eprint),
+    sheet: Sheet,
+    names: &[[u8; MOST]; Rule::LIMIT],
+) -> Verdict
+    ensures { Checked sheet (number_of result) }
 {
-    let mut links = [0; LENT];
-    let read = crate::gathering::read_all(rt, Reading::start(sheet.count), names, &mut links);
-    if read.wrong {
-        return MISTAKE;
+    let mut chain = Chain::new();
+    if !gathering::read_all(rt, sheet.count, names, &mut chain) {
+        return Verdict::Unsaid;
     }
     // Each turn moves a name on, or settles it; no run uses up the turns, since a loop has to end.
-    for turn in 0..u64::MAX {
-        let found = settling::found_of(sheet, links, read.links);
-        let Some(link) = settling::unshown(found, &links) else {
-            return match words::tell(rt, found, names, &links) {
-                Ok(status) => status,
-                Err(error) => unsaid(error),
+    for _ in 0..u64::MAX {
+        let found = settling::found_of(sheet, &chain);
+        let Some(link) = settling::unshown(found, &chain) else {
+            return match words::tell(rt, found, names, &chain) {
+                Ok(verdict) => verdict,
+                Err(error) => {
+                    // What is found could not be written, which is neither yes nor no.
+                    lines::say_failed(b"vet: standard output", error);
+                    Verdict::Unsaid
+                }
             };
         };
-        settling::move_on(sheet.count, names, &mut links, link);
+        settling::move_on(&mut chain, link, sheet.count, names);
     }
-    MISTAKE
-}
-
-// What is found could not be written, which is neither yes nor no.
-fn unsaid(error: Error) -> u8
-    ensures { result ≡ 2 }
-{
-    coming::fail(b"vet: standard output", Answer::of(Err(error)).error);
-    MISTAKE
+    Verdict::Unsaid
 }

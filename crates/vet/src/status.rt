@@ -1,19 +1,39 @@
-// What the check of a chain comes to, as a status: yes, no, or a mistake in the chain or a read that failed.
+// What the check of a chain comes to, and the status of that.
 
 ghost use Rattle.std.specs.Prelude.{◌≡◌};
-ghost use Rattle.vet.specs.status.Status.{status_of};
+ghost use Rattle.vet.specs.status.Status.{number_of, status_of};
 
-use checker::finding::Breach;
+use checker::finding::Finding;
 
-pub const YES: u8 = 0;
+/// What is said of a chain: yes, no, or neither, where the chain is mistaken or a read or a write failed.
+#[derive(Clone, Copy, PartialEq, Eq)]
+pub enum Verdict {
+    Yes,
+    No,
+    Unsaid,
+}
 
-pub const NO: u8 = 1;
+impl Verdict {
+    /// The verdict on what is found of a chain.
+    #[tactic(auto, unfolding(crate::specs::status::Status::status_of))]
+    pub fn of(found: Finding) -> Verdict
+        ensures { number_of result ≡ status_of found }
+    {
+        if found.is_yes() {
+            Verdict::Yes
+        } else {
+            Verdict::No
+        }
+    }
 
-pub const MISTAKE: u8 = 2;
-
-// The status of what is found of a chain.
-pub fn of(found: Result<(), Breach>) -> u8
-    ensures { result ≡ status_of found }
-{
-    if found.is_ok() { YES } else { NO }
+    /// The program's status.
+    pub fn status(self) -> u8
+        ensures { result ≡ number_of self }
+    {
+        match self {
+            Verdict::Yes => 0,
+            Verdict::No => 1,
+            Verdict::Unsaid => 2,
+        }
+    }
 }

@@ -3,6 +3,7 @@
 use mathlib.Core.Path.{◌≡◌, refl, subst, ◌∙◌}
 use mathlib.Core.Bool.{Bool, true, false, ◌&&◌, ◌||◌}
 use Prim.Native.Nat.{ℕ, ◌≤◌}
+use Rattle.std.specs.Prelude.{Ok}
 use borrow.Author.Tests.{le-leb}
 use lib.Dec.{T}
 use lib.Ieee.{Float, binary32, is_nan, le, of_bits, fits as is_single}
@@ -14,14 +15,13 @@ use Rattle.gate.specs.Gate.{gate_rules, not_numbers}
 use Rattle.gate.specs.Paper.{Single, compares}
 use Rattle.gate.proofs.Through.{by_language, exactly}
 use Rattle.digits.specs.numeral.Numeral.{PLACES}
-use Rattle.watts.specs.declared.Limit.TheVariants.{Bits}
 use Rattle.watts.specs.Watts.{limit_of, pattern, with_sign}
 use Rattle.page.specs.Calls.{back, forward, set_gate}
 use Rattle.sheet.specs.declared.Sheet.{Sheet}
 use Rattle.line.specs.declared.scan.Amount.{Amount}
 use Rattle.line.specs.declared.Statement.TheVariants as said
-use Rattle.dialogue.specs.declared.upshot.Upshot.{Upshot}
-use Rattle.dialogue.specs.saying.Says.{Calls, Gated, Lent, Lists, Says, Wanted, at_least, at_most, by_limits, limit_at, sets, within}
+use Rattle.dialogue.specs.upshot.Upshot.{Upshot}
+use Rattle.dialogue.specs.saying.Says.{Calls, Gated, Lent, Lists, Says, Wanted, at_least, at_most, by_bits, by_limit, by_limits, limit_at, within}
 
 -- a number of watts as the single-precision number nearest to it
 abbrev pub bits : Amount → ℕ
@@ -34,19 +34,19 @@ limit a = of_bits binary32 (bits a)
 abbrev pub Few : Amount → Type 0
 Few a = a.numeral.places ≤ PLACES
 
-limit_read : (a : Amount) → Few a → limit_at a ≡ Bits (bits a)
-unfolding limit_of
+limit_read : (a : Amount) → Few a → limit_at a ≡ Ok (limit a)
+unfolding limit_of by_bits
 limit_read a h = rw (le-leb a.numeral.places PLACES h)
 
-pub sets-at_least : (a : Amount) → Few a → at_least a ≡ sets (AtLeast (limit a))
-unfolding by_limits
+pub sets-at_least : (a : Amount) → Few a → at_least a ≡ Ok (AtLeast (limit a))
+unfolding by_limit
 sets-at_least a h = rw (limit_read a h)
 
-pub sets-at_most : (a : Amount) → Few a → at_most a ≡ sets (AtMost (limit a))
-unfolding by_limits
+pub sets-at_most : (a : Amount) → Few a → at_most a ≡ Ok (AtMost (limit a))
+unfolding by_limit
 sets-at_most a h = rw (limit_read a h)
 
-pub sets-within : (a c : Amount) → Few a → Few c → within a c ≡ sets (Within (record { low = limit a; high = limit c }))
+pub sets-within : (a c : Amount) → Few a → Few c → within a c ≡ Ok (Within (record { low = limit a; high = limit c }))
 unfolding by_limits
 sets-within a c h i = rw (limit_read a h, limit_read c i)
 

@@ -1,6 +1,7 @@
 -- No second outcome satisfies what a statement promises: no second one satisfies that of its call. Assumes nothing.
 use mathlib.Core.Path.{◌≡◌, refl, sym, ap, ap₂, ◌∙◌}
 use Prim.Native.Nat.{ℕ}
+use Rattle.std.specs.Prelude.{Ok, Err}
 use native.Mathlib.Omega.{arith}
 use Rattle.page.specs.Calls.{Call, add, back, forward, mark, open_at, set_gate}
 use Rattle.page.specs.Page.{no_page, page}
@@ -21,9 +22,8 @@ use Rattle.listing.proofs.blaming.Unique.{blamed_unique}
 use Rattle.line.specs.declared.Statement.{Statement}
 use Rattle.line.specs.declared.Statement.TheVariants as said
 use Rattle.dialogue.specs.declared.upshot.Response.TheVariants.{Asked, Blamed, Counted, Done, Listed, Shown}
-use Rattle.dialogue.specs.declared.upshot.Upshot.{Upshot}
-use Rattle.dialogue.specs.upshot.Upshot.{by_number}
-use Rattle.dialogue.specs.saying.Says.{Calls, Gated, Lent, Says, Wanted, at_least, at_most, lent, sets, unread, up_to, within}
+use Rattle.dialogue.specs.upshot.Upshot.{Upshot, by_number}
+use Rattle.dialogue.specs.saying.Says.{Calls, Gated, Lent, Says, Wanted, at_least, at_most, lent, up_to, within}
 
 stands_unique : {s : Sheet} {k n : ℕ} → Stands s k → Stands s n → k ≡ n
 stands_unique (no_sheet i) (no_sheet j) = refl
@@ -54,8 +54,8 @@ module _ (s : Sheet) (b b₁ b₂ : Lent) (r₁ r₂ : Upshot) where
 
   gated : (w : Wanted) → Gated s w b b₁ r₁ → Gated s w b b₂ r₂ → (r₁ ≡ r₂) × (b₁ ≡ b₂)
   unfolding Gated
-  gated (sets g) p q = called (set_gate g) p q
-  gated (unread w) p q = same p q
+  gated (Ok g) p q = called (set_gate g) p q
+  gated (Err w) p q = same p q
 
   pub says_unique : (st : Statement) → Says s st b b₁ r₁ → Says s st b b₂ r₂ → (r₁ ≡ r₂) × (b₁ ≡ b₂)
   unfolding Says

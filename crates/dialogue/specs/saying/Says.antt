@@ -1,7 +1,10 @@
 -- What one statement does: the answer and the next sheet are those of its call, and a mistake or a refusal stops.
-use Rattle.std.specs.Prelude.{◌≡◌, List, ℕ, min}
+use Rattle.std.specs.Prelude.{◌≡◌, List, ℕ, min, Result, Ok, Err}
+use Rattle.std.specs.Float.{binary32}
+use Rattle.std.specs.Float.Ieee.{Float, of_bits}
 use Rattle.word.specs.declared.Edition.TheVariants.{New}
 use Rattle.gate.specs.declared.Gate.{Gate}
+use Rattle.gate.specs.declared.Gate.TheVariants.{AtLeast, AtMost, Within}
 use Rattle.line.specs.grammar.Kinds.{AMOUNT}
 use Rattle.watts.specs.declared.Limit.{Limit}
 use Rattle.watts.specs.declared.Limit.TheVariants.{Bits, TooFine}
@@ -18,7 +21,6 @@ use Rattle.counting.specs.Counted.{Counted}
 use Rattle.listing.specs.declared.Listing.{Listing}
 use Rattle.listing.specs.Listed.{Listed, listings}
 use Rattle.listing.specs.blaming.Blamed.{Blamed}
-use Rattle.outside.specs.on_words.Gates.{gate_of}
 use Rattle.line.specs.declared.scan.Amount.{Amount}
 use Rattle.line.specs.declared.scan.Mistake.{Mistake}
 use Rattle.line.specs.declared.Statement.{Statement}
@@ -26,8 +28,7 @@ use Rattle.line.specs.declared.Statement.TheVariants as said
 use Rattle.line.specs.Line.{mistake}
 use Rattle.dialogue.specs.declared.upshot.Response.TheVariants.{Done, Mistaken, Shown, Silent}
 use Rattle.dialogue.specs.declared.upshot.Response.TheVariants as to
-use Rattle.dialogue.specs.declared.upshot.Upshot.{Upshot}
-use Rattle.dialogue.specs.upshot.Upshot.{by_number, goes, stops}
+use Rattle.dialogue.specs.upshot.Upshot.{Upshot, by_number, goes, stops}
 
 -- what is lent: numbers for a chain or for the rules that a word fails, and words
 pub record Lent : Type 0 where
@@ -80,43 +81,44 @@ pub record Shows (s : Sheet) (r : Upshot) : Type 0 where
   pub stands : Stands s number
   pub result : r ≡ by_number number s Shown
 
--- the bits of a limit, as it is written
-abbrev pub limit_at : Amount → Limit
-limit_at a = limit_of a.numeral.minus a.numeral.value a.numeral.places
-
 abbrev pub too_fine : (at : ℕ) → Mistake
 too_fine at = mistake at AMOUNT
 
--- what a line on watts comes to
-pub data Wanted : Type 0 where
-  sets : Gate → Wanted
-  unread : Mistake → Wanted
+-- a limit as a number of watts, or a mistake where it stands that has more digits after the point than are read
+unfoldable pub by_bits : (at : ℕ) → Limit → Result Float Mistake
+by_bits i TooFine = Err (too_fine i)
+by_bits i (Bits l) = Ok (of_bits binary32 l)
 
--- the gate of a kind, where both limits are read; else a mistake where the first stands that has too many digits
-unfoldable pub by_limits : (kind low_at high_at : ℕ) → (low high : Limit) → Wanted
-by_limits k i j TooFine h = unread (too_fine i)
-by_limits k i j (Bits l) TooFine = unread (too_fine j)
-by_limits k i j (Bits l) (Bits h) = sets (gate_of k l h)
+abbrev pub limit_at : Amount → Result Float Mistake
+limit_at a = by_bits a.at (limit_of a.numeral.minus a.numeral.value a.numeral.places)
 
-abbrev pub wanted : (kind : ℕ) (low high : Amount) → Wanted
-wanted k a c = by_limits k a.at c.at (limit_at a) (limit_at c)
+-- what a line on watts comes to: the gate that it sets, or a mistake
+abbrev pub Wanted : Type 0
+Wanted = Result Gate Mistake
+
+-- a gate with one limit
+unfoldable pub by_limit : (Float → Gate) → Result Float Mistake → Wanted
+by_limit f (Err m) = Err m
+by_limit f (Ok l) = Ok (f l)
 
 abbrev pub at_least : Amount → Wanted
-at_least a = wanted 0 a a
+at_least a = by_limit AtLeast (limit_at a)
 
 abbrev pub at_most : Amount → Wanted
-at_most a = wanted 1 a a
+at_most a = by_limit AtMost (limit_at a)
+
+-- a gate with two, where both are read; else a mistake where the first stands that has too many digits
+unfoldable pub by_limits : (low high : Result Float Mistake) → Wanted
+by_limits (Err m) h = Err m
+by_limits (Ok l) (Err m) = Err m
+by_limits (Ok l) (Ok h) = Ok (Within (record { low = l; high = h }))
 
 abbrev pub within : (low high : Amount) → Wanted
-within a c = wanted 2 a c
+within a c = by_limits (limit_at a) (limit_at c)
 
 unfoldable pub Gated : Sheet → Wanted → (b b' : Lent) → Upshot → Type 0
-Gated s (sets g) b b' r = Calls s (set_gate g) b b' r
-Gated s (unread m) b b' r = (r ≡ stops s (Mistaken m)) × (b' ≡ b)
-
--- so whatever is lent, which stays as it is
-abbrev pub SetsGate : Sheet → Wanted → Upshot → Type 0
-SetsGate s w r = (b : Lent) → Gated s w b b r
+Gated s (Ok g) b b' r = Calls s (set_gate g) b b' r
+Gated s (Err m) b b' r = (r ≡ stops s (Mistaken m)) × (b' ≡ b)
 
 -- The row of each statement.
 unfoldable pub Says : Sheet → Statement → (b b' : Lent) → Upshot → Type 0

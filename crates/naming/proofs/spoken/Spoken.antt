@@ -4,6 +4,7 @@ use mathlib.Core.Path.{◌≡◌, refl, sym, ap, subst, ◌∙◌}
 use mathlib.Core.Bool.{Bool, true, false, false≢true, cond}
 use mathlib.Core.List.{List, [], ◌∷◌, ◌++◌}
 use Prim.Native.Nat.{ℕ, ◌+◌, ◌≤◌}
+use Rattle.std.specs.Prelude.{Ok, Err}
 use native.Mathlib.Omega.{arith}
 use borrow.Author.Tests.{eq-eqb, eqb-true}
 use lib.Dec.{eqb}
@@ -21,7 +22,7 @@ use Rattle.line.specs.declared.Statement.{Statement}
 use Rattle.line.specs.declared.Statement.TheVariants as said
 use Rattle.dialogue.specs.declared.upshot.Response.{Response}
 use Rattle.dialogue.specs.declared.upshot.Response.TheVariants.{Done}
-use Rattle.dialogue.specs.saying.Says.{Wanted, at_least, at_most, sets, unread, within}
+use Rattle.dialogue.specs.saying.Says.{Wanted, at_least, at_most, within}
 use Rattle.dialogue.specs.Heard.{answer_on, ending, gate_answer, gate_page, numbered, page_on}
 use Rattle.naming.specs.Names.{kept, new_rules, put, row_of}
 use Rattle.naming.proofs.Rows.{put_nothing}
@@ -138,8 +139,8 @@ module _ (m : ℕ) (pg : Page) (name : List ℕ) (rows ns : List (List ℕ)) (fu
   gated : (w : Wanted) → ending (gate_answer pg w) ≡ false
       → (length (rules_of pg) + 4 ≤ 200) × Covers (gate_page pg w) (take (length (rules_of pg)) ns ++ replicate 4 name)
   unfolding gate_answer gate_page ending
-  gated (sets g) e = gate_covers ns name pg g (taken _ e) c
-  gated (unread x) e = absurd (false≢true (sym e))
+  gated (Ok g) e = gate_covers ns name pg g (taken _ e) c
+  gated (Err x) e = absurd (false≢true (sym e))
 
   step : (st : Statement) → ending (answer_on m pg st) ≡ false → Step m pg st name rows ns
   unfolding answer_on page_on new_rules names_after

@@ -40,7 +40,7 @@ pub fn gate_of(kind: u64, low: u32, high: u32) -> Gate
 }
 
 // The float of a pattern: the language makes none of a pattern that is not a number's.
-fn watts(pattern: u32) -> f32
+pub fn watts(pattern: u32) -> f32
     ensures { result ≡ of_bits binary32 pattern }
 {
     if 0x7f80_0000 < pattern % 0x8000_0000 {

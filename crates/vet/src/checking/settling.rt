@@ -1,113 +1,66 @@
-// What is found of a chain whose reasons may be names: a name that several rules in force share, as the four of a gate do, stands for the first of them that all words of the link
-// fail, and for the first of them where there is none.
-ghost use Rattle.std.specs.Prelude.{◌≡◌, length};
-ghost use Rattle.io.specs.Counts.{IsPrefixLen};
+// What is found of a chain whose reasons may be names: a name that several rules in force share, as the four of a gate do, stands for
+// the first of them that all words of the link fail, and for the first of them where there is none.
+ghost use Rattle.std.specs.Prelude.{◌≡◌};
 ghost use Rattle.checker.specs.finding.Clauses.{is_yes};
 ghost use Rattle.checker.specs.Check.{accepts};
 ghost use Rattle.checker.specs.clause.Finding.{finding};
-ghost use Rattle.vet.specs.checking.route.Room.{chain_of, room_of};
+ghost use Rattle.vet.specs.gathering.Read.{numbers_in};
 
-use crate::gathering::{LENT, LINKS, ROOM};
-use chain::Link;
+use crate::gathering::Chain;
 use checker::clause::Finding;
 use naming::MOST;
 use rule::Rule;
 use sheet::Sheet;
 
-// What is found of so many links. It is yes just where the check says yes.
-pub fn found_of(sheet: Sheet, links: [u64; LENT], n: usize) -> Finding
-    ensures value { result ≡ finding sheet (chain_of n links) }
-    ensures result_value { is_yes result ≡ accepts sheet (chain_of n links) }
+/// What is found of the links of a chain. It is yes just where the check says yes.
+pub fn found_of(sheet: Sheet, chain: &Chain) -> Finding
+    ensures value { result ≡ finding sheet (numbers_in chain.now) }
+    ensures result_value { is_yes result ≡ accepts sheet (numbers_in chain.now) }
 {
-    let end = room_of(n, &links);
-    checker::clause::first(sheet, &links[..end])
+    checker::clause::first(sheet, chain.numbers())
 }
 
-// The numbers that so many links take.
-fn room_of(n: usize, links: &[u64]) -> usize
-    ensures prefix_len { IsPrefixLen result links.now }
-    ensures value { result ≡ room_of n (length links.now) }
-{
-    if LINKS < n {
-        return 0;
-    }
-    let room = Link::NUMBERS * n;
-    if links.len() < room {
-        return 0;
-    }
-    room
+/// The link whose reason is a name and which the rule does not show that the name stands for.
+pub fn unshown(found: Finding, chain: &Chain) -> Option<usize> {
+    let link = match found {
+        Finding::BitRule { link } => link,
+        Finding::MeetsRule { link, word: _ } => link,
+        _ => return None,
+    };
+    let origin = chain.origin(link)?;
+    if origin.named { Some(link) } else { None }
 }
 
-// The link whose reason is a name and which the rule does not show that the name stands for.
-pub fn unshown(found: Finding, links: &[u64; LENT]) -> Option<u64> {
-    match found {
-        Finding::BitRule { link } => if_named(links, link),
-        Finding::MeetsRule { link, word: _ } => if_named(links, link),
-        _ => None,
-    }
-}
-
-fn if_named(links: &[u64; LENT], link: usize) -> Option<u64> {
-    if LINKS <= link {
-        return None;
-    }
-    if links[ROOM + link] % 2 == 0 {
-        return None;
-    }
-    Some(link as u64)
-}
-
-// The name of a link stands for the next rule that has it. After the last it is settled, and stands for the first.
-pub fn move_on(
-    rules: usize,
-    names: &[[u8; MOST]; Rule::LIMIT],
-    links: &mut [u64; LENT],
-    link: u64,
-) {
-    let place = link as usize;
-    if LINKS <= place {
+/// The name of a link stands for the next rule that has it. After the last it is settled, and stands for the first.
+pub fn move_on(chain: &mut Chain, link: usize, rules: usize, names: &[[u8; MOST]; Rule::LIMIT]) {
+    let Some(number) = chain.reason(link) else {
+        return;
+    };
+    let reason = number as usize;
+    let Some(name) = names.get(reason) else {
+        return;
+    };
+    if let Some(next) = same_from(names, rules, name, reason + 1) {
+        chain.put_reason(link, next as u64);
         return;
     }
-    let reason = links[Link::NUMBERS * place + 2] as usize;
-    if Rule::LIMIT <= reason {
-        return;
+    if let Some(first) = same_from(names, rules, name, 0) {
+        chain.put_reason(link, first as u64);
     }
-    let row = names[reason];
-    if let Some(next) = same_from(rules, names, row, reason + 1) {
-        links[Link::NUMBERS * place + 2] = next;
-        return;
-    }
-    if let Some(first) = same_from(rules, names, row, 0) {
-        links[Link::NUMBERS * place + 2] = first;
-    }
-    links[ROOM + place] = std::num::wrapping_sub_u64(links[ROOM + place], 1);
+    chain.settle(link);
 }
 
-// The first rule in force from a number on that has the same name.
+// The first rule in force from a number on that has the name.
 fn same_from(
-    rules: usize,
     names: &[[u8; MOST]; Rule::LIMIT],
-    row: [u8; MOST],
+    rules: usize,
+    name: &[u8; MOST],
     from: usize,
-) -> Option<u64> {
-    for i in 0..Rule::LIMIT {
-        if from <= i {
-            if i < rules {
-                let other = names[i];
-                if same(row, other) {
-                    return Some(i as u64);
-                }
-            }
+) -> Option<usize> {
+    for (number, other) in names.iter().enumerate().take(rules).skip(from) {
+        if other == name {
+            return Some(number);
         }
     }
     None
-}
-
-fn same(row: [u8; MOST], other: [u8; MOST]) -> bool {
-    for i in 0..MOST {
-        if row[i] != other[i] {
-            return false;
-        }
-    }
-    true
 }

@@ -1,136 +1,146 @@
 // What is found of a chain, in one line on standard output.
 ghost use Rattle.std.specs.Prelude.{◌≡◌, IfOk};
-ghost use Rattle.vet.specs.status.Status.{status_of};
+ghost use Rattle.vet.specs.status.Status.{number_of, status_of};
 
-use crate::gathering::{LENT, LINKS, ROOM};
-use chain::Link;
-use checker::finding::Breach;
+use crate::gathering::Chain;
+use crate::status::Verdict;
+use checker::clause::Finding;
 use naming::MOST;
 use rule::Rule;
-use std::io;
-use telling::printing::{put, put_number};
+use std::fmt;
+use std::io::Result;
 
-// Tells it, and gives the status.
+/// Tells it, and gives the verdict.
 pub fn tell(
     rt: &impl Print,
-    found: Result<(), Breach>,
+    found: Finding,
     names: &[[u8; MOST]; Rule::LIMIT],
-    links: &[u64; LENT],
-) -> io::Result<u8>
-    ensures { IfOk result (λ k. k ≡ status_of found) }
+    chain: &Chain,
+) -> Result<Verdict>
+    ensures { IfOk result (λ v. number_of v ≡ status_of found) }
 {
-    match found {
-        Ok(_) => put(rt, b"yes: no word fits\n")?,
-        Err(breach) => {
-            put(rt, b"no: ")?;
-            put_breach(rt, breach, names, links)?;
-            put(rt, b"\n")?;
-        }
+    if found.is_yes() {
+        println!(rt; "yes: no word fits")?;
+    } else {
+        let why = Why {
+            found,
+            names,
+            chain,
+        };
+        println!(rt; "no: {why}")?;
     }
-    Ok(crate::status::of(found))
+    Ok(Verdict::of(found))
 }
 
-// The clause of the paper that does not hold, with the line of its link, where it is one of a link.
-fn put_breach(
-    rt: &impl Print,
-    breach: Breach,
-    names: &[[u8; MOST]; Rule::LIMIT],
-    links: &[u64; LENT],
-) -> io::Result<()> {
-    match breach {
-        Breach::NoSheet => put(rt, b"no sheet is open"),
-        Breach::Empty => put(rt, b"the chain is empty"),
-        Breach::Ragged => put(rt, b"the numbers of the chain are no multiple of three"),
-        Breach::Short => put(rt, b"the largest end is not the top word"),
-        Breach::Backward { link } => put_at(rt, links, link, b"the link starts above its end"),
-        Breach::AboveTop { link } => put_at(rt, links, link, b"the link ends above the top word"),
-        Breach::NotFromZero { link } => put_at(
-            rt,
-            links,
-            link,
-            b"the first link does not start at 0",
-        ),
-        Breach::Gap { link } => put_at(
-            rt,
-            links,
-            link,
-            b"the link starts more than one past the largest end so far",
-        ),
-        _ => put_reason(rt, breach, names, links),
-    }
+// The clause of the paper that does not hold, with the names of the rules, and the chain whose link it may be one of.
+#[derive(Clone, Copy)]
+struct Why<'a> {
+    found: Finding,
+    names: &'a [[u8; MOST]; Rule::LIMIT],
+    chain: &'a Chain,
 }
 
-// The clauses on the reason of a link.
-fn put_reason(
-    rt: &impl Print,
-    breach: Breach,
-    names: &[[u8; MOST]; Rule::LIMIT],
-    links: &[u64; LENT],
-) -> io::Result<()> {
-    match breach {
-        Breach::NoRule { link } => {
-            put_at(rt, links, link, b"there is no rule ")?;
-            put_number(rt, reason_of(links, link))
+impl Why<'_> {
+    // The line of a link.
+    fn line(&self, link: usize) -> u64 {
+        self.chain.origin(link).unwrap_or_default().line
+    }
+
+    // The number that a link has for its reason, and the rule of that number.
+    fn reason(&self, link: usize) -> u64 {
+        self.chain.reason(link).unwrap_or(0)
+    }
+
+    fn rule(&self, link: usize) -> Called<'_> {
+        Called {
+            number: self.reason(link),
+            names: self.names,
         }
-        Breach::BitRule { link } => {
-            put_at(rt, links, link, b"")?;
-            put_rule(rt, names, reason_of(links, link))?;
-            put(rt, b" is one on bits, which a link shows as bits")
-        }
-        Breach::MeetsRule { link, word } => {
-            put_at(rt, links, link, b"word ")?;
-            put_number(rt, word)?;
-            put(rt, b" meets ")?;
-            put_rule(rt, names, reason_of(links, link))
-        }
-        Breach::MeetsBits { link, word } => {
-            put_at(rt, links, link, b"word ")?;
-            put_number(rt, word)?;
-            put(rt, b" has the fixed bits")
-        }
-        _ => Ok(()),
     }
 }
 
-// `line 7: `, and a text.
-fn put_at(rt: &impl Print, links: &[u64; LENT], link: usize, text: &[u8]) -> io::Result<()> {
-    put(rt, b"line ")?;
-    if link < LINKS {
-        put_number(rt, links[ROOM + link] / 2)?;
+impl fmt::Display for Why<'_> {
+    fn fmt<W: fmt::Write>(&self, f: &mut fmt::Formatter<W>) -> fmt::Result {
+        match self.found {
+            Finding::Yes => Ok(()),
+            Finding::NoSheet => write!(f, "no sheet is open"),
+            Finding::Empty => write!(f, "the chain is empty"),
+            Finding::Ragged => write!(f, "the numbers of the chain are no multiple of three"),
+            Finding::Short => write!(f, "the largest end is not the top word"),
+            Finding::Backward { link } => {
+                write!(f, "line {}: the link starts above its end", self.line(link))
+            }
+            Finding::AboveTop { link } => {
+                write!(
+                    f,
+                    "line {}: the link ends above the top word",
+                    self.line(link)
+                )
+            }
+            Finding::NotFromZero { link } => {
+                write!(
+                    f,
+                    "line {}: the first link does not start at 0",
+                    self.line(link)
+                )
+            }
+            Finding::Gap { link } => write!(
+                f,
+                "line {}: the link starts more than one past the largest end so far",
+                self.line(link),
+            ),
+            Finding::NoRule { link } => {
+                write!(
+                    f,
+                    "line {}: there is no rule {}",
+                    self.line(link),
+                    self.reason(link)
+                )
+            }
+            Finding::BitRule { link } => write!(
+                f,
+                "line {}: {} is one on bits, which a link shows as bits",
+                self.line(link),
+                self.rule(link),
+            ),
+            Finding::MeetsRule { link, word } => {
+                write!(
+                    f,
+                    "line {}: word {word} meets {}",
+                    self.line(link),
+                    self.rule(link)
+                )
+            }
+            Finding::MeetsBits { link, word } => {
+                write!(
+                    f,
+                    "line {}: word {word} has the fixed bits",
+                    self.line(link)
+                )
+            }
+        }
     }
-    put(rt, b": ")?;
-    put(rt, text)
 }
 
 // `rule late`, or `rule 3` where it has no name.
-fn put_rule(rt: &impl Print, names: &[[u8; MOST]; Rule::LIMIT], number: u64) -> io::Result<()> {
-    let place = number as usize;
-    put(rt, b"rule ")?;
-    if Rule::LIMIT <= place {
-        return put_number(rt, number);
-    }
-    let row = names[place];
-    let n = naming::length(&row);
-    if n == 0 {
-        return put_number(rt, number);
-    }
-    put_letters(rt, row, n)
+#[derive(Clone, Copy)]
+struct Called<'a> {
+    number: u64,
+    names: &'a [[u8; MOST]; Rule::LIMIT],
 }
 
-// So many letters of a row.
-fn put_letters(rt: &impl Print, row: [u8; MOST], n: usize) -> io::Result<()> {
-    for i in 0..MOST {
-        if i < n {
-            let letter = [row[i]];
-            put(rt, &letter)?;
+impl fmt::Display for Called<'_> {
+    fn fmt<W: fmt::Write>(&self, f: &mut fmt::Formatter<W>) -> fmt::Result {
+        match name_of(self.names, self.number) {
+            Some(name) => write!(f, "rule {name}"),
+            None => write!(f, "rule {}", self.number),
         }
     }
-    Ok(())
 }
 
-fn reason_of(links: &[u64; LENT], link: usize) -> u64 {
-    if LINKS <= link {
-        return 0;
-    }
-    links[Link::NUMBERS * link + 2]
+// The name of a rule, if it has one. A name is text: letters, digits, `_` and `.`.
+fn name_of(names: &[[u8; MOST]; Rule::LIMIT], number: u64) -> Option<&str> {
+    let row = names.get(number as usize)?;
+    let name = row.get(..naming::length(row))?;
+    str::from_utf8(name).ok().filter(|name| !name.is_empty())
 }

@@ -1,5 +1,5 @@
 -- `shown` meets its contract: a record that is no sheet gets 17 and the blank one 1. Assumes nothing.
-use mathlib.Core.Path.{◌≡◌, sym, ◌∙◌}
+use mathlib.Core.Path.{◌≡◌, refl, sym, ◌∙◌}
 use mathlib.Core.Bool.{Bool, true, false, false≢true}
 use mathlib.Core.Logic.{◌↔◌}
 use Rattle.sheet.specs.declared.Sheet.{Sheet}
@@ -7,6 +7,7 @@ use Rattle.sheet.specs.route.Shape.{is_sheet}
 use Rattle.sheet.specs.route.Stands.{no_sheet}
 use Rattle.sheet.specs.Statements.{IsSheet}
 use Rattle.sheet.proofs.Stands.{has_width, is_blank_lem}
+use Rattle.dialogue.specs.upshot.Upshot.{by_number}
 use Rattle.dialogue.proofs.saying.shown.Goals as goal
 
 module _ (s : Sheet) (t : Bool) (e : (t ≡ is_sheet s) × ((t ≡ true) ↔ IsSheet s)) where
@@ -16,26 +17,29 @@ module _ (s : Sheet) (t : Bool) (e : (t ≡ is_sheet s) × ((t ≡ true) ↔ IsS
   untold : t ≡ false → IsSheet s → ⊥
   untold q i = false≢true (sym q ∙ e.1.1 i)
 
-pub returns-then-not-stands : goal.returns-then-not-stands
-returns-then-not-stands c =
+pub returns-then-not-is_sheet : goal.returns-then-not-is_sheet
+unfolding by_number
+returns-then-not-is_sheet c =
     record {
       number = 17;
-      stands = no_sheet (untold _ _ (c.is_sheet-stands.ensures.value, c.is_sheet-stands.ensures.variant) (c.if-not-stands.true));
-      result = c.by_number.ensures;
+      stands = no_sheet (untold _ _ (c.is_sheet.ensures.value, c.is_sheet.ensures.variant) (c.if-not-is_sheet.true));
+      result = refl;
     }
 
 pub returns-then-sheet-eq0 : goal.returns-then-sheet-eq0
+unfolding by_number
 returns-then-sheet-eq0 c =
     record {
       number = 1;
-      stands = is_blank_lem (told _ _ (c.is_sheet-stands.ensures.value, c.is_sheet-stands.ensures.variant) (c.if-not-stands.false)) c.if-sheet-eq0.true;
-      result = c.by_number-then-sheet-eq0.ensures;
+      stands = is_blank_lem (told _ _ (c.is_sheet.ensures.value, c.is_sheet.ensures.variant) (c.if-not-is_sheet.false)) c.if-sheet-eq0.true;
+      result = refl;
     }
 
 pub returns : goal.returns
+unfolding by_number
 returns c =
     record {
       number = 0;
-      stands = has_width (told _ _ (c.is_sheet-stands.ensures.value, c.is_sheet-stands.ensures.variant) (c.if-not-stands.false)) c.if-sheet-eq0.false;
-      result = c.by_number-2.ensures;
+      stands = has_width (told _ _ (c.is_sheet.ensures.value, c.is_sheet.ensures.variant) (c.if-not-is_sheet.false)) c.if-sheet-eq0.false;
+      result = refl;
     }
