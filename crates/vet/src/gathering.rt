@@ -15,7 +15,6 @@ use rule::Rule;
 use std::fs;
 use std::io::{Eprint, Result};
 use std::rt::Files;
-use word::Found;
 
 // Where the chain is read from: descriptor 7, which is opened anew, so that a file is read from its start.
 const CHAIN: &str = "/dev/fd/7";
@@ -72,8 +71,8 @@ impl Reading<'_> {
     // The number of the first rule in force that has the name.
     fn number_of(&self, name: Name, text: &[u8]) -> std::result::Result<u64, Fault> {
         match naming::by_name::number_of(self.names, self.rules, lines::name_in(name, text)) {
-            Found::At(number) => Ok(number),
-            Found::Nothing => Err(Fault::NoSuchName { at: name.from }),
+            Some(number) => Ok(number),
+            None => Err(Fault::NoSuchName { at: name.from }),
         }
     }
 
