@@ -1,56 +1,57 @@
 // The picture of a sheet on standard output, as comment lines of a sheet: a row for each rule in force, and one for all.
 
-use crate::printing::{put, put_number};
+use crate::printing::Rules;
 use picture::column::COLUMNS;
 use picture::shade::Cell;
-use rule::Rule;
 use sheet::Sheet;
+use std::fmt;
 use std::io::Result;
 
-// Draws nothing where no sheet is open.
-pub fn draw(rt: &impl Print, sheet: Sheet) -> Result<()> {
+/// Draws a row at a time, `# |###########....#| rule 0` and `# |###########....#| all`; nothing where no sheet is open.
+pub fn draw(rt: &impl Print, rules: Rules<'_>) -> Result<()> {
+    let sheet = rules.sheet;
     if sheet.width == 0 {
         return Ok(());
     }
-    rule_rows(rt, sheet)?;
-    all_row(rt, sheet)
+    for number in rules.in_force() {
+        println!(rt;
+            "# |{}| rule {number}",
+            Row {
+                sheet,
+                rule: Some(number)
+            }
+        )?;
+    }
+    println!(rt; "# |{}| all", Row { sheet, rule: None })
 }
 
-fn rule_rows(rt: &impl Print, sheet: Sheet) -> Result<()> {
-    for number in 0..Rule::LIMIT {
-        if number < sheet.count {
-            rule_row(rt, sheet, number)?;
+// The columns of a row: by one rule in force, or by all.
+#[derive(Clone, Copy)]
+struct Row<'a> {
+    sheet: &'a Sheet,
+    rule: Option<usize>,
+}
+
+impl Row<'_> {
+    fn cell(self, column: u64) -> Cell {
+        match self.rule {
+            Some(number) => picture::rule_cells::rule_at(*self.sheet, number, column),
+            None => picture::all_cells::all_at(*self.sheet, column),
         }
     }
-    Ok(())
-}
-
-// `# |###########....#| rule 0`.
-fn rule_row(rt: &impl Print, sheet: Sheet, number: usize) -> Result<()> {
-    put(rt, b"# |")?;
-    for column in 0..COLUMNS {
-        put_cell(rt, picture::rule_cells::rule_at(sheet, number, column))?;
-    }
-    put(rt, b"| rule ")?;
-    put_number(rt, number as u64)?;
-    put(rt, b"\n")
-}
-
-// `# |###########....#| all`.
-fn all_row(rt: &impl Print, sheet: Sheet) -> Result<()> {
-    put(rt, b"# |")?;
-    for column in 0..COLUMNS {
-        put_cell(rt, picture::all_cells::all_at(sheet, column))?;
-    }
-    put(rt, b"| all\n")
 }
 
 // Nothing past the last column.
-fn put_cell(rt: &impl Print, cell: Cell) -> Result<()> {
-    match cell {
-        Cell::Fails => put(rt, b"#"),
-        Cell::Meets => put(rt, b"."),
-        Cell::Partly => put(rt, b"+"),
-        Cell::Nowhere => Ok(()),
+impl fmt::Display for Row<'_> {
+    fn fmt<W: fmt::Write>(&self, f: &mut fmt::Formatter<W>) -> fmt::Result {
+        for column in 0..COLUMNS {
+            f.write_str(match self.cell(column) {
+                Cell::Fails => "#",
+                Cell::Meets => ".",
+                Cell::Partly => "+",
+                Cell::Nowhere => "",
+            })?;
+        }
+        Ok(())
     }
 }

@@ -1,164 +1,110 @@
 // Mistakes, on standard error: where, what was expected or why a call was refused, the line, and a mark under the place.
 
-use crate::printing::Told;
+use crate::printing::{Told, words_of};
 use dialogue::upshot::Response;
 use line::Statement;
-use line::scan::{Mistake, Name};
+use line::grammar::kind;
+use line::scan::Name;
+use std::fmt;
+use std::io::{Eprint, Result};
 
 // Where mistakes are said.
 const STDERR: i32 = 2;
 
-// Says a mistake or a refusal, and whether there was one.
-pub fn say(told: Told, text: &[u8]) -> bool {
-    let sheet = told.sheet;
-    let statement = told.statement;
-    let response = told.response;
-    match response {
-        Response::Mistaken(mistake) => {
-            say_mistake(told.line, text, mistake);
-            true
-        }
-        Response::Refused(number) => {
-            let row = row_of(number, statement, sheet.width);
-            say_refusal(told.line, text, number, row, sheet.width);
-            true
-        }
-        _ => false,
-    }
-}
-
-// `-:3:12: error: expected <=`, the line, and a mark under the place.
-fn say_mistake(line: u64, text: &[u8], mistake: Mistake) {
-    put_place(line, mistake.at);
-    put(b"expected ");
-    let table =
-        b"the end of the line\nx\n+\n<=\n<\n>=\n>\n=\n&\n..\n:\nnot\nsigned\nsettled\nsince\nfor\nwatts\nat\nleast\nmost\nwithin\nword\nmark\nback\nforward\nask\ncount\nlist\nfrom\nwhy\nshow\na number (decimal, 0x with lowercase digits, or 0b)\na number below zero\na number of watts\na number of watts\na name\na word\na number below 2^64\na statement\na rule\na number that a signed word has\na line of at most 1,024 bytes\n";
-    put_entry(table, wide(mistake.expected));
-    put(b"\n");
-    show(text, mistake.at);
-}
-
-// `-:3:6: error: a constant is above the top word of 4 bits (5)`, the line, and a mark under the place.
-fn say_refusal(line: u64, text: &[u8], number: u64, row: u64, width: u64) {
-    let at = place_of(text, row, width);
-    put_place(line, at);
-    put_reason(row, width);
-    put(b" (");
-    io::print_decimal(STDERR, number);
-    put(b")\n");
-    show(text, at);
-}
-
-// `-:3:12: error: `: a column counts from 1.
-fn put_place(line: u64, at: usize) {
-    put(b"-:");
-    io::print_decimal(STDERR, line);
-    put(b":");
-    io::print_decimal(STDERR, std::num::wrapping_add_u64(at as u64, 1));
-    put(b": error: ");
-}
-
-// The line, and a mark under a place of it. A line that is too long is not shown.
-fn show(text: &[u8], at: usize) {
-    if line::LIMIT < text.len() {
-        return;
-    }
-    put(text);
-    put(b"\n");
-    put_under(text, at);
-}
-
-// A mark under a place of the line: a tab stands under a tab, so that the mark does under its place.
-fn put_under(text: &[u8], at: usize) {
-    let mut i: usize = 0;
-    while i < at {
-        put_blank(text, i);
-        i += 1;
-    }
-    put(b"^\n");
-}
-
-// What stands under a byte of the line before the mark.
-fn put_blank(text: &[u8], at: usize) {
-    if text.len() <= at {
-        put(b" ");
-        return;
-    }
-    if text[at] == 9 {
-        put(b"\t");
-        return;
-    }
-    put(b" ");
-}
-
-// The rows of the table of refusals that say of a number that it is at fault: a width, a constant, and past the paper's numbers a bit outside the
-// mask, and a word that is asked about.
+// The refusal of a width, and that of a constant, of a bit outside a mask and of a word that is asked about.
 const NO_WIDTH: u64 = 2;
 
-const HIGH_CONSTANT: u64 = 5;
+const TOO_HIGH: u64 = 5;
 
-const STRAY_BIT: u64 = 18;
-
-const HIGH_WORD: u64 = 19;
-
-// Why a call was refused, by rows.
-fn put_reason(row: u64, width: u64) {
-    let table =
-        b"\nno sheet is open: a line such as `word 16` opens one\na word has 1 to 64 bits\nthere is no such form of rule\n`not` does not stand before a rule on bits\na constant is above the top word of \na sheet has room for 200 rules\n32 marks are in force\nthere is no mark to go back to\nthe buffer is too short\nthe line is none of the frames\nthe sheet is of another edition\nnothing waits to come forward\na gate on watts wants words of 32 bits\na limit is not a number\n\n\nthe record is no sheet\na bit of the value is not in the mask\nthe word is above the top word of \n";
-    put_entry(table, row);
-    if row == HIGH_CONSTANT {
-        put_width(width);
-    }
-    if row == HIGH_WORD {
-        put_width(width);
-    }
-}
-
-fn put_width(width: u64) {
-    io::print_decimal(STDERR, width);
-    put(b" bits");
-}
-
-// Which row says why: 5 is said of constants, of bits outside a mask, and of a word that is asked about.
-fn row_of(number: u64, statement: Statement, width: u64) -> u64 {
-    if number != HIGH_CONSTANT {
-        return number;
-    }
-    let Statement::Rule(rule) = statement else {
-        return HIGH_WORD;
+/// Says a mistake or a refusal, and whether there was one. What cannot be written is lost.
+pub fn say(rt: &impl Eprint, told: Told<'_>, text: &[u8]) -> bool {
+    let (at, fault) = match told.response {
+        Response::Mistaken(mistake) => (mistake.at, Fault::Expected(mistake.expected)),
+        Response::Refused(number) => {
+            let fault = Fault::of(told, number);
+            (fault.place(text, told.sheet.width), fault)
+        }
+        _ => return false,
     };
-    if rule.form != 7 {
-        return number;
-    }
-    if above(rule.c1, width) {
-        return number;
-    }
-    if above(rule.c2, width) {
-        return number;
-    }
-    STRAY_BIT
+    let _ = show(rt, told.line, text, at, fault);
+    true
 }
 
-// Where a refusal is told: at the number that is at fault, the first of two where that is too large, and where none is at the beginning of the statement.
-fn place_of(text: &[u8], row: u64, width: u64) -> usize {
-    let scan = line::scanning::whole(text);
-    let name = scan.name;
-    let first = scan.first;
-    let second = scan.second;
-    let numeral = first.numeral;
-    if !is_of_number(row) {
-        return beginning(text, name);
+// `-:3:12: error: expected <=`, the line, and a mark under the place: a column counts from 1. A line that is too long is not shown.
+fn show(rt: &impl Eprint, line: u64, text: &[u8], at: usize, fault: Fault) -> Result<()> {
+    eprintln!(rt; "-:{line}:{}: error: {fault}", at.wrapping_add(1))?;
+    if line::LIMIT < text.len() {
+        return Ok(());
     }
-    if above(numeral.value, width) {
-        return first.at;
-    }
-    second.at
+    // A line may have any bytes, and `eprint!` writes text alone.
+    io::write_all(STDERR, text);
+    eprintln!(rt; "\n{}", Mark { text, at })
 }
 
-fn is_of_number(row: u64) -> bool {
-    match row {
-        NO_WIDTH | HIGH_CONSTANT | STRAY_BIT | HIGH_WORD => true,
-        _ => false,
+// A mark under a place of a line: a tab stands under a tab, so that the mark does under its place.
+#[derive(Clone, Copy)]
+struct Mark<'a> {
+    text: &'a [u8],
+    at: usize,
+}
+
+impl fmt::Display for Mark<'_> {
+    fn fmt<W: fmt::Write>(&self, f: &mut fmt::Formatter<W>) -> fmt::Result {
+        for place in 0..self.at {
+            let is_tab = self.text.get(place) == Some(&b'\t');
+            f.write_str(if is_tab { "\t" } else { " " })?;
+        }
+        f.write_str("^")
+    }
+}
+
+// What is wrong with a line: a kind is expected; or it is refused with a number, of which one is said of a constant and of a word that are
+// above the top word of so many bits, and of a bit outside a mask.
+#[derive(Clone, Copy)]
+enum Fault {
+    Expected(u8),
+    Refused(u64),
+    HighConstant { bits: u64 },
+    HighWord { bits: u64 },
+    StrayBit,
+}
+
+impl Fault {
+    // What a refusal is given for.
+    fn of(told: Told<'_>, number: u64) -> Fault {
+        let bits = told.sheet.width;
+        if number != TOO_HIGH {
+            return Fault::Refused(number);
+        }
+        let Statement::Rule(rule) = told.statement else {
+            return Fault::HighWord { bits };
+        };
+        if rule.form != 7 || is_above(rule.c1, bits) || is_above(rule.c2, bits) {
+            return Fault::HighConstant { bits };
+        }
+        Fault::StrayBit
+    }
+
+    // Where a refusal is told: at the number that is at fault, the first of two where that is too large, and where none is at the beginning of
+    // the statement.
+    fn place(self, text: &[u8], bits: u64) -> usize {
+        let scan = line::scanning::whole(text);
+        if !self.is_of_number() {
+            return beginning(text, scan.name);
+        }
+        if is_above(scan.first.numeral.value, bits) {
+            return scan.first.at;
+        }
+        scan.second.at
+    }
+
+    // Whether a number is at fault: past the constants, words and bits that is a width.
+    fn is_of_number(self) -> bool {
+        match self {
+            Fault::Refused(number) => number == NO_WIDTH,
+            Fault::Expected(_) => false,
+            _ => true,
+        }
     }
 }
 
@@ -168,51 +114,101 @@ fn beginning(text: &[u8], name: Name) -> usize {
     if !name.named {
         return first.from;
     }
-    let second = line::piece::next(text, first.to);
-    second.from
+    line::piece::next(text, first.to).from
 }
 
 // Whether a number is above the top word.
-fn above(n: u64, width: u64) -> bool {
-    if 63 < width {
-        return false;
-    }
-    1 << width <= n
+fn is_above(n: u64, bits: u64) -> bool {
+    words_of(bits) <= u128::from(n)
 }
 
-// The line of a table with a number, without its end.
-fn put_entry(table: &[u8], number: u64) {
-    let mut line: u64 = 0;
-    let mut i: usize = 0;
-    while i < table.len() {
-        let b = table[i];
-        if line == number {
-            put_sign(b);
+impl fmt::Display for Fault {
+    fn fmt<W: fmt::Write>(&self, f: &mut fmt::Formatter<W>) -> fmt::Result {
+        match *self {
+            Fault::Expected(kind) => write!(f, "expected {}", expected(kind)),
+            Fault::Refused(number) => write!(f, "{} ({number})", reason(number)),
+            Fault::HighConstant { bits } => {
+                write!(
+                    f,
+                    "a constant is above the top word of {bits} bits ({TOO_HIGH})"
+                )
+            }
+            Fault::HighWord { bits } => {
+                write!(
+                    f,
+                    "the word is above the top word of {bits} bits ({TOO_HIGH})"
+                )
+            }
+            Fault::StrayBit => write!(f, "a bit of the value is not in the mask ({TOO_HIGH})"),
         }
-        line = past(line, b);
-        i += 1;
     }
 }
 
-fn put_sign(b: u8) {
-    let sign = [b];
-    if b != 10 {
-        put(&sign);
+// Why a call is refused with a number.
+fn reason(number: u64) -> &'static str {
+    match number {
+        1 => "no sheet is open: a line such as `word 16` opens one",
+        2 => "a word has 1 to 64 bits",
+        3 => "there is no such form of rule",
+        4 => "`not` does not stand before a rule on bits",
+        6 => "a sheet has room for 200 rules",
+        7 => "32 marks are in force",
+        8 => "there is no mark to go back to",
+        9 => "the buffer is too short",
+        10 => "the line is none of the frames",
+        11 => "the sheet is of another edition",
+        12 => "nothing waits to come forward",
+        13 => "a gate on watts wants words of 32 bits",
+        14 => "a limit is not a number",
+        17 => "the record is no sheet",
+        _ => "",
     }
 }
 
-// The number of the line after a byte.
-fn past(line: u64, b: u8) -> u64 {
-    if b == 10 {
-        return std::num::wrapping_add_u64(line, 1);
+// What is expected where a kind is.
+fn expected(kind: u8) -> &'static str {
+    match kind {
+        kind::END => "the end of the line",
+        kind::X => "x",
+        kind::PLUS => "+",
+        kind::AT_MOST => "<=",
+        kind::BELOW => "<",
+        kind::AT_LEAST => ">=",
+        kind::ABOVE => ">",
+        kind::EQUALS => "=",
+        kind::AND => "&",
+        kind::UP_TO => "..",
+        kind::COLON => ":",
+        kind::NOT => "not",
+        kind::SIGNED => "signed",
+        kind::SETTLED => "settled",
+        kind::SINCE => "since",
+        kind::FOR => "for",
+        kind::WATTS => "watts",
+        kind::AT => "at",
+        kind::LEAST => "least",
+        kind::MOST => "most",
+        kind::WITHIN => "within",
+        kind::WORD => "word",
+        kind::MARK => "mark",
+        kind::BACK => "back",
+        kind::FORWARD => "forward",
+        kind::ASK => "ask",
+        kind::COUNT => "count",
+        kind::LIST => "list",
+        kind::FROM => "from",
+        kind::WHY => "why",
+        kind::SHOW => "show",
+        kind::NUMBER => "a number (decimal, 0x with lowercase digits, or 0b)",
+        kind::NEGATIVE => "a number below zero",
+        kind::AMOUNT | kind::FRACTION => "a number of watts",
+        kind::NAME => "a name",
+        kind::OTHER => "a word",
+        kind::LARGE => "a number below 2^64",
+        kind::STATEMENT => "a statement",
+        kind::RULE => "a rule",
+        kind::SIGNED_WORD => "a number that a signed word has",
+        kind::SHORTER_LINE => "a line of at most 1,024 bytes",
+        _ => "",
     }
-    line
-}
-
-fn wide(kind: u8) -> u64 {
-    kind as u64
-}
-
-fn put(text: &[u8]) {
-    io::write_all(STDERR, text);
 }

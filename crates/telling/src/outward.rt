@@ -1,40 +1,75 @@
 // The rules in force on a sheet, written on standard output for other tools: as the desk's frames, and in SMT-LIB.
 
 mod formula;
-mod out;
 
-pub use formula::smt;
-use out::{digits, text};
+use formula::Formula;
 use rule::Rule;
 use sheet::Sheet;
+use std::fmt;
 use std::io::Result;
-use word::{Edition, Terms};
+use word::{Edition, Width};
 
-// The digits of a frame's code, of a width, of a form and of a sense.
-const SHORT: usize = 2;
-
-// The frames that open a sheet of this width, add each rule in order, and ask. They are those of the new edition, which has every width.
+/// Writes the frames that open a sheet of this width, add each rule in order, and ask. They are those of the new edition, which has every
+/// width.
 pub fn frames(rt: &impl Print, sheet: Sheet) -> Result<()> {
-    let terms = Edition::New.terms();
-    digits(rt, terms.opens, SHORT)?;
-    digits(rt, sheet.width, SHORT)?;
-    text(rt, b"\n")?;
-    let rules = sheet.rules;
-    let count = sheet.count;
-    for i in 0..Rule::LIMIT {
-        if i < count {
-            add(rt, rules[i], terms)?;
-        }
-    }
-    text(rt, b"05\n")
+    rt.print(Lines(&sheet))
 }
 
-// The frame that adds a rule.
-fn add(rt: &impl Print, rule: Rule, terms: Terms) -> Result<()> {
-    digits(rt, terms.adds, SHORT)?;
-    digits(rt, rule.form, SHORT)?;
-    digits(rt, rule.sense, SHORT)?;
-    digits(rt, rule.c1, terms.digits)?;
-    digits(rt, rule.c2, terms.digits)?;
-    text(rt, b"\n")
+/// Writes a sheet in SMT-LIB, logic QF_BV: a constant x of the width, an assertion for each rule, and the question whether some word fits;
+/// nothing for a width that no sheet has.
+pub fn smt(rt: &impl Print, sheet: Sheet) -> Result<()> {
+    if sheet.width < 1 || Width::LIMIT < sheet.width {
+        return Ok(());
+    }
+    rt.print(Script(&sheet))
+}
+
+// The rules in force.
+fn in_force(sheet: &Sheet) -> &[Rule] {
+    &sheet.rules[..sheet.count.min(Rule::LIMIT)]
+}
+
+// A sheet as frames, a line each.
+#[derive(Clone, Copy)]
+struct Lines<'a>(&'a Sheet);
+
+impl fmt::Display for Lines<'_> {
+    fn fmt<W: fmt::Write>(&self, f: &mut fmt::Formatter<W>) -> fmt::Result {
+        let terms = Edition::New.terms();
+        writeln!(f, "{:02x}{:02x}", terms.opens, self.0.width)?;
+        for &Rule {
+            form,
+            sense,
+            c1,
+            c2,
+        } in in_force(self.0) {
+            let digits = terms.digits;
+            writeln!(
+                f,
+                "{:02x}{form:02x}{sense:02x}{c1:0digits$x}{c2:0digits$x}",
+                terms.adds
+            )?;
+        }
+        writeln!(f, "05")
+    }
+}
+
+// A sheet as a script.
+#[derive(Clone, Copy)]
+struct Script<'a>(&'a Sheet);
+
+impl fmt::Display for Script<'_> {
+    fn fmt<W: fmt::Write>(&self, f: &mut fmt::Formatter<W>) -> fmt::Result {
+        let bits = self.0.width;
+        writeln!(f, "(set-logic QF_BV)\n(declare-const x (_ BitVec {bits}))")?;
+        for &rule in in_force(self.0) {
+            let formula = Formula { rule, bits };
+            if rule.sense == 0 {
+                writeln!(f, "(assert {formula})")?;
+            } else {
+                writeln!(f, "(assert (not {formula}))")?;
+            }
+        }
+        writeln!(f, "(check-sat)")
+    }
 }

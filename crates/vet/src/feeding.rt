@@ -85,7 +85,7 @@ impl Run {
     }
 
     // Takes a line and answers it. The name of an accepted rule is kept at the number that the rule gets.
-    fn answer(&mut self, rt: &impl Print, text: &[u8]) {
+    fn answer(&mut self, rt: &(impl Print + Eprint), text: &[u8]) {
         let count = self.dialogue.sheet.count;
         let mut numbers = [0; Sheet::LENT];
         let mut words = [0; WORDS];
@@ -99,10 +99,13 @@ impl Run {
             line: self.line,
             statement,
             response: heard.response,
-            sheet: self.dialogue.sheet,
+            sheet: &self.dialogue.sheet,
+            names: &self.names,
+            numbers: &numbers,
+            words: &words,
         };
-        let answered = self.manner.answer(rt, told, &self.names, &numbers, &words);
-        if telling::mistakes::say(told, text) {
+        let answered = self.manner.answer(rt, told);
+        if telling::mistakes::say(rt, told, text) {
             self.course = Course::Mistaken;
         }
         self.written(answered);

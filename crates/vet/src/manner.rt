@@ -1,11 +1,9 @@
 // What the program writes, by its argument.
 
-use naming::MOST;
-use rule::Rule;
 use sheet::Sheet;
 use std::io::Result;
 use std::rt::Env;
-use telling::printing::{Told, WORDS};
+use telling::printing::Told;
 
 /// Answers in words, or as objects of JSON; or, at the end of the input, the rules in force for another tool, and no answers; or what is
 /// found of a chain. An enum and no trait: the five are all there are, and which one it is an argument says as the program runs.
@@ -42,17 +40,10 @@ impl Manner {
     }
 
     /// Answers a line, where lines are answered.
-    pub fn answer(
-        self,
-        rt: &impl Print,
-        told: Told,
-        names: &[[u8; MOST]; Rule::LIMIT],
-        numbers: &[u64; Sheet::LENT],
-        words: &[u64; WORDS],
-    ) -> Result<()> {
+    pub fn answer(self, rt: &impl Print, told: Told<'_>) -> Result<()> {
         match self {
-            Manner::Words => telling::tell(rt, told, names, numbers, words),
-            Manner::Objects => telling::objects::tell(rt, told, names, numbers, words),
+            Manner::Words => telling::tell(rt, told),
+            Manner::Objects => telling::objects::tell(rt, told),
             _ => Ok(()),
         }
     }
