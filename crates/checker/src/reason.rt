@@ -16,36 +16,36 @@ use rule::Rule;
 use rule::band::Band;
 use rule::bits::Fixed;
 use search::rows::{InForce, NUMBERS};
-use word::{Found, Width};
+use word::Width;
 
 // The smallest word from one to another that a band holds: the first, or the one after the run of failing words around it.
-fn held(band: Band, top: u64, from: u64, to: u64) -> Found
+fn held(band: Band, top: u64, from: u64, to: u64) -> Option<u64>
     requires { (Laid top band) × (from ≤ to) × (to ≤ top) }
     ensures { result ≡ first (holds band) (suc to - from) from }
 {
     if band.holds(from) {
-        return Found::At(from);
+        return Some(from);
     }
     let end = band.run(top, from).to;
     if to <= end {
-        return Found::Nothing;
+        return None;
     }
-    Found::At(end + 1)
+    Some(end + 1)
 }
 
 // The smallest word from one to another that has the bits: the next one, where it comes no later.
-fn having(fixed: Fixed, width: Width, from: u64, to: u64) -> Found
+fn having(fixed: Fixed, width: Width, from: u64, to: u64) -> Option<u64>
     requires width { IsWidth width.bits }
     requires tidy { Tidy fixed × (from ≤ to) × (to ≤ top width.bits) }
     ensures { result ≡ first (has_bits fixed) (suc to - from) from }
 {
-    let Found::At(next) = fixed.next(width, from) else {
-        return Found::Nothing;
+    let Some(next) = fixed.next(width, from) else {
+        return None;
     };
     if to < next {
-        return Found::Nothing;
+        return None;
     }
-    Found::At(next)
+    Some(next)
 }
 
 /// The clauses on the reason of a link that lies as it may.
@@ -67,7 +67,7 @@ pub fn shows(
         let top = force.width.top();
         let band = search::rows::band_at(rows, place, false, top);
         // the band of a form 7 rule holds every word, so that the form is looked at only where a word is found
-        let Found::At(word) = held(band, top, link.from, link.to) else {
+        let Some(word) = held(band, top, link.from, link.to) else {
             return Ok(());
         };
         if search::rows::rule_at(rows, place).form == 7 {
@@ -79,7 +79,7 @@ pub fn shows(
     if is_no_rule {
         return Err(Breach::NoRule { link: number });
     }
-    let Found::At(word) = having(force.fixed, force.width, link.from, link.to) else {
+    let Some(word) = having(force.fixed, force.width, link.from, link.to) else {
         return Ok(());
     };
     Err(Breach::MeetsBits { link: number, word })

@@ -9,7 +9,6 @@ use rule::band::Run;
 use rule::bits::Fixed;
 use search::rows::InForce;
 use search::section::Section;
-use word::Found;
 
 /// Writes the words of a section from p on that have the bits, where the bands hold it, from a place of the buffer on, and says which
 /// place comes after them. The first is looked for, and the others follow one from another.
@@ -28,7 +27,7 @@ pub fn put_section(section: Section, force: InForce, p: u64, out: &mut [u64], pl
     if free(fixed) {
         return put_run(Run { from: p, to: last }, out, place);
     }
-    let Found::At(first) = fixed.next(force.width, p) else {
+    let Some(first) = fixed.next(force.width, p) else {
         return place;
     };
     let mut x = first;
@@ -40,7 +39,7 @@ pub fn put_section(section: Section, force: InForce, p: u64, out: &mut [u64], pl
         }
         out[at] = x;
         at += 1;
-        let Found::At(next) = fixed.after(x) else {
+        let Some(next) = fixed.after(x) else {
             return at;
         };
         x = next;

@@ -12,7 +12,6 @@ use rule::Rule;
 use rule::band::Run;
 use rule::bits::Fixed;
 use search::rows::{InForce, NUMBERS};
-use word::Found;
 
 /// A cell of a picture. Where there is no sheet, no such rule or no such column, there is none.
 #[derive(Clone, Copy, PartialEq, Eq)]
@@ -30,7 +29,7 @@ pub fn stretch(rows: &[[u64; NUMBERS]; Rule::LIMIT], force: InForce, words: Run)
     requires tidy { Tidy force.fixed × (words.from ≤ words.to) × (words.to ≤ top force.width.bits) }
     ensures { result ≡ cell_of (passes (take force.count (bands_in rows.now)) force.fixed) words.from words.to }
 {
-    let Found::At(x) = search::sweep::sweep(rows, force, false, words.from) else {
+    let Some(x) = search::sweep::sweep(rows, force, false, words.from) else {
         return Cell::Fails;
     };
     if words.to < x {

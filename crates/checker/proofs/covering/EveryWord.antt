@@ -8,7 +8,7 @@ use native.Mathlib.Decide.{dec_lt, ℕ_discrete}
 use native.Mathlib.Omega.{arith}
 use borrow.Author.Tests.{lt-ltb, ltb-true, not-true}
 use lib.Dec.{ltb}
-use Rattle.word.specs.declared.Found.TheVariants.{At, Nothing}
+use Rattle.std.specs.Prelude.{Some, None}
 use Rattle.word.specs.Search.{first}
 use Rattle.word.proofs.Searched.{First, first_is, first_nothing}
 use Rattle.word.proofs.Tests.{both_pass, same_test}
@@ -59,7 +59,7 @@ module _ (f : ℕ → Bool) (p q : ℕ) where
   misses_all h = each_every (λ (y : ℕ). not (f y)) p q (λ x a b. ap not (h x a b))
 
   -- the next word that passes comes after, or there is none
-  pub next_after : (k x : ℕ) → first f k p ≡ At x → ltb q x ≡ misses
+  pub next_after : (k x : ℕ) → first f k p ≡ Some x → ltb q x ≡ misses
   next_after k x e =
       let i = first_is f k p x e in
       same_test _ misses (λ d. misses_all (λ y a b. i.none_before y a (omega (arith, ltb-true q x d))))
@@ -69,5 +69,5 @@ module _ (f : ℕ → Bool) (p q : ℕ) where
       after i d (yes h) = h
       after i d (no h) = absurd (false≢true (sym (missed d x (omega arith) (omega arith)) ∙ i.passes))
 
-  pub none_after : (t : ℕ) → q ≤ t → first f (suc t - p) p ≡ Nothing → true ≡ misses
+  pub none_after : (t : ℕ) → q ≤ t → first f (suc t - p) p ≡ None → true ≡ misses
   none_after t h e = sym (misses_all (λ x a b. first_nothing f (suc t - p) p e x a (omega arith)))

@@ -9,8 +9,8 @@ use native.Mathlib.Omega.{arith}
 use lib.Dec.{eqb, ltb}
 use lib.ListN.{length}
 use Rattle.std.specs.Prelude.{Result, Ok, Err}
-use Rattle.word.specs.declared.Found.{Found}
-use Rattle.word.specs.declared.Found.TheVariants.{At, Nothing}
+use Rattle.std.specs.Prelude.{Option}
+use Rattle.std.specs.Prelude.{Some, None}
 use Rattle.word.specs.Word.{top}
 use Rattle.word.specs.Search.{first}
 use Rattle.word.proofs.Search.{first_same}
@@ -56,29 +56,29 @@ module _ (w : ℕ) (rs : List Rule) (i : ℕ) (l : Link) where
     unfolding by_reason
     no_rule e = reasons_as other e refl refl refl
 
-    pub bits_missed : eqb l.reason BITS ≡ true → first (meets7 w rs) (suc l.to - l.from) l.from ≡ Nothing → Ok tt ≡ first_broken (reason_clauses w rs i l)
+    pub bits_missed : eqb l.reason BITS ≡ true → first (meets7 w rs) (suc l.to - l.from) l.from ≡ None → Ok tt ≡ first_broken (reason_clauses w rs i l)
     unfolding by_reason
     bits_missed e n = reasons_as other e refl refl (none_pass (meets7 w rs) l.from l.to n)
 
-    pub bits_met : (x : ℕ) → eqb l.reason BITS ≡ true → first (meets7 w rs) (suc l.to - l.from) l.from ≡ At x → Err (MeetsBits i x) ≡ first_broken (reason_clauses w rs i l)
+    pub bits_met : (x : ℕ) → eqb l.reason BITS ≡ true → first (meets7 w rs) (suc l.to - l.from) l.from ≡ Some x → Err (MeetsBits i x) ≡ first_broken (reason_clauses w rs i l)
     unfolding by_reason smallest the_word
     bits_met x e n =
-        ap (λ (o : Found). err (MeetsBits i (the_word o))) (sym n) ∙ reasons_as other e refl refl (some_pass (meets7 w rs) l.from l.to x n)
+        ap (λ (o : Option ℕ). err (MeetsBits i (the_word o))) (sym n) ∙ reasons_as other e refl refl (some_pass (meets7 w rs) l.from l.to x n)
 
   module _ (named : ltb l.reason (length rs) ≡ true) where
     pub bit_rule : eqb r.form 7 ≡ true → Err (BitRule i) ≡ first_broken (reason_clauses w rs i l)
     unfolding by_reason
     bit_rule e = reasons_as named refl e refl refl
 
-    pub rule_missed : eqb l.reason BITS ≡ false → eqb r.form 7 ≡ false → first (meets w r) (suc l.to - l.from) l.from ≡ Nothing
+    pub rule_missed : eqb l.reason BITS ≡ false → eqb r.form 7 ≡ false → first (meets w r) (suc l.to - l.from) l.from ≡ None
         → Ok tt ≡ first_broken (reason_clauses w rs i l)
     unfolding by_reason
     rule_missed b e n = reasons_as named b e (none_pass (meets w r) l.from l.to n) refl
 
-    pub rule_met : (x : ℕ) → eqb r.form 7 ≡ false → first (meets w r) (suc l.to - l.from) l.from ≡ At x → Err (MeetsRule i x) ≡ first_broken (reason_clauses w rs i l)
+    pub rule_met : (x : ℕ) → eqb r.form 7 ≡ false → first (meets w r) (suc l.to - l.from) l.from ≡ Some x → Err (MeetsRule i x) ≡ first_broken (reason_clauses w rs i l)
     unfolding by_reason smallest the_word
     rule_met x e n =
-        ap (λ (o : Found). err (MeetsRule i (the_word o))) (sym n) ∙ reasons_as named refl e (some_pass (meets w r) l.from l.to x n) refl
+        ap (λ (o : Option ℕ). err (MeetsRule i (the_word o))) (sym n) ∙ reasons_as named refl e (some_pass (meets w r) l.from l.to x n) refl
 
 -- ---- the words that bands and bits find
 
@@ -90,6 +90,6 @@ module _ (w : ℕ) (width : 1 ≤ w) (rs : List Rule) (lawful : AllLawful w rs) 
   by_bits = first_same _ _ (suc q - p) p (λ y a b. fixed_bits_lem w rs y lawful)
 
   -- every word has the band of a form 7 rule
-  pub bits_first : (i : ℕ) → i < length rs → p ≤ q → (nth rs i).form ≡ 7 → At p ≡ first (holds (band_of w (nth rs i))) (suc q - p) p
+  pub bits_first : (i : ℕ) → i < length rs → p ≤ q → (nth rs i).form ≡ 7 → Some p ≡ first (holds (band_of w (nth rs i))) (suc q - p) p
   bits_first i h o e =
       at_once (holds (band_of w (nth rs i))) p q (top w) o word (bit_band w width (nth rs i) (lawful_at w rs i h lawful) p (omega arith) e)

@@ -1,8 +1,8 @@
 -- The paper's clauses on a list of links (02, K3), a row each, in order: whether it holds, and the breach where it does not. A sentence
 -- of the paper stands above each row.
 use Rattle.std.specs.Prelude.{Bool, not, ◌||◌, cond, List, [], ◌∷◌, ◌++◌, ℕ, suc, max, ◌-◌, eqb, leb, ltb, length, Result, Ok, Err}
-use Rattle.word.specs.declared.Found.{Found}
-use Rattle.word.specs.declared.Found.TheVariants.{At, Nothing}
+use Rattle.std.specs.Prelude.{Option}
+use Rattle.std.specs.Prelude.{Some, None}
 use Rattle.word.specs.Word.{top}
 use Rattle.word.specs.Search.{first}
 use Rattle.rule.specs.declared.Rule.{Rule}
@@ -27,9 +27,9 @@ first_broken [] = Ok tt
 first_broken (c ∷ cs) = cond c.holds (first_broken cs) (Err c.found)
 
 -- the smallest word of a link that passes a test
-unfoldable pub the_word : Found → ℕ
-the_word (At x) = x
-the_word Nothing = 0
+unfoldable pub the_word : Option ℕ → ℕ
+the_word (Some x) = x
+the_word None = 0
 
 unfoldable pub smallest : (ℕ → Bool) → Link → ℕ
 smallest f l = the_word (first f (suc l.to - l.from) l.from)

@@ -6,8 +6,8 @@ use mathlib.Core.Bool.{false, false≢true}
 use mathlib.Core.List.{List, [], ◌∷◌, ◌++◌}
 use Prim.Native.Nat.{ℕ, ◌^◌, ◌≤◌}
 use native.Mathlib.Omega.{arith}
-use Rattle.word.specs.declared.Found.{Found}
-use Rattle.word.specs.declared.Found.TheVariants.{At, Nothing}
+use Rattle.std.specs.Prelude.{Option}
+use Rattle.std.specs.Prelude.{Some, None}
 use Rattle.word.specs.declared.Edition.{Edition}
 use Rattle.word.specs.Search.{first}
 use Rattle.word.proofs.Searched.{first_is, first_nothing}
@@ -41,11 +41,11 @@ use Rattle.counting.proofs.audit.Fitting.{count_fewer, fits_fewer}
 some_word : (w : ℕ) (rs : List Rule) → ((kept w rs).verdict ≡ 0 → ⊥) → (x : ℕ) × Fits w rs x
 some_word w rs n = go (first (fits w rs) (2 ^ w) 0) refl
   where
-    go : (f : Found) → first (fits w rs) (2 ^ w) 0 ≡ f → (x : ℕ) × Fits w rs x
-    go (At x) e =
+    go : (f : Option ℕ) → first (fits w rs) (2 ^ w) 0 ≡ f → (x : ℕ) × Fits w rs x
+    go (Some x) e =
         let f = first_is (fits w rs) (2 ^ w) 0 x e in
         (x, record { word = omega (arith, top-suc w); meets = f.passes })
-    go Nothing e =
+    go None e =
         absurd
         (n
         ((kept_right w rs).none.1

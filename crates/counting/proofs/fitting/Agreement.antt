@@ -9,8 +9,8 @@ use native.Mathlib.Omega.{arith}
 use borrow.Author.Tests.{eq-eqb, ne_eqb}
 use lib.ListN.{get_or, length, length-append}
 use lib.Seq.{get_or-append-add}
-use Rattle.word.specs.declared.Found.{Found}
-use Rattle.word.specs.declared.Found.TheVariants.{At, Nothing}
+use Rattle.std.specs.Prelude.{Option}
+use Rattle.std.specs.Prelude.{Some, None}
 use Rattle.word.specs.Search.{first, last, passing}
 use Rattle.word.proofs.Count.{count_past}
 use Rattle.word.proofs.Searched.{First, Last, first_is, first_nothing, last_is, last_nothing}
@@ -75,11 +75,11 @@ module _ (f : ℕ → Bool) (k : ℕ) where
         let h : a < b = omega (arith, ordered) in
         omega (arith, passing-length f b 0, count_past f b (b - suc a) 0 a (omega arith) (omega arith) low.passes)
 
-    agreed : Agreed (verdict_of (At a) (At b))
+    agreed : Agreed (verdict_of (Some a) (Some b))
     unfolding verdict_of
     agreed = go (ℕ_discrete a b)
       where
-        go : Dec (a ≡ b) → Agreed (verdict_of (At a) (At b))
+        go : Dec (a ≡ b) → Agreed (verdict_of (Some a) (Some b))
         go (yes q) =
             rw (eq-eqb a b q)
             (record {
@@ -103,10 +103,10 @@ module _ (f : ℕ → Bool) (k : ℕ) where
   unfolding verdict_of
   found = go (first f k 0) (last f k) refl refl
     where
-      go : (a b : Found) → first f k 0 ≡ a → last f k ≡ b → Agreed (verdict_of a b)
-      go Nothing b e d = nothing (none_passing f k 0 (λ y l h. first_nothing f k 0 e y l h))
-      go (At a) Nothing e d = nothing (none_passing f k 0 (λ y l h. last_nothing f k d y (omega arith)))
-      go (At a) (At b) e d = agreed a b (first_is f k 0 a e) (last_is f k b d)
+      go : (a b : Option ℕ) → first f k 0 ≡ a → last f k ≡ b → Agreed (verdict_of a b)
+      go None b e d = nothing (none_passing f k 0 (λ y l h. first_nothing f k 0 e y l h))
+      go (Some a) None e d = nothing (none_passing f k 0 (λ y l h. last_nothing f k d y (omega arith)))
+      go (Some a) (Some b) e d = agreed a b (first_is f k 0 a e) (last_is f k b d)
 
 pub kept_agrees : (w : ℕ) (rs : List Rule) → Agrees (kept w rs) (how_many w rs) (fitting_from w rs 0)
 unfolding kept how_many fitting_from

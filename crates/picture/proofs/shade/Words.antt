@@ -8,7 +8,7 @@ use Prim.Native.Nat.{ℕ, suc, ◌-◌, ◌≤◌, ◌<◌}
 use native.Mathlib.Nat.{le_refl}
 use native.Mathlib.Omega.{arith}
 use borrow.Author.Tests.{le-ltb, lt-ltb, not-true}
-use Rattle.word.specs.declared.Found.TheVariants.{At, Nothing}
+use Rattle.std.specs.Prelude.{Some, None}
 use Rattle.word.specs.Search.{climb, first}
 use Rattle.word.proofs.Climb.{climb_is}
 use Rattle.word.proofs.Tests.{both_pass, same_test}
@@ -34,10 +34,10 @@ module _ (f : ℕ → Bool) (p q : ℕ) where
   cell_as d e = sym (ap₂ (λ (a b : Bool). cond a Fails (cond b Meets Partly)) d e)
 
   module _ (t : ℕ) (word : q ≤ t) where
-    pub no_word : first f (suc t - p) p ≡ Nothing → Fails ≡ cell_of f p q
+    pub no_word : first f (suc t - p) p ≡ None → Fails ≡ cell_of f p q
     no_word e = cell_as (sym (none_after f p q t word e)) refl
 
-    module _ (x : ℕ) (found : first f (suc t - p) p ≡ At x) where
+    module _ (x : ℕ) (found : first f (suc t - p) p ≡ Some x) where
       pub later_word : q < x → Fails ≡ cell_of f p q
       later_word h = cell_as (sym (next_after f p q (suc t - p) x found) ∙ lt-ltb q x h) refl
 

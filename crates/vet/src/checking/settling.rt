@@ -13,7 +13,6 @@ use checker::finding::Breach;
 use naming::MOST;
 use rule::Rule;
 use sheet::Sheet;
-use word::Found;
 
 // What is found of so many links. All is well just where the check says yes.
 pub fn found_of(sheet: Sheet, links: [u64; LENT], n: usize) -> Result<(), Breach>
@@ -40,22 +39,22 @@ fn room_of(n: usize, links: &[u64]) -> usize
 }
 
 // The link whose reason is a name and which the rule does not show that the name stands for.
-pub fn unshown(found: Result<(), Breach>, links: &[u64; LENT]) -> Found {
+pub fn unshown(found: Result<(), Breach>, links: &[u64; LENT]) -> Option<u64> {
     match found {
         Err(Breach::BitRule { link }) => if_named(links, link),
         Err(Breach::MeetsRule { link, word: _ }) => if_named(links, link),
-        _ => Found::Nothing,
+        _ => None,
     }
 }
 
-fn if_named(links: &[u64; LENT], link: usize) -> Found {
+fn if_named(links: &[u64; LENT], link: usize) -> Option<u64> {
     if LINKS <= link {
-        return Found::Nothing;
+        return None;
     }
     if links[ROOM + link] % 2 == 0 {
-        return Found::Nothing;
+        return None;
     }
-    Found::At(link as u64)
+    Some(link as u64)
 }
 
 // The name of a link stands for the next rule that has it. After the last it is settled, and stands for the first.
@@ -74,11 +73,11 @@ pub fn move_on(
         return;
     }
     let row = names[reason];
-    if let Found::At(next) = same_from(rules, names, row, reason + 1) {
+    if let Some(next) = same_from(rules, names, row, reason + 1) {
         links[Link::NUMBERS * place + 2] = next;
         return;
     }
-    if let Found::At(first) = same_from(rules, names, row, 0) {
+    if let Some(first) = same_from(rules, names, row, 0) {
         links[Link::NUMBERS * place + 2] = first;
     }
     links[ROOM + place] = std::num::wrapping_sub_u64(links[ROOM + place], 1);
@@ -90,18 +89,18 @@ fn same_from(
     names: &[[u8; MOST]; Rule::LIMIT],
     row: [u8; MOST],
     from: usize,
-) -> Found {
+) -> Option<u64> {
     for i in 0..Rule::LIMIT {
         if from <= i {
             if i < rules {
                 let other = names[i];
                 if same(row, other) {
-                    return Found::At(i as u64);
+                    return Some(i as u64);
                 }
             }
         }
     }
-    Found::Nothing
+    None
 }
 
 fn same(row: [u8; MOST], other: [u8; MOST]) -> bool {

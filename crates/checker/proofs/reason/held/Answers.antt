@@ -2,7 +2,7 @@
 use mathlib.Core.Path.{sym, ap, ◌∙◌}
 use native.Mathlib.Omega.{arith}
 use Prim.Native.Nat.{ℕ, ◌+◌}
-use Rattle.word.specs.declared.Found.TheVariants.{At}
+use Rattle.std.specs.Prelude.{Some}
 use Rattle.rule.specs.band.route.Band.{holds}
 use Rattle.checker.proofs.reason.Meeting.{after_run, at_once, run_covers}
 use Rattle.checker.proofs.reason.held.Goals as goal
@@ -22,6 +22,6 @@ returns-then-to-end c =
 
 pub returns : goal.returns
 returns c =
-    ap (λ (e : ℕ). At (e + 1)) c.run-end.ensures.1
+    ap (λ (e : ℕ). Some (e + 1)) c.run-end.ensures.1
     ∙ after_run (holds c.args.band) c.args.from c.args.to c.args.top c.requires.1 c.requires.2 (sym c.holds.ensures ∙ c.if-holds.false)
     (omega (arith, c.run-end.ensures.1, c.if-to-end.false))

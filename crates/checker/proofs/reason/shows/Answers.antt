@@ -10,7 +10,7 @@ use lib.Dec.{eqb, ltb}
 use lib.ListN.{get_or, length, take}
 use lib.Seq.{get_or-take}
 use Rattle.word.specs.Word.{top}
-use Rattle.word.specs.declared.Found.TheVariants.{At, Nothing}
+use Rattle.std.specs.Prelude.{Some, None}
 use Rattle.word.specs.Search.{first}
 use Rattle.rule.specs.declared.Rule.{Rule}
 use Rattle.rule.specs.Meaning.{meets, meets7, rule}
@@ -79,12 +79,12 @@ meeting h n =
     by_band _ h.requires.width.low (take h.args.force.count (rules_in h.args.rows.now)) h.requires.of_lawful.0 h.args.link.from h.args.link.to h.requires.tidy.2 h.args.link.reason (few h) n
 
 -- where it finds none the rule is outside form 7
-no_bit : (h : After-held) → h.held.result ≡ Nothing → (nth (take h.args.force.count (rules_in h.args.rows.now)) h.args.link.reason).form ≡ 7 → ⊥
+no_bit : (h : After-held) → h.held.result ≡ None → (nth (take h.args.force.count (rules_in h.args.rows.now)) h.args.link.reason).form ≡ 7 → ⊥
 no_bit h e z =
     let a = bits_first _ h.requires.width.low (take h.args.force.count (rules_in h.args.rows.now)) h.requires.of_lawful.0 h.args.link.from h.args.link.to h.requires.tidy.2 h.args.link.reason (few h) h.requires.tidy.1 z in
     apart (a ∙ sym (banded h) ∙ e)
   where
-    apart : {x : ℕ} → At x ≡ Nothing → ⊥
+    apart : {x : ℕ} → Some x ≡ None → ⊥
     apart d = cc
 
 -- what the bits find is the smallest word that meets all form 7 rules
@@ -118,7 +118,7 @@ returns-then-reason-force c =
     let h = (goal.at.returns-then-reason-force c).After-held in
     let s = (goal.at.returns-then-reason-force c).Start in
     let n = outside (goal.at.returns-then-reason-force c).Else-rule_at-eq7 in
-    rule_met _ (own s) c.args.number c.args.link (named s c.if-reason-force.true) _ (ne_eqb _ 7 n) (sym (meeting h n) ∙ sym (banded h) ∙ c.in-At.is)
+    rule_met _ (own s) c.args.number c.args.link (named s c.if-reason-force.true) _ (ne_eqb _ 7 n) (sym (meeting h n) ∙ sym (banded h) ∙ c.in-Some.is)
 
 pub returns-then-is_no_rule : goal.returns-then-is_no_rule
 returns-then-is_no_rule c =
@@ -130,4 +130,4 @@ returns-in_default-having c =
 
 pub returns : goal.returns
 returns c =
-    bits_met _ (own (goal.at.returns c).Start) c.args.number c.args.link (other (goal.at.returns c).Start (λ t. omega (arith, t, c.if-reason-force.false))) _ (eq-eqb c.args.link.reason BITS (omega (arith, c.if-is_no_rule.false))) (sym (had (goal.at.returns c).After-having) ∙ c.in-At-having.is)
+    bits_met _ (own (goal.at.returns c).Start) c.args.number c.args.link (other (goal.at.returns c).Start (λ t. omega (arith, t, c.if-reason-force.false))) _ (eq-eqb c.args.link.reason BITS (omega (arith, c.if-is_no_rule.false))) (sym (had (goal.at.returns c).After-having) ∙ c.in-Some-having.is)
