@@ -2,8 +2,9 @@
 // the bits of a word. It shares no code with what is tried.
 ghost use Rattle.std.specs.Prelude.{◌<◌};
 
-use crate::pieces::{MIXED, WORDS, Words};
+use crate::pieces::MIXED;
 use crate::total::Total;
+use arrayvec::ArrayVec;
 use rule::Rule;
 use trial::trial_wheel::wheel::Wheel;
 use trial_sheets::trial_wide::stretches;
@@ -20,41 +21,71 @@ struct Wanted {
     pub value: u64,
 }
 
-fn all_wanted(rules: &[Rule]) -> Wanted {
-    let mut mask = 0;
-    let mut value = 0;
-    for rule in rules {
-        if rule.form == 7 {
-            mask = mask | rule.c1;
-            value = value | rule.c2;
-        }
+impl Wanted {
+    fn of(rules: &[Rule]) -> Wanted {
+        let none = Wanted { mask: 0, value: 0 };
+        let bits = rules.iter().filter(|rule| rule.form == 7);
+        bits.fold(
+            none,
+            |wanted, rule| Wanted {
+                mask: wanted.mask | rule.c1,
+                value: wanted.value | rule.c2,
+            },
+        )
     }
-    Wanted { mask, value }
+
+    // Whether the word of the wanted bits has not what one of the rules wants: then no word has it all.
+    fn is_clash(self, rules: &[Rule]) -> bool {
+        rules
+            .iter()
+            .any(|rule| rule.form == 7 && self.value & rule.c1 != rule.c2)
+    }
+
+    // Whether the word has the bits.
+    fn has(self, x: u64) -> bool {
+        x & self.mask == self.value
+    }
+
+    // How many words below p have the bits: those that part from p at a bit that p has and they lack, as p above it and free below where
+    // no rule looks. `free` is how many ways the bits below are free in.
+    fn below(self, p: u64) -> u64 {
+        let mut words: u64 = 0;
+        let mut free: u64 = 1;
+        for k in 0..BITS {
+            if self.parts(p, k) {
+                words = words.wrapping_add(free);
+            }
+            if self.mask >> k & 1 == 0 {
+                free = free.wrapping_add(free);
+            }
+        }
+        words
+    }
+
+    // Whether words that have the bits part from p at bit k.
+    fn parts(self, p: u64, k: u64) -> bool
+        requires { k < 64 }
+    {
+        let off = (p ^ 1 << k ^ self.value) & self.mask;
+        p >> k & 1 == 1 && off >> k == 0
+    }
 }
 
-// Whether the word of the wanted bits has not what one of the rules wants: then no word has it all.
-fn is_clash(rules: &[Rule], wanted: Wanted) -> bool {
-    rules
-        .iter()
-        .any(|rule| rule.form == 7 && wanted.value & rule.c1 != rule.c2)
-}
-
-// How many words fit.
+/// How many words fit.
 pub fn total(rules: &[Rule], wheel: Wheel) -> Total {
-    let top = wheel.top;
-    let wanted = all_wanted(rules);
+    let wanted = Wanted::of(rules);
     let mut total = Total::of(0);
-    let mut x = 0;
-    if is_clash(rules, wanted) {
+    if wanted.is_clash(rules) {
         return total;
     }
+    let mut x = 0;
     for _ in 0..STRETCHES {
         let end = stretches::around(rules, wheel, x).to;
         if stretches::holds(rules, wheel, x) {
-            let row = std::num::wrapping_sub_u64(below(wanted, end), below(wanted, x));
-            total = total.plus(row).plus(has(wanted, end));
+            let below = wanted.below(end).wrapping_sub(wanted.below(x));
+            total = total.plus(below).plus(u64::from(wanted.has(end)));
         }
-        if top <= end {
+        if wheel.top <= end {
             break;
         }
         x = end + 1;
@@ -62,61 +93,19 @@ pub fn total(rules: &[Rule], wheel: Wheel) -> Total {
     total
 }
 
-// 1 where the word has the bits, else 0.
-fn has(wanted: Wanted, x: u64) -> u64 {
-    if x & wanted.mask == wanted.value {
-        1
-    } else {
-        0
-    }
-}
-
-// How many words below p have the bits: those that part from p at a bit that p has and they lack, as p above it and free below where no rule
-// looks. `free` is how many ways the bits below are free in.
-fn below(wanted: Wanted, p: u64) -> u64 {
-    let mut words = 0;
-    let mut free = 1;
-    for k in 0..BITS {
-        if parts(wanted, p, k) {
-            words = std::num::wrapping_add_u64(words, free);
-        }
-        if wanted.mask >> k & 1 == 0 {
-            free = std::num::wrapping_add_u64(free, free);
-        }
-    }
-    words
-}
-
-// Whether words that have the bits part from p at bit k.
-fn parts(wanted: Wanted, p: u64, k: u64) -> bool
-    requires { k < 64 }
-{
-    if p >> k & 1 == 0 {
-        return false;
-    }
-    let off = (p ^ 1 << k ^ wanted.value) & wanted.mask;
-    off >> k == 0
-}
-
-// The first words from p on, as many as a listing in pieces of all sizes writes.
-pub fn words(rules: &[Rule], wheel: Wheel, p: u64) -> Words {
-    let mut list = [0; WORDS];
-    let mut n = 0;
+/// The first words from p on, as many as a listing in pieces of all sizes writes.
+pub fn words(rules: &[Rule], wheel: Wheel, p: u64) -> ArrayVec<u64, MIXED> {
+    let mut list = ArrayVec::new();
     let mut from = p;
-    for i in 0..MIXED {
+    for _ in 0..MIXED {
         let Some(x) = stretches::next(rules, wheel, from) else {
             break;
         };
-        list[i] = x;
-        n = i + 1;
+        let _ = list.try_push(x);
         if wheel.top <= x {
             break;
         }
         from = x + 1;
     }
-    Words {
-        list,
-        n,
-        top: wheel.top,
-    }
+    list
 }

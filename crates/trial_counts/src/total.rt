@@ -1,7 +1,8 @@
 // How many words there are, "given as two numbers, quotient and remainder by 2^32".
 use sheet::Sheet;
 
-#[derive(Clone, Copy)]
+/// Words by these two numbers.
+#[derive(Clone, Copy, PartialEq, Eq)]
 pub struct Total {
     pub quotient: u64,
     pub remainder: u64,
@@ -18,34 +19,32 @@ impl Total {
         }
     }
 
-    // So many more.
+    /// So many more.
     pub fn plus(self, words: u64) -> Total {
-        let low = std::num::wrapping_add_u64(self.remainder, words & LOW);
-        let high = std::num::wrapping_add_u64(self.quotient, words >> 32);
+        let low = self.remainder.wrapping_add(words & LOW);
+        let high = self.quotient.wrapping_add(words >> 32);
         Total {
-            quotient: std::num::wrapping_add_u64(high, low >> 32),
+            quotient: high.wrapping_add(low >> 32),
             remainder: low & LOW,
         }
     }
 
-    // The words of both.
+    /// The words of both.
     pub fn joined(self, more: Total) -> Total {
         let total = self.plus(more.remainder);
         Total {
-            quotient: std::num::wrapping_add_u64(total.quotient, more.quotient),
-            remainder: total.remainder,
+            quotient: total.quotient.wrapping_add(more.quotient),
+            ..total
         }
     }
 
-    // Whether counting the sheet gives just this.
+    /// Whether counting the sheet gives just this.
     pub fn is_counted(self, sheet: Sheet) -> bool {
         let share = counting::count(sheet);
-        if share.number != 0 {
-            return false;
-        }
-        if share.quotient != self.quotient {
-            return false;
-        }
-        share.remainder == self.remainder
+        let counted = Total {
+            quotient: share.quotient,
+            remainder: share.remainder,
+        };
+        share.number == 0 && counted == self
     }
 }

@@ -9,15 +9,18 @@
 // ways, of which a count tells three and a listing four.
 #![tactic(auto)]
 
-ghost use Rattle.std.specs.Prelude.{◌≤◌};
+ghost use Rattle.std.specs.Prelude.{◌≤◌, length};
+ghost use Rattle.rule.specs.Meaning.{RULES};
 ghost use Rattle.trial.specs.trial_direct.Trial.{Narrow};
 
+use arrayvec::ArrayVec;
 use rule::Rule;
+use std::io::Result;
 use trial::trial_direct::direct::{Row, Table};
 use trial::trial_direct::{direct, draw, rules};
 use trial_calls::sheets::{added, case2, opened_in};
 use trial_counts::pieces;
-use trial_counts::pieces::{WORDS, Words};
+use trial_counts::pieces::{SIZES, WORDS, Words};
 use trial_counts::seen::Seen;
 use trial_counts::total::Total;
 use trial_sheets::drawn as draws;
@@ -31,31 +34,22 @@ const WIDEST: u64 = 5;
 // How many sheets are drawn.
 const SHEETS: u64 = 200;
 
-// How many sizes of pieces there are, with all words in one.
-const SIZES: u64 = pieces::SIZES + 1;
-
 // The rooms that a listing from every word has.
 const PAIR: usize = 2;
 
 // The bits from which on a rule by itself is not listed from every word, so that the run stays short.
 const WIDE: u64 = 4;
 
-// How many expectations of the words of case 2 are wrong.
-const WRONG: u64 = 5;
-
-// These words, and one more.
-const LISTED: usize = 5;
-
-fn main() {
-    all_rules().print(b"rules");
-    drawn().print(b"drawn");
-    known().print(b"known");
+fn main(rt: HostRuntime) -> Result<()> {
+    all_rules().tell(&rt, "rules")?;
+    drawn().tell(&rt, "drawn")?;
+    known().tell(&rt, "known")
 }
 
 // Every rule by itself.
 fn all_rules() -> Seen {
     let mut seen = Seen::none();
-    for bits in 1..WIDEST + 1 {
+    for bits in 1..=WIDEST {
         seen = seen.plus(of_width(Width { bits }));
     }
     seen
@@ -79,11 +73,9 @@ fn of_width(width: Width) -> Seen
 // Sheets of any number of rules.
 fn drawn() -> Seen {
     let mut seen = Seen::none();
-    let mut seed = 0;
     let mut table = direct::BLANK;
-    for _ in 0..SHEETS {
-        seed = std::num::wrapping_add_u64(seed, draw::SPREAD);
-        seen = seen.plus(drawn_sheet(draw::next(draw::next(seed)), &mut table));
+    for i in 1..=SHEETS {
+        seen = seen.plus(drawn_sheet(draw::spread(0, i), &mut table));
     }
     seen
 }
@@ -97,87 +89,75 @@ fn drawn_sheet(s: u64, table: &mut Table) -> Seen {
 
 // The rules, counted and listed in both editions, from every word where that is asked for.
 fn on_sheet(rules: &[Rule], width: Width, each: bool, table: &mut Table) -> Seen
-    requires { Narrow width.bits }
+    requires narrow { Narrow width.bits }
+    requires n_bound { length rules.now ≤ RULES }
 {
     if !rules::all_lawful(rules, width) {
         return Seen::none();
     }
     direct::fill(rules, width, table);
-    let words = walked(&table[..rules.len().min(Rule::LIMIT)], direct::size(width));
-    let bits = width.bits;
-    let new = in_edition(Edition::New, bits, rules, words, each);
-    new.plus(in_edition(Edition::Old, bits, rules, words, each))
+    let size = direct::size(width);
+    let list = walked(&table[..rules.len()], size as usize);
+    let words = Words {
+        list: list.as_slice(),
+        top: size - 1,
+    };
+    let new = in_edition(Edition::New, width.bits, rules, words, each);
+    new.plus(in_edition(Edition::Old, width.bits, rules, words, each))
 }
 
 // All words that fit, one after another.
-fn walked(rows: &[Row], size: u64) -> Words
-    requires { (1 ≤ size) × (size ≤ 256) }
+fn walked(rows: &[Row], size: usize) -> ArrayVec<u64, WORDS>
+    requires { size ≤ 256 }
 {
-    let mut list = [0; WORDS];
-    let mut many = 0;
+    let mut list = ArrayVec::new();
     let mut p = 0;
-    for i in 0..WORDS {
-        let x = direct::up(rows, size as usize, p);
-        if size as usize <= x {
+    for _ in 0..WORDS {
+        let x = direct::up(rows, size, p);
+        if size <= x {
             break;
         }
-        list[i] = x as u64;
-        many = i + 1;
+        let _ = list.try_push(x as u64);
         p = x + 1;
     }
-    Words {
-        list,
-        n: many,
-        top: size - 1,
-    }
+    list
 }
 
 // A sheet that is refused is not the one that is expected, and differs.
 fn in_edition(edition: Edition, bits: u64, rules: &[Rule], words: Words, each: bool) -> Seen {
-    let answer = asked::filled(edition, bits, rules);
-    let sheet = answer.sheet;
-    let total = Total::of(words.n as u64);
+    let sheet = asked::filled(edition, bits, rules).sheet;
+    let total = Total::of(words.list.len() as u64);
     let mut seen = Seen::counted(total, total.is_counted(sheet));
-    for i in 0..SIZES {
-        seen = seen.plus(pieces::alike(sheet, words, pieces::size(i)));
+    for room in SIZES {
+        seen = seen.plus(pieces::alike(sheet, words, room));
     }
+    seen = seen.plus(pieces::alike(sheet, words, WORDS));
     if each {
         return seen.plus(pieces::from_each(sheet, words, PAIR));
     }
     seen
 }
 
-// The words of case 2, from 11 to 14, and what is wrong about them.
+// The words of case 2, from 11 to 14, and what is wrong about them: the last word is left out, the top word is one too many, a word stands
+// twice, a word does not fit, the quotient is 1.
 fn known() -> Seen {
-    let mut seen = Seen::none();
-    for wrong in 0..WRONG + 1 {
-        seen = seen.plus(spoilt(wrong));
-    }
-    seen
+    of_case2(&[11, 12, 13, 14], 0)
+        .plus(of_case2(&[11, 12, 13], 0))
+        .plus(of_case2(&[11, 12, 13, 14, 15], 0))
+        .plus(of_case2(&[11, 12, 12, 14], 0))
+        .plus(of_case2(&[10, 12, 13, 14], 0))
+        .plus(of_case2(&[11, 12, 13, 14], 1))
 }
 
-// The wrong one: 0 none, 1 the last word is left out, 2 the top word is one too many, 3 a word stands twice, 4 a word does not fit, 5 the
-// quotient is 1.
-fn spoilt(wrong: u64) -> Seen {
-    let mut list = [0; WORDS];
-    for i in 0..LISTED {
-        list[i] = 11 + i as u64;
-    }
-    let mut n = 4;
-    let mut quotient = 0;
-    match wrong {
-        0 => (),
-        1 => n = 3,
-        2 => n = 5,
-        3 => list[2] = 12,
-        4 => list[0] = 10,
-        _ => quotient = 1,
-    }
-    let words = Words { list, n, top: 15 };
+fn of_case2(list: &[u64], quotient: u64) -> Seen {
     let total = Total {
         quotient,
-        remainder: n as u64,
+        remainder: list.len() as u64,
     };
     let sheet = added(opened_in(4, Edition::New), case2());
-    Seen::counted(total, total.is_counted(sheet)).plus(pieces::alike(sheet, words, WORDS))
+    Seen::counted(total, total.is_counted(sheet)).plus(pieces::alike(
+        sheet,
+        Words { list, top: 15 },
+        WORDS,
+    ))
 }

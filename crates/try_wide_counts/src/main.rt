@@ -9,11 +9,12 @@
 ghost use Rattle.word.specs.Word.{IsWidth};
 
 use rule::Rule;
+use std::io::Result;
 use trial::trial_direct::draw;
 use trial::trial_wheel::bit_rules::FEW;
 use trial::trial_wheel::wheel::Wheel;
 use trial_calls::sheets::opened_in;
-use trial_counts::pieces::{WORDS, Words};
+use trial_counts::pieces::Words;
 use trial_counts::seen::Seen;
 use trial_counts::total::Total;
 use trial_counts::{pieces, runs};
@@ -30,18 +31,18 @@ const CORNERS: u64 = 6;
 // The widest word of the old edition.
 const OLD: u64 = 32;
 
-fn main() {
-    alone(31).print(b"31 alone");
-    alone(32).print(b"32 alone");
-    alone(33).print(b"33 alone");
-    alone(63).print(b"63 alone");
-    alone(64).print(b"64 alone");
-    drawn(31).print(b"31 drawn");
-    drawn(32).print(b"32 drawn");
-    drawn(33).print(b"33 drawn");
-    drawn(63).print(b"63 drawn");
-    drawn(64).print(b"64 drawn");
-    known().print(b"known");
+fn main(rt: HostRuntime) -> Result<()> {
+    alone(31).tell(&rt, "31 alone")?;
+    alone(32).tell(&rt, "32 alone")?;
+    alone(33).tell(&rt, "33 alone")?;
+    alone(63).tell(&rt, "63 alone")?;
+    alone(64).tell(&rt, "64 alone")?;
+    drawn(31).tell(&rt, "31 drawn")?;
+    drawn(32).tell(&rt, "32 drawn")?;
+    drawn(33).tell(&rt, "33 drawn")?;
+    drawn(63).tell(&rt, "63 drawn")?;
+    drawn(64).tell(&rt, "64 drawn")?;
+    known().tell(&rt, "known")
 }
 
 // Every rule with corners, by itself.
@@ -65,10 +66,8 @@ fn drawn(bits: u64) -> Seen
 {
     let mut seen = Seen::none();
     let wheel = Wheel::of(bits);
-    let mut seed = bits;
-    for _ in 0..SHEETS {
-        seed = std::num::wrapping_add_u64(seed, draw::SPREAD);
-        let s = draw::next(draw::next(seed));
+    for i in 1..=SHEETS {
+        let s = draw::spread(bits, i);
         let rules = sheets::drawn(s, wheel);
         seen = seen.plus(on_sheet(bits, &rules[..1 + s as usize % FEW]));
     }
@@ -91,29 +90,35 @@ fn in_edition(edition: Edition, bits: u64, rules: &[Rule]) -> Seen
     requires { IsWidth bits }
 {
     let wheel = Wheel::of(bits);
-    let answer = asked::filled(edition, bits, rules);
-    let sheet = answer.sheet;
+    let sheet = asked::filled(edition, bits, rules).sheet;
     let total = runs::total(rules, wheel);
     let mut seen = Seen::counted(total, total.is_counted(sheet));
     for i in 0..CORNERS {
         let start = wheel.corner(i);
-        seen = seen.plus(pieces::mixed(sheet, runs::words(rules, wheel, start), start));
+        let list = runs::words(rules, wheel, start);
+        let words = Words {
+            list: list.as_slice(),
+            top: wheel.top,
+        };
+        seen = seen.plus(pieces::mixed(sheet, words, start));
     }
     seen
 }
 
-// The free sheet of 64 bits. Its words make 2^32 times 2^32.
+// The free sheet of 64 bits, whose words make 2^32 times 2^32, with four wrong counts; and its last three words, with one that is left out,
+// one that stands twice, and one in the place of the last.
 fn known() -> Seen {
     let unit = 0x1_0000_0000;
+    let last = u64::MAX;
     counted(unit, 0)
         .plus(counted(0, 0))
         .plus(counted(0, unit))
         .plus(counted(unit, 1))
         .plus(counted(unit - 1, unit - 1))
-        .plus(listed(3, 0))
-        .plus(listed(2, 0))
-        .plus(listed(4, 0))
-        .plus(listed(3, 1))
+        .plus(listed(&[last - 2, last - 1, last]))
+        .plus(listed(&[last - 2, last - 1]))
+        .plus(listed(&[last - 2, last - 1, last, last]))
+        .plus(listed(&[last - 2, last - 1, last - 1]))
 }
 
 fn counted(quotient: u64, remainder: u64) -> Seen {
@@ -124,17 +129,11 @@ fn counted(quotient: u64, remainder: u64) -> Seen {
     Seen::counted(total, total.is_counted(opened_in(64, Edition::New)))
 }
 
-// The last three words, of which n are expected, and the last of them less so much.
-fn listed(n: usize, less: u64) -> Seen {
-    let start = u64::MAX - 2;
-    let mut list = [u64::MAX; WORDS];
-    list[0] = start;
-    list[1] = start + 1;
-    list[2] = u64::MAX - less % 2;
+// What is expected from the last word but two on.
+fn listed(list: &[u64]) -> Seen {
     let words = Words {
         list,
-        n,
         top: u64::MAX,
     };
-    pieces::at_once(opened_in(64, Edition::New), words, start)
+    pieces::at_once(opened_in(64, Edition::New), words, u64::MAX - 2)
 }
