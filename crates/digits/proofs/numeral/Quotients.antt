@@ -9,7 +9,7 @@ use native.Mathlib.Nat.{div-add-mod, div-lt_self, le-div_iff_mul-le, le-mul_of_p
 use native.Mathlib.Numerals.{add-one}
 use native.Mathlib.Omega.{arith}
 use borrow.Author.Tests.{le-leb, le-ltb, lt-leb, lt-ltb, ne_eqb}
-use lib.Dec.{eqb, ltb}
+use lib.Dec.{ltb}
 use lib.ListN.{length, length-append}
 use Rattle.digits.specs.hexadecimal.Hex.{glyph}
 use Rattle.digits.specs.declared.numeral.Numeral.{Numeral}

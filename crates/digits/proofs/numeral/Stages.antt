@@ -1,6 +1,6 @@
 -- What the tests of a stage say where it is none of theirs, and the lemmas that the goals of numbers want. Assumes nothing.
 use mathlib.Core.Path.{◌≡◌, refl}
-use mathlib.Core.Bool.{Bool, true, false}
+use mathlib.Core.Bool.{false}
 use borrow.Author.Tests.{eq-eqb, ne_eqb}
 use Rattle.digits.specs.declared.numeral.Stage.{Stage}
 use Rattle.digits.specs.declared.numeral.Stage.TheVariants.{Bad, Digits, Large, Start, Zero}
