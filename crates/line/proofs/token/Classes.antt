@@ -14,6 +14,9 @@ pub same_self : (c : Class) → same c c ≡ true
 same_self Blank = refl
 same_self c = refl
 
+pub same_equal : (a b : Class) → a ≡ b → same a b ≡ true
+same_equal a b e = rw e (same_self b)
+
 pub same_one : (a b : Class) → same a b ≡ true → a ≡ b
 same_one Blank Blank e = refl
 same_one Word Word e = refl
