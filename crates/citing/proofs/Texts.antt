@@ -1,6 +1,6 @@
 -- What the tests of a kind say, and the lemmas that the goals of citations want. Assumes nothing.
 use mathlib.Core.Path.{◌≡◌, refl}
-use mathlib.Core.Bool.{Bool, true, false}
+use mathlib.Core.Bool.{false}
 use borrow.Author.Tests.{eq-eqb, ne_eqb}
 use Rattle.line.specs.declared.grammar.kind.Kind.{Kind}
 use Rattle.line.specs.declared.grammar.kind.Kind.TheVariants.{Name, Number}

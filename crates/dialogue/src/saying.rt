@@ -8,7 +8,7 @@ ghost use Rattle.dialogue.specs.saying.Says.{Says, SetsGate, Shows, lent, limit_
 use crate::upshot::{Response, Upshot};
 use counting::Share;
 use line::Statement;
-use line::grammar::kind;
+use line::grammar::kind::Kind;
 use line::scan::{Amount, Mistake};
 use listing::Listing;
 use listing::blaming::why;
@@ -88,7 +88,7 @@ fn too_fine(sheet: Sheet, at: usize) -> Upshot
         sheet,
         Response::Mistaken(Mistake {
             at,
-            expected: kind::AMOUNT,
+            expected: Kind::Amount,
         }),
     )
 }

@@ -23,7 +23,7 @@ fn has_name(row: &[u8; MOST], name: &[u8]) -> bool
     0 < n
 }
 
-// The number of the first rule in force that has a name.
+/// The number of the first rule in force that has a name.
 #[tactic(auto, using(crate::proofs::by_name::SearchNumberOf::wanted), unfolding(crate::specs::by_name::Which::number_of))]
 pub fn number_of(names: &[[u8; MOST]; Rule::LIMIT], count: usize, name: &[u8]) -> Found
     ensures { result ≡ number_of names.now count name.now }
@@ -32,8 +32,7 @@ pub fn number_of(names: &[[u8; MOST]; Rule::LIMIT], count: usize, name: &[u8]) -
         if count <= i {
             return Found::Nothing;
         }
-        let row = names[i];
-        if has_name(&row, name) {
+        if has_name(&names[i], name) {
             return Found::At(i as u64);
         }
     }

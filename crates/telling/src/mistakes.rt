@@ -3,6 +3,7 @@
 use crate::printing::Told;
 use dialogue::upshot::Response;
 use line::Statement;
+use line::grammar::kind::Kind;
 use line::scan::{Mistake, Name};
 
 // Where mistakes are said.
@@ -163,13 +164,12 @@ fn is_of_number(row: u64) -> bool {
 }
 
 // Where the statement begins: after the name of its rule and the colon, where it has one.
-fn beginning(text: &[u8], name: Name) -> usize {
-    let first = line::piece::next(text, name.to);
-    if !name.named {
-        return first.from;
-    }
-    let second = line::piece::next(text, first.to);
-    second.from
+fn beginning(text: &[u8], name: Option<Name>) -> usize {
+    let Some(name) = name else {
+        return line::piece::next(text, 0).from;
+    };
+    let colon = line::piece::next(text, name.to);
+    line::piece::next(text, colon.to).from
 }
 
 // Whether a number is above the top word.
@@ -209,7 +209,7 @@ fn past(line: u64, b: u8) -> u64 {
     line
 }
 
-fn wide(kind: u8) -> u64 {
+fn wide(kind: Kind) -> u64 {
     kind as u64
 }
 

@@ -5,6 +5,7 @@ use crate::manner;
 use crate::manner::Manner;
 use coming::{Answer, EINTR, EPIPE};
 use dialogue::Dialogue;
+use line::scan::Name;
 use naming::MOST;
 use rule::Rule;
 use sheet::Sheet;
@@ -227,7 +228,7 @@ fn take_line(rt: &impl Print, run: Run, names: &mut [[u8; MOST]; Rule::LIMIT], t
     let sheet = after.sheet;
     run.dialogue = after;
     if !after.stopped {
-        let name = read.name;
+        let name = read.name.unwrap_or(Name { from: 0, to: 0 });
         let to = within(name.to, text);
         let from = up_to(name.from, to);
         naming::keep(&mut *names, statement, before.count, &text[from..to]);

@@ -5,7 +5,6 @@ mod errors;
 use chain::Link;
 use citing::Citation;
 use coming::{Answer, EINTR};
-use errors::RULE_NAME;
 use line::scan::{Mistake, Name};
 use naming::MOST;
 use rule::Rule;
@@ -221,14 +220,8 @@ fn named(
     let to = within(name.to, text);
     let from = up_to(name.from, to);
     let Found::At(number) = naming::by_name::number_of(names, reading.rules, &text[from..to]) else {
-        return mistaken(
-            reading,
-            text,
-            Mistake {
-                at: name.from,
-                expected: RULE_NAME,
-            },
-        );
+        errors::say_no_rule(reading.line, text, name.from);
+        return reading.stopped();
     };
     put_link(
         reading,

@@ -2,7 +2,7 @@
 use Rattle.std.specs.Prelude.{◌≡◌, List, ℕ, min}
 use Rattle.word.specs.declared.Edition.TheVariants.{New}
 use Rattle.gate.specs.declared.Gate.{Gate}
-use Rattle.line.specs.grammar.Kinds.{AMOUNT}
+use Rattle.line.specs.declared.grammar.kind.Kind.TheVariants as kinds
 use Rattle.watts.specs.declared.Limit.{Limit}
 use Rattle.watts.specs.declared.Limit.TheVariants.{Bits, TooFine}
 use Rattle.watts.specs.Watts.{limit_of}
@@ -85,7 +85,7 @@ abbrev pub limit_at : Amount → Limit
 limit_at a = limit_of a.numeral.minus a.numeral.value a.numeral.places
 
 abbrev pub too_fine : (at : ℕ) → Mistake
-too_fine at = mistake at AMOUNT
+too_fine at = mistake at kinds.Amount
 
 -- what a line on watts comes to
 pub data Wanted : Type 0 where

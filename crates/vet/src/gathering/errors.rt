@@ -1,20 +1,25 @@
 // Mistakes in a chain, on standard error: where, what was expected, the line, and a mark under the place. `+` stands for the name of the chain.
-use line::grammar::kind;
+use line::grammar::kind::Kind;
 use line::scan::Mistake;
 
 // Where mistakes are said.
 const STDERR: i32 = 2;
 
-// What is expected where a name is none of a rule: a kind past those of the grammar.
-pub const RULE_NAME: u8 = 42;
-
 // `+:3:5: error: expected a number`, the line, and a mark under the place.
 pub fn say(line: u64, text: &[u8], mistake: Mistake) {
-    let at = mistake.at as u64;
+    say_expected(line, text, mistake.at as u64, words_for(mistake.expected));
+}
+
+// `+:3:5: error: expected the name of a rule`, where a name is none of a rule.
+pub fn say_no_rule(line: u64, text: &[u8], at: usize) {
+    say_expected(line, text, at as u64, b"the name of a rule");
+}
+
+fn say_expected(line: u64, text: &[u8], at: u64, expected: &[u8]) {
     say_line(line);
     io::print_decimal(STDERR, std::num::wrapping_add_u64(at, 1));
     put(b": error: expected ");
-    say_expected(mistake.expected);
+    put(expected);
     put(b"\n");
     if line::LIMIT < text.len() {
         return;
@@ -43,13 +48,13 @@ fn say_line(line: u64) {
     put(b":");
 }
 
-fn say_expected(expected: u8) {
+// What a line of a chain says instead of a mistake's kind.
+fn words_for(expected: Kind) -> &'static [u8] {
     match expected {
-        kind::END => put(b"the end of the line"),
-        kind::NUMBER => put(b"a number"),
-        kind::RULE => put(b"a rule: its number or its name, or bits"),
-        RULE_NAME => put(b"the name of a rule"),
-        _ => put(b"a line of at most 1,024 bytes"),
+        Kind::End => b"the end of the line",
+        Kind::Number => b"a number",
+        Kind::Rule => b"a rule: its number or its name, or bits",
+        _ => b"a line of at most 1,024 bytes",
     }
 }
 

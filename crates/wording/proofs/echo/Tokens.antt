@@ -4,7 +4,6 @@ use mathlib.Core.Bool.{Bool, true, false, false≢true, ◌&&◌, cond}
 use mathlib.Core.List.{List, [], ◌∷◌, ◌++◌}
 use Prim.Native.Nat.{ℕ, suc, ◌+◌}
 use native.Mathlib.Nat.{add-suc, add-zero, suc-add}
-use native.Mathlib.Omega.{arith}
 use lib.ListN.{length}
 use Rattle.word.proofs.Tests.{both_pass}
 use Rattle.digits.specs.declared.numeral.Numeral.{Numeral}
