@@ -1,7 +1,7 @@
 -- A line as people write it, read into a statement, or into its first mistake.
 use Rattle.std.specs.Prelude.{Bool, ◌&&◌, ◌||◌, cond, List, [], ◌∷◌, ℕ, ◌-◌, eqb, ltb, get_or, length, Option, Some, None}
-use Rattle.word.specs.declared.Found.{Found}
-use Rattle.word.specs.declared.Found.TheVariants.{At, Nothing}
+use Rattle.std.specs.Prelude.{Option}
+use Rattle.std.specs.Prelude.{Some, None}
 use Rattle.line.specs.declared.grammar.Place.{Place}
 use Rattle.line.specs.grammar.Grammar.{NOT_ROW, ROWS, expected, is_whole}
 use Rattle.line.specs.declared.grammar.kind.Kind.{Kind}
@@ -62,9 +62,9 @@ unfoldable pub other : (row : ℕ) (first second : Amount) → Statement
 other row a b = get_or (others a b) (row - NOT_ROW) Blank
 
 -- a rule with a signed number, where a word has it
-unfoldable pub rule_with : (row : ℕ) (negated : Bool) (at : ℕ) → Found → Statement
-rule_with row negated at (At c) = said.Rule (rule_of row negated 0 c)
-rule_with row negated at Nothing = Wrong (mistake at SignedWord)
+unfoldable pub rule_with : (row : ℕ) (negated : Bool) (at : ℕ) → Option ℕ → Statement
+rule_with row negated at (Some c) = said.Rule (rule_of row negated 0 c)
+rule_with row negated at None = Wrong (mistake at SignedWord)
 
 -- the rows from `signed x <= m` to `-m <= signed x` have a signed number
 unfoldable pub rule_statement : ℕ → Scan → Statement

@@ -19,7 +19,7 @@ use crate::line_end::end_of;
 use crate::row_rules::{rule_of, signed_word};
 use crate::scan::{Amount, Mistake, Name, Scan};
 use rule::Rule;
-use word::{Found, Width};
+use word::Width;
 
 // Words to list: from a word on, and at most so many.
 #[derive(Clone, Copy)]
@@ -134,7 +134,7 @@ fn rule_statement(scan: Scan, width: Width) -> Statement
     if row < 9 || row == 13 {
         return Statement::Rule(rule_of(row, scan.negated, n.value, m.value));
     }
-    let Found::At(c) = signed_word(width, m.minus, m.value) else {
+    let Some(c) = signed_word(width, m.minus, m.value) else {
         return Statement::Wrong(Mistake {
             at: scan.second.at,
             expected: Kind::SignedWord,

@@ -6,7 +6,7 @@ ghost use Rattle.line.specs.row_rules.Rules.{rule_at, rule_of, signed_word};
 ghost use Rattle.rule.specs.Meaning.{rule};
 
 use rule::Rule;
-use word::{Found, Width};
+use word::Width;
 
 // The rule of a row with two numbers, the one or the other way round after `not`.
 pub fn rule_of(row: usize, negated: bool, n: u64, m: u64) -> Rule
@@ -59,19 +59,19 @@ fn rule(form: u64, sense: u64, c1: u64, c2: u64) -> Rule
 
 // The word whose signed reading is a number, where a word of the width has it.
 #[tactic(auto, using(crate::proofs::row_rules::SearchSignedWord::wanted), unfolding(crate::specs::row_rules::Rules::signed_word))]
-pub fn signed_word(width: Width, minus: bool, n: u64) -> Found
+pub fn signed_word(width: Width, minus: bool, n: u64) -> Option<u64>
     requires { IsWidth width.bits }
     ensures { result ≡ signed_word width.bits minus n }
 {
     let half = width.half();
     if half < n {
-        return Found::Nothing;
+        return None;
     }
     if minus {
-        return Found::At(width.sub(0, n));
+        return Some(width.sub(0, n));
     }
     if half == n {
-        return Found::Nothing;
+        return None;
     }
-    Found::At(n)
+    Some(n)
 }

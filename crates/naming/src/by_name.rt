@@ -5,7 +5,6 @@ ghost use Rattle.naming.specs.by_name.Which.{has_name, number_of};
 
 use crate::MOST;
 use rule::Rule;
-use word::Found;
 
 // Whether the name in a row is this one.
 fn has_name(row: &[u8; MOST], name: &[u8]) -> bool
@@ -25,16 +24,16 @@ fn has_name(row: &[u8; MOST], name: &[u8]) -> bool
 
 /// The number of the first rule in force that has a name.
 #[tactic(auto, using(crate::proofs::by_name::SearchNumberOf::wanted), unfolding(crate::specs::by_name::Which::number_of))]
-pub fn number_of(names: &[[u8; MOST]; Rule::LIMIT], count: usize, name: &[u8]) -> Found
+pub fn number_of(names: &[[u8; MOST]; Rule::LIMIT], count: usize, name: &[u8]) -> Option<u64>
     ensures { result ≡ number_of names.now count name.now }
 {
     for i in 0..Rule::LIMIT {
         if count <= i {
-            return Found::Nothing;
+            return None;
         }
         if has_name(&names[i], name) {
-            return Found::At(i as u64);
+            return Some(i as u64);
         }
     }
-    Found::Nothing
+    None
 }

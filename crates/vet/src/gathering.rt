@@ -12,7 +12,6 @@ use std::fs;
 use std::io::Read;
 use std::rt::Files;
 use telling::printing::{up_to, within};
-use word::Found;
 
 // The most links of a chain, the numbers that they take, and those with the line of each after them.
 pub const LINKS: usize = 32768;
@@ -219,7 +218,7 @@ fn named(
     let name = cited.name;
     let to = within(name.to, text);
     let from = up_to(name.from, to);
-    let Found::At(number) = naming::by_name::number_of(names, reading.rules, &text[from..to]) else {
+    let Some(number) = naming::by_name::number_of(names, reading.rules, &text[from..to]) else {
         errors::say_no_rule(reading.line, text, name.from);
         return reading.stopped();
     };

@@ -12,7 +12,7 @@ use lib.Dec.{eqb, leb, ltb}
 use lib.IntN.{ℤ, pos, negsuc}
 use lib.Signed.{le_z}
 use Rattle.word.specs.Word.{half, minus, plus, signed, top}
-use Rattle.word.specs.declared.Found.TheVariants.{At, Nothing}
+use Rattle.std.specs.Prelude.{Some, None}
 use Rattle.word.proofs.Signed.{high, low}
 use Rattle.word.proofs.Sums.{minus_cases, plus_cases}
 use Rattle.word.proofs.Widths.{half_pos, halves}
@@ -64,18 +64,18 @@ module _ (w : ℕ) (width : 1 ≤ w) where
       high w (minus w 0 (suc n)) (omega (arith, halves w width)) (omega arith) ∙ ap negsuc d
 
   -- the word of a signed number reads as that number
-  pub reads_back : (b : Bool) (n c : ℕ) → signed_word w b n ≡ At c → signed w c ≡ integer b n
+  pub reads_back : (b : Bool) (n c : ℕ) → signed_word w b n ≡ Some c → signed w c ≡ integer b n
   unfolding signed_word
   reads_back true n c e = go (dec_le n (half w)) e
     where
-      go : Dec (n ≤ half w) → cond (leb n (half w)) (At (minus w 0 n)) Nothing ≡ At c → signed w c ≡ integer true n
-      go (yes h) e = let s : At (minus w 0 n) ≡ At c = rw (le-leb n (half w) h) at e in let t : minus w 0 n ≡ c = cc in ap (signed w) (sym t) ∙ negative n h
-      go (no h) e = let s : Nothing ≡ At c = rw (lt-leb n (half w) (omega arith)) at e in let z : ◌≡◌ {A = ℕ} 0 1 = cc in absurd (omega arith)
+      go : Dec (n ≤ half w) → cond (leb n (half w)) (Some (minus w 0 n)) None ≡ Some c → signed w c ≡ integer true n
+      go (yes h) e = let s : Some (minus w 0 n) ≡ Some c = rw (le-leb n (half w) h) at e in let t : minus w 0 n ≡ c = cc in ap (signed w) (sym t) ∙ negative n h
+      go (no h) e = let s : None ≡ Some c = rw (lt-leb n (half w) (omega arith)) at e in let z : ◌≡◌ {A = ℕ} 0 1 = cc in absurd (omega arith)
   reads_back false n c e = go (dec_lt n (half w)) e
     where
-      go : Dec (n < half w) → cond (ltb n (half w)) (At n) Nothing ≡ At c → signed w c ≡ integer false n
-      go (yes h) e = let s : At n ≡ At c = rw (lt-ltb n (half w) h) at e in let t : n ≡ c = cc in ap (signed w) (sym t) ∙ low w n h
-      go (no h) e = let s : Nothing ≡ At c = rw (le-ltb n (half w) (omega arith)) at e in let z : ◌≡◌ {A = ℕ} 0 1 = cc in absurd (omega arith)
+      go : Dec (n < half w) → cond (ltb n (half w)) (Some n) None ≡ Some c → signed w c ≡ integer false n
+      go (yes h) e = let s : Some n ≡ Some c = rw (lt-ltb n (half w) h) at e in let t : n ≡ c = cc in ap (signed w) (sym t) ∙ low w n h
+      go (no h) e = let s : None ≡ Some c = rw (le-ltb n (half w) (omega arith)) at e in let z : ◌≡◌ {A = ℕ} 0 1 = cc in absurd (omega arith)
 
 module _ (w m x : ℕ) (z : ℤ) (same : signed w m ≡ z) where
   pub means_signed_at_most : (n : ℕ) → (meets w (rule_at 9 n m) x ≡ le_z (signed w x) z) × (meets w (rule_at 10 n m) x ≡ le_z (signed w x) z)

@@ -1,8 +1,8 @@
 -- The rules that rows of the grammar are, and the words that signed numbers are.
 use Rattle.std.specs.Prelude.{Bool, true, false, cond, List, [], ◌∷◌, ℕ, eqb, leb, ltb, get_or}
 use Rattle.word.specs.Word.{half, minus}
-use Rattle.word.specs.declared.Found.{Found}
-use Rattle.word.specs.declared.Found.TheVariants.{At, Nothing}
+use Rattle.std.specs.Prelude.{Option}
+use Rattle.std.specs.Prelude.{Some, None}
 use Rattle.rule.specs.declared.Rule.{Rule}
 use Rattle.rule.specs.Meaning.{rule}
 use Rattle.rule.specs.accept.Accept.{no_rule}
@@ -40,6 +40,6 @@ rule_of row false n m = rule_at row n m
 
 -- The word whose signed reading is n, or minus n: "s(a) is a where a < half, else a - 2^w". No word has what is half or more, or less
 -- than minus half.
-unfoldable pub signed_word : (w : ℕ) (below : Bool) (n : ℕ) → Found
-signed_word w true n = cond (leb n (half w)) (At (minus w 0 n)) Nothing
-signed_word w false n = cond (ltb n (half w)) (At n) Nothing
+unfoldable pub signed_word : (w : ℕ) (below : Bool) (n : ℕ) → Option ℕ
+signed_word w true n = cond (leb n (half w)) (Some (minus w 0 n)) None
+signed_word w false n = cond (ltb n (half w)) (Some n) None

@@ -8,7 +8,7 @@ use borrow.Author.Tests.{eq-eqb, ne_eqb}
 use lib.Dec.{eqb}
 use lib.ListN.{drop, drop_of_length-le, get_or, length, length-take, take}
 use lib.Seq.{drop-cons, get_or-take}
-use Rattle.word.specs.declared.Found.TheVariants.{At, Nothing}
+use Rattle.std.specs.Prelude.{Some, None}
 use Rattle.naming.specs.Names.{before_zero, name_in}
 use Rattle.naming.specs.by_name.Which.{has_name, number_from, same}
 
@@ -66,7 +66,7 @@ unfolding has_name name_in before_zero same
 unnamed [] = refl
 unnamed (b ∷ name) = refl
 
-step : (name : List ℕ) (l : List (List ℕ)) (i j : ℕ) → number_from j (drop i l) name ≡ cond (has_name name (get_or l i [])) (At j) (number_from (suc j) (drop (suc i) l) name)
+step : (name : List ℕ) (l : List (List ℕ)) (i j : ℕ) → number_from j (drop i l) name ≡ cond (has_name name (get_or l i [])) (Some j) (number_from (suc j) (drop (suc i) l) name)
 unfolding number_from
 step name [] zero j = rw unnamed
 step name [] (suc i) j = rw unnamed
@@ -75,10 +75,10 @@ step name (row ∷ l) (suc i) j = step name l i j
 
 -- the rows from one on, of so many
 pub from_on : (name : List ℕ) (rows : List (List ℕ)) (m i : ℕ) → i < m
-    → number_from i (drop i (take m rows)) name ≡ cond (has_name name (get_or rows i [])) (At i) (number_from (suc i) (drop (suc i) (take m rows)) name)
+    → number_from i (drop i (take m rows)) name ≡ cond (has_name name (get_or rows i [])) (Some i) (number_from (suc i) (drop (suc i) (take m rows)) name)
 from_on name rows m i h = rw (← get_or-take m rows i [] h) (step name (take m rows) i i)
 
 -- no row is left
-pub none_on : (name : List ℕ) (rows : List (List ℕ)) (m i : ℕ) → m ≤ i → number_from i (drop i (take m rows)) name ≡ Nothing
+pub none_on : (name : List ℕ) (rows : List (List ℕ)) (m i : ℕ) → m ≤ i → number_from i (drop i (take m rows)) name ≡ None
 unfolding number_from
 none_on name rows m i h = rw (drop_of_length-le (take m rows) {i = i} (omega (arith, length-take m rows)))

@@ -5,7 +5,7 @@ use mathlib.Core.Bool.{Bool, true, false, cond}
 use mathlib.Core.List.{List, [], ◌∷◌}
 use Prim.Native.Nat.{ℕ}
 use Rattle.std.specs.Prelude.{Option, None}
-use Rattle.word.specs.declared.Found.TheVariants.{At}
+use Rattle.std.specs.Prelude.{Some}
 use Rattle.rule.specs.declared.Rule.{Rule}
 use Rattle.rule.specs.Meaning.{rule}
 use Rattle.line.specs.grammar.Grammar.{NAME_ROW, ROWS, agree, follow, goes_on, is_watts, is_whole, row_at, start_at}
@@ -76,7 +76,7 @@ integer true n = below n
 integer false n = number n
 
 -- a signed number, where it is that of a word
-pub signed_rows : (after minus : Bool) (z : Opening) (w n c : ℕ) → signed_word w minus n ≡ At c
+pub signed_rows : (after minus : Bool) (z : Opening) (w n c : ℕ) → signed_word w minus n ≡ Some c
     → Both after z w (the Signed ∷ the X ∷ the AtMost ∷ integer minus n ∷ []) 4 c 0
     × Both after z w (integer minus n ∷ the AtMost ∷ the Signed ∷ the X ∷ []) 5 c 0
 unfolding followed scanning.followed accepted is_number negated numbered placed with_token agree goes_on follow is_watts is_whole row_at by_row finished nothing_read rule_statement rule_at rule_of rule_with

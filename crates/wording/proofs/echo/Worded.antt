@@ -11,7 +11,7 @@ use borrow.Author.Tests.{le-leb, lt-ltb}
 use lib.Dec.{eqb, eqb-suc-zero}
 use lib.Pow.{pow_mono}
 use Rattle.word.specs.Word.{IsWidth, half, minus, top}
-use Rattle.word.specs.declared.Found.TheVariants.{At}
+use Rattle.std.specs.Prelude.{Some}
 use Rattle.word.proofs.Sums.{minus_cases, minus_word}
 use Rattle.word.proofs.Widths.{half_pos, halves, top-suc}
 use Rattle.rule.specs.declared.Rule.{Rule}
@@ -85,7 +85,7 @@ module _ (w : ℕ) (width : IsWidth w) (c : ℕ) (word : c ≤ top w) where
     size : ℕ
     fits : size ≤ 2 ^ 64 - 1
     text : signedly w c ≡ spaced (integer minus_sign size ∷ [])
-    back : signed_word w minus_sign size ≡ At c
+    back : signed_word w minus_sign size ≡ Some c
 
   read_so : Read
   unfolding signed_word
@@ -107,7 +107,7 @@ module _ (w : ℕ) (width : IsWidth w) (c : ℕ) (word : c ≤ top w) where
             size = m;
             fits = omega (arith, large);
             text = signed_high w c (omega arith);
-            back = rw (le-leb m (half w) (omega arith)) (ap At d);
+            back = rw (le-leb m (half w) (omega arith)) (ap Some d);
           }
 
 right_integer : (b : Bool) (n : ℕ) → n ≤ 2 ^ 64 - 1 → Right (integer b n)
