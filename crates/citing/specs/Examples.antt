@@ -2,7 +2,7 @@
 use Rattle.std.specs.Prelude.{List, [], ◌∷◌, ℕ}
 use Rattle.digits.specs.hexadecimal.Text.{bytes_of}
 use Rattle.chain.specs.Links.{link}
-use Rattle.line.specs.grammar.Kinds.{END, NUMBER, RULE}
+use Rattle.line.specs.declared.grammar.kind.Kind.TheVariants as kinds
 use Rattle.line.specs.Line.{mistake}
 use Rattle.citing.specs.declared.Citation.{Citation}
 use Rattle.citing.specs.declared.Citation.TheVariants.{Named, Nothing, Numbered, Wrong}
@@ -26,8 +26,8 @@ examples =
     ∷ example (bytes_of "# 0 3 bits") Nothing
     ∷ example [] Nothing
     -- the first word that should be something else
-    ∷ example (bytes_of "late 3 2") (Wrong (mistake 0 NUMBER))
-    ∷ example (bytes_of "0 late 2") (Wrong (mistake 2 NUMBER))
-    ∷ example (bytes_of "0 3") (Wrong (mistake 3 RULE))
-    ∷ example (bytes_of "0 3 2 4") (Wrong (mistake 6 END))
+    ∷ example (bytes_of "late 3 2") (Wrong (mistake 0 kinds.Number))
+    ∷ example (bytes_of "0 late 2") (Wrong (mistake 2 kinds.Number))
+    ∷ example (bytes_of "0 3") (Wrong (mistake 3 kinds.Rule))
+    ∷ example (bytes_of "0 3 2 4") (Wrong (mistake 6 kinds.End))
     ∷ []

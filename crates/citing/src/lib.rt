@@ -6,13 +6,12 @@ pub mod linked;
 ghost use Rattle.std.specs.Prelude.{◌≡◌};
 ghost use Rattle.citing.specs.Citation.{citation, cited, is_reason, lab_says, said, wrong_at};
 
-use crate::linked::Linked;
 use chain::Link;
-use line::grammar::kind;
+use line::grammar::kind::Kind;
 use line::piece::Piece;
 use line::scan::{Mistake, Name};
 
-// What a line says: nothing; a link of three numbers; one whose reason is a name at a place of the line; or where it is wrong.
+/// What a line says: nothing; a link of three numbers; one whose reason is a name at a place of the line; or where it is wrong.
 #[derive(Clone, Copy)]
 pub enum Citation {
     Nothing,
@@ -21,22 +20,22 @@ pub enum Citation {
     Wrong(Mistake),
 }
 
-// The letters of `bits`, packed.
-const BITS_TEXT: u64 = 0x62697473;
+// The word that stands for the bits.
+const BITS: &str = "bits";
 
-// The line, without its byte 10.
+/// The line, without its byte 10.
 pub fn read(line: &[u8]) -> Citation
     ensures { result ≡ citation line.now }
 {
     if line::LIMIT < line.len() {
         return Citation::Wrong(Mistake {
             at: line::LIMIT,
-            expected: kind::SHORTER_LINE,
+            expected: Kind::ShorterLine,
         });
     }
     match crate::linked::read(line) {
-        Linked::At(link) => Citation::Numbered(link),
-        Linked::Nothing => lab_says(line),
+        Some(link) => Citation::Numbered(link),
+        None => lab_says(line),
     }
 }
 
@@ -52,39 +51,41 @@ fn lab_says(line: &[u8]) -> Citation
 }
 
 // What the first four words of a line say: FROM, TO, RULE, and then nothing.
+#[tactic(auto, using(crate::proofs::Texts::wanted), unfolding(crate::specs::Citation::said))]
 fn said(first: Piece, second: Piece, third: Piece, fourth: Piece) -> Citation
     ensures { result ≡ said first second third fourth }
 {
-    if first.kind == kind::END {
+    if first.kind == Kind::End {
         return Citation::Nothing;
     }
-    if first.kind != kind::NUMBER {
-        return wrong_at(first, kind::NUMBER);
+    if first.kind != Kind::Number {
+        return wrong_at(first, Kind::Number);
     }
-    if second.kind != kind::NUMBER {
-        return wrong_at(second, kind::NUMBER);
+    if second.kind != Kind::Number {
+        return wrong_at(second, Kind::Number);
     }
     if !is_reason(third.kind) {
-        return wrong_at(third, kind::RULE);
+        return wrong_at(third, Kind::Rule);
     }
-    if fourth.kind != kind::END {
-        return wrong_at(fourth, kind::END);
+    if fourth.kind != Kind::End {
+        return wrong_at(fourth, Kind::End);
     }
     cited(first.value, second.value, third)
 }
 
 // The link, whose reason is a number, the bits, or what a name stands for.
+#[tactic(auto, using(crate::proofs::Texts::wanted), unfolding(crate::specs::Citation::cited))]
 fn cited(from: u64, to: u64, reason: Piece) -> Citation
     ensures { result ≡ cited from to reason }
 {
-    if reason.kind == kind::NUMBER {
+    if reason.kind == Kind::Number {
         return Citation::Numbered(Link {
             from,
             to,
             reason: reason.value,
         });
     }
-    if reason.text == BITS_TEXT {
+    if reason.text == line::grammar::pack(BITS.as_bytes()) {
         return Citation::Numbered(Link {
             from,
             to,
@@ -98,23 +99,22 @@ fn cited(from: u64, to: u64, reason: Piece) -> Citation
             reason: 0,
         },
         Name {
-            named: true,
             from: reason.from,
             to: reason.to,
         },
     )
 }
 
-fn is_reason(kind: u8) -> bool
+// Whether a kind is one of reasons: a number or a name.
+#[tactic(auto, using(crate::proofs::Texts::wanted), unfolding(crate::specs::Citation::is_reason))]
+fn is_reason(kind: Kind) -> bool
     ensures { result ≡ is_reason kind }
 {
-    if kind == kind::NUMBER {
-        return true;
-    }
-    kind == kind::NAME
+    matches!(kind, Kind::Number | Kind::Name)
 }
 
-fn wrong_at(piece: Piece, expected: u8) -> Citation
+#[tactic(auto, using(crate::proofs::Texts::wanted), unfolding(crate::specs::Citation::wrong_at))]
+fn wrong_at(piece: Piece, expected: Kind) -> Citation
     ensures { result ≡ wrong_at piece expected }
 {
     Citation::Wrong(Mistake {

@@ -8,26 +8,19 @@ use chain::Link;
 use frame::fields::{Field, LINKED};
 use word::Edition;
 
-// What a line is: a link, or none.
-#[derive(Clone, Copy)]
-pub enum Linked {
-    At(Link),
-    Nothing,
-}
-
-// The link that a line is, without its byte 10 and a byte 13 before it.
-pub fn read(line: &[u8]) -> Linked
+/// The link that a line is, if it is one, without its byte 10 and a byte 13 before it.
+pub fn read(line: &[u8]) -> Option<Link>
     ensures { result ≡ link_in line.now }
 {
     let end = bare_end(line);
     let bare = &line[..end];
     if is_link(bare, Edition::Old) {
-        return Linked::At(link_of(bare, Edition::Old));
+        return Some(link_of(bare, Edition::Old));
     }
     if is_link(bare, Edition::New) {
-        return Linked::At(link_of(bare, Edition::New));
+        return Some(link_of(bare, Edition::New));
     }
-    Linked::Nothing
+    None
 }
 
 // Whether a line is a link of an edition.

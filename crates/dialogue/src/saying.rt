@@ -9,12 +9,11 @@ ghost use Rattle.dialogue.specs.saying.Says.{Calls, Lent, Says, Shows, at_least,
 use crate::upshot::{Response, Stop};
 use gate::{Gate, Span};
 use line::Statement;
-use line::grammar::kind;
+use line::grammar::kind::Kind;
 use line::scan::{Amount, Mistake};
 use listing::Listing;
 use page::Opening;
 use sheet::{Answer, Sheet};
-use watts::Limit;
 use word::Edition;
 
 /// Does what a statement says. What it opens and adds is of the new edition. A chain, or the numbers of rules that a word fails, are
@@ -111,10 +110,10 @@ fn limit_at(amount: Amount) -> Result<f32, Mistake>
 {
     let numeral = amount.numeral;
     match watts::nearest(numeral.minus, numeral.value, numeral.places) {
-        Limit::Bits(bits) => Ok(outside::on_words::watts(bits)),
-        Limit::TooFine => Err(Mistake {
+        Some(bits) => Ok(outside::on_words::watts(bits)),
+        None => Err(Mistake {
             at: amount.at,
-            expected: kind::AMOUNT,
+            expected: Kind::Amount,
         }),
     }
 }

@@ -1,3 +1,4 @@
 pub mod SearchNumeralDigit
 pub mod Fit
 pub mod Quotients
+pub mod Stages

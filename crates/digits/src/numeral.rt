@@ -3,15 +3,56 @@
 mod writing;
 
 ghost use Rattle.std.specs.Prelude.{◌≡◌, ◌<◌};
-ghost use Rattle.digits.specs.numeral.Numeral.{PLACES, after_zero, below_zero, digit, in_base, next, past_digit, past_place, pointed, start, stopped, value_of};
+ghost use Rattle.digits.specs.numeral.Numeral.{PLACES, after_zero, below_zero, digit, has_digits, in_base, is_stopped, next, past_digit, past_place, pointed, start, stopped, value_of};
 
 pub use writing::put_digits;
+
+/// How far a number has come.
+#[derive(Clone, Copy, PartialEq, Eq)]
+pub enum Stage {
+    /// Nothing is read.
+    Start,
+    /// A lone 0 is read, which the letter of a base may follow.
+    Zero,
+    /// Digits are read.
+    Digits,
+    /// A digit has to follow.
+    Needs,
+    /// It is no number.
+    Bad,
+    /// It is a number past 64 bits.
+    Large,
+}
+
+impl Stage {
+    // Whether digits are read, and no letter of a base.
+    #[tactic(auto, using(crate::proofs::numeral::Stages::no_digits))]
+    fn has_digits(self) -> bool
+        ensures { result ≡ has_digits self }
+    {
+        match self {
+            Stage::Zero | Stage::Digits => true,
+            _ => false,
+        }
+    }
+
+    // Whether nothing more is read.
+    #[tactic(auto, using(crate::proofs::numeral::Stages::not_stopped))]
+    fn is_stopped(self) -> bool
+        ensures { result ≡ is_stopped self }
+    {
+        match self {
+            Stage::Bad | Stage::Large => true,
+            _ => false,
+        }
+    }
+}
 
 // What is read so far: how far it has come, whether it is below zero, its base, whether its point was read, its digits as one
 // whole number, and how many of them stand after the point.
 #[derive(Clone, Copy)]
 pub struct Numeral {
-    pub stage: u64,
+    pub stage: Stage,
     pub minus: bool,
     pub base: u64,
     pub point: bool,
@@ -20,19 +61,6 @@ pub struct Numeral {
 }
 
 impl Numeral {
-    // Nothing is read; a lone 0, which a base may follow; digits; what wants a digit after it; no number; a number past 64 bits.
-    pub const START: u64 = 0;
-
-    pub const ZERO: u64 = 1;
-
-    pub const DIGITS: u64 = 2;
-
-    pub const NEEDS: u64 = 3;
-
-    pub const BAD: u64 = 4;
-
-    pub const LARGE: u64 = 5;
-
     // The most digits after the point.
     pub const PLACES: u64 = 9;
 
@@ -41,7 +69,7 @@ impl Numeral {
         ensures { result ≡ start }
     {
         Numeral {
-            stage: Numeral::START,
+            stage: Stage::Start,
             minus: false,
             base: 10,
             point: false,
@@ -51,29 +79,30 @@ impl Numeral {
     }
 
     // One letter more.
+    #[tactic(auto, using(crate::proofs::numeral::Stages::wanted), unfolding(crate::specs::numeral::Numeral::next))]
     pub fn next(self, b: u8) -> Numeral
         ensures { result ≡ next self b }
     {
-        let stage = self.stage;
         if b == b'-' {
             return self.below_zero();
         }
         if b == b'.' {
             return self.pointed();
         }
-        if stage == Numeral::ZERO {
+        if self.stage == Stage::Zero {
             return self.after_zero(b);
         }
         self.digit(value_of(b))
     }
 
     // A minus stands first, or nowhere.
+    #[tactic(auto, using(crate::proofs::numeral::Stages::wanted), unfolding(crate::specs::numeral::Numeral::below_zero))]
     fn below_zero(self) -> Numeral
         ensures { result ≡ below_zero self }
     {
-        if self.stage == Numeral::START {
+        if self.stage == Stage::Start {
             return Numeral {
-                stage: Numeral::NEEDS,
+                stage: Stage::Needs,
                 minus: true,
                 base: 10,
                 point: false,
@@ -81,27 +110,25 @@ impl Numeral {
                 places: 0,
             };
         }
-        stopped(Numeral::BAD)
+        stopped(Stage::Bad)
     }
 
     // A point stands once, between digits of a decimal number.
+    #[tactic(auto, using(crate::proofs::numeral::Stages::wanted), unfolding(crate::specs::numeral::Numeral::pointed))]
     fn pointed(self) -> Numeral
         ensures { result ≡ pointed self }
     {
         if self.base != 10 {
-            return stopped(Numeral::BAD);
+            return stopped(Stage::Bad);
         }
         if self.point {
-            return stopped(Numeral::BAD);
+            return stopped(Stage::Bad);
         }
-        if self.stage < Numeral::ZERO {
-            return stopped(Numeral::BAD);
-        }
-        if Numeral::DIGITS < self.stage {
-            return stopped(Numeral::BAD);
+        if !self.stage.has_digits() {
+            return stopped(Stage::Bad);
         }
         Numeral {
-            stage: Numeral::NEEDS,
+            stage: Stage::Needs,
             minus: self.minus,
             base: 10,
             point: true,
@@ -111,6 +138,7 @@ impl Numeral {
     }
 
     // After a lone 0 stands the letter of a base, or a digit.
+    #[tactic(auto, using(crate::proofs::numeral::Stages::wanted), unfolding(crate::specs::numeral::Numeral::after_zero))]
     fn after_zero(self, b: u8) -> Numeral
         ensures { result ≡ after_zero self b }
     {
@@ -128,7 +156,7 @@ impl Numeral {
         ensures { result ≡ in_base base self.minus }
     {
         Numeral {
-            stage: Numeral::NEEDS,
+            stage: Stage::Needs,
             minus: self.minus,
             base,
             point: false,
@@ -144,17 +172,17 @@ impl Numeral {
     {
         let base = self.base;
         let value = self.value;
-        if Numeral::BAD <= self.stage {
+        if self.stage.is_stopped() {
             return stopped(self.stage);
         }
         if base <= d {
-            return stopped(Numeral::BAD);
+            return stopped(Stage::Bad);
         }
         if Numeral::PLACES <= self.places {
-            return stopped(Numeral::BAD);
+            return stopped(Stage::Bad);
         }
         if (u64::MAX - d) / base < value {
-            return stopped(Numeral::LARGE);
+            return stopped(Stage::Large);
         }
         Numeral {
             stage: past_digit(self.stage, d),
@@ -168,7 +196,7 @@ impl Numeral {
 }
 
 // No number, or one that is too large.
-fn stopped(stage: u64) -> Numeral
+fn stopped(stage: Stage) -> Numeral
     ensures { result ≡ stopped stage }
 {
     Numeral {
@@ -182,15 +210,14 @@ fn stopped(stage: u64) -> Numeral
 }
 
 // The stage after a digit: a first 0 stands alone as yet.
-fn past_digit(stage: u64, d: u64) -> u64
+#[tactic(auto, using(crate::proofs::numeral::Stages::wanted), unfolding(crate::specs::numeral::Numeral::past_digit))]
+fn past_digit(stage: Stage, d: u64) -> Stage
     ensures { result ≡ past_digit stage d }
 {
-    if stage == Numeral::START {
-        if d == 0 {
-            return Numeral::ZERO;
-        }
+    if stage == Stage::Start && d == 0 {
+        return Stage::Zero;
     }
-    Numeral::DIGITS
+    Stage::Digits
 }
 
 // A digit after the point is one more.

@@ -1,2 +1,1 @@
-pub mod SearchClassIsSign
-pub mod SearchClassIsBlank
+pub mod Classes

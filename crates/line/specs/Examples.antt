@@ -1,25 +1,12 @@
 -- Lines of a sheet as one table: the width, the line, and what it says, read off docs/VET.md by hand. Places go from 0.
-use Rattle.std.specs.Prelude.{Bool, true, false, List, [], ◌∷◌, ◌++◌, ℕ, replicate}
+use Rattle.std.specs.Prelude.{Bool, true, false, List, [], ◌∷◌, ◌++◌, ℕ, replicate, Some, None}
 use Prim.Native.String.{String}
 use Rattle.digits.specs.hexadecimal.Text.{bytes_of}
 use Rattle.rule.specs.Meaning.{rule}
-use Rattle.digits.specs.numeral.Numeral.{DIGITS, numeral}
-use Rattle.line.specs.grammar.Kinds.{
-  AMOUNT,
-  AT_MOST,
-  COLON,
-  END,
-  EQUALS,
-  FOR,
-  LARGE,
-  LEAST,
-  NUMBER,
-  RULE,
-  SHORTER_LINE,
-  SIGNED_WORD,
-  STATEMENT,
-  UP_TO,
-}
+use Rattle.digits.specs.declared.numeral.Stage.TheVariants.{Digits}
+use Rattle.digits.specs.numeral.Numeral.{numeral}
+use Rattle.line.specs.declared.grammar.kind.Kind.{Kind}
+use Rattle.line.specs.declared.grammar.kind.Kind.TheVariants as kinds
 use Rattle.line.specs.declared.scan.Amount.{Amount}
 use Rattle.line.specs.declared.Line.{Line}
 use Rattle.line.specs.declared.Statement.{Statement}
@@ -49,7 +36,7 @@ pub record Example : Type 0 where
 
 -- a line without a name
 abbrev plain : ℕ → List ℕ → Statement → Example
-plain w l s = record { width = w; line = l; says = record { statement = s; name = record { named = false; from = 0; to = 0 } } }
+plain w l s = record { width = w; line = l; says = record { statement = s; name = None } }
 
 -- a text, at 16 bits
 abbrev example : String → Statement → Example
@@ -58,10 +45,10 @@ example t s = plain 16 (bytes_of t) s
 -- one whose rule has a name, from a place and before another
 abbrev called : String → (from to : ℕ) → Statement → Example
 called t from to s =
-    record { width = 16; line = bytes_of t; says = record { statement = s; name = record { named = true; from = from; to = to } } }
+    record { width = 16; line = bytes_of t; says = record { statement = s; name = Some (record { from = from; to = to }) } }
 
 -- a line that is wrong, where and what was expected
-abbrev wrong : String → (at expected : ℕ) → Example
+abbrev wrong : String → (at : ℕ) → Kind → Example
 wrong t at e = example t (Wrong (mistake at e))
 
 abbrev says : (form sense c1 c2 : ℕ) → Statement
@@ -69,10 +56,10 @@ says form sense c1 c2 = Rule (rule form sense c1 c2)
 
 -- a number of watts: where it stands, its digits as one number, and how many of them follow its point
 abbrev whole : (at digits : ℕ) → Amount
-whole at d = record { at = at; numeral = numeral DIGITS false 10 false d 0 }
+whole at d = record { at = at; numeral = numeral Digits false 10 false d 0 }
 
 abbrev fraction : (at : ℕ) (minus : Bool) (digits places : ℕ) → Amount
-fraction at minus d k = record { at = at; numeral = numeral DIGITS minus 10 true d k }
+fraction at minus d k = record { at = at; numeral = numeral Digits minus 10 true d k }
 
 unfoldable pub examples : List Example
 examples =
@@ -129,35 +116,35 @@ examples =
     ∷ example "x = 0" (says 6 0 0 0)
     ∷ example "x = 18446744073709551615" (says 6 0 18446744073709551615 0)
     -- mistakes, with what was expected: first those of the table
-    ∷ wrong "x + 5 < 3" 6 AT_MOST
-    ∷ wrong "x <= 9 x" 7 END
-    ∷ wrong "x <=" 4 NUMBER
-    ∷ wrong "list from 3 # words" 11 NUMBER
-    ∷ wrong "x <= 18446744073709551616" 5 LARGE
-    ∷ plain 8 (bytes_of "signed x <= 200") (Wrong (mistake 12 SIGNED_WORD))
-    ∷ wrong "not mark" 4 RULE
-    ∷ wrong "?" 0 STATEMENT
+    ∷ wrong "x + 5 < 3" 6 kinds.AtMost
+    ∷ wrong "x <= 9 x" 7 kinds.End
+    ∷ wrong "x <=" 4 kinds.Number
+    ∷ wrong "list from 3 # words" 11 kinds.Number
+    ∷ wrong "x <= 18446744073709551616" 5 kinds.Large
+    ∷ plain 8 (bytes_of "signed x <= 200") (Wrong (mistake 12 kinds.SignedWord))
+    ∷ wrong "not mark" 4 kinds.Rule
+    ∷ wrong "?" 0 kinds.Statement
     -- and others
-    ∷ wrong "x & 0x8000 < 0x8000" 11 EQUALS
-    ∷ wrong "x <= -3" 5 NUMBER
-    ∷ wrong "x = 5.5" 4 NUMBER
-    ∷ wrong "x = 0xFF" 4 NUMBER
-    ∷ called "late x <= 3" 0 4 (Wrong (mistake 5 COLON))
-    ∷ called "late: mark" 0 4 (Wrong (mistake 6 RULE))
-    ∷ wrong "not" 3 RULE
-    ∷ wrong "not late: x = 3" 4 RULE
-    ∷ wrong "settled since 14 3" 17 FOR
-    ∷ wrong "watts at 5.5" 9 LEAST
-    ∷ wrong "watts within 5.5..20" 13 AMOUNT
-    ∷ wrong "watts within 5.5 20" 17 UP_TO
-    ∷ wrong "watts at least 0.1234567890" 15 AMOUNT
-    ∷ wrong "list from 3" 11 NUMBER
-    ∷ wrong "ask 3" 4 END
-    ∷ wrong "not# x" 3 RULE
-    ∷ plain 16 (bytes_of "x <= " ++ 9 ∷ 13 ∷ []) (Wrong (mistake 4 NUMBER))
-    ∷ wrong "x 18446744073709551616" 2 AT_MOST
-    ∷ wrong "18446744073709551616 <= x + 5" 0 LARGE
-    ∷ plain 4 (bytes_of "-9 <= signed x") (Wrong (mistake 0 SIGNED_WORD))
-    ∷ plain 4 (bytes_of "8 <= signed x") (Wrong (mistake 0 SIGNED_WORD))
-    ∷ plain 16 (replicate 1025 32) (Wrong (mistake 1024 SHORTER_LINE))
+    ∷ wrong "x & 0x8000 < 0x8000" 11 kinds.Equals
+    ∷ wrong "x <= -3" 5 kinds.Number
+    ∷ wrong "x = 5.5" 4 kinds.Number
+    ∷ wrong "x = 0xFF" 4 kinds.Number
+    ∷ called "late x <= 3" 0 4 (Wrong (mistake 5 kinds.Colon))
+    ∷ called "late: mark" 0 4 (Wrong (mistake 6 kinds.Rule))
+    ∷ wrong "not" 3 kinds.Rule
+    ∷ wrong "not late: x = 3" 4 kinds.Rule
+    ∷ wrong "settled since 14 3" 17 kinds.For
+    ∷ wrong "watts at 5.5" 9 kinds.Least
+    ∷ wrong "watts within 5.5..20" 13 kinds.Amount
+    ∷ wrong "watts within 5.5 20" 17 kinds.UpTo
+    ∷ wrong "watts at least 0.1234567890" 15 kinds.Amount
+    ∷ wrong "list from 3" 11 kinds.Number
+    ∷ wrong "ask 3" 4 kinds.End
+    ∷ wrong "not# x" 3 kinds.Rule
+    ∷ plain 16 (bytes_of "x <= " ++ 9 ∷ 13 ∷ []) (Wrong (mistake 4 kinds.Number))
+    ∷ wrong "x 18446744073709551616" 2 kinds.AtMost
+    ∷ wrong "18446744073709551616 <= x + 5" 0 kinds.Large
+    ∷ plain 4 (bytes_of "-9 <= signed x") (Wrong (mistake 0 kinds.SignedWord))
+    ∷ plain 4 (bytes_of "8 <= signed x") (Wrong (mistake 0 kinds.SignedWord))
+    ∷ plain 16 (replicate 1025 32) (Wrong (mistake 1024 kinds.ShorterLine))
     ∷ []

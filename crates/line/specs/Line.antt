@@ -1,10 +1,11 @@
 -- A line as people write it, read into a statement, or into its first mistake.
-use Rattle.std.specs.Prelude.{Bool, false, ◌&&◌, ◌||◌, cond, List, [], ◌∷◌, ℕ, ◌-◌, eqb, ltb, get_or, length}
+use Rattle.std.specs.Prelude.{Bool, ◌&&◌, ◌||◌, cond, List, [], ◌∷◌, ℕ, ◌-◌, eqb, ltb, get_or, length, Option, Some, None}
 use Rattle.std.specs.Prelude.{Option}
 use Rattle.std.specs.Prelude.{Some, None}
 use Rattle.line.specs.declared.grammar.Place.{Place}
 use Rattle.line.specs.grammar.Grammar.{NOT_ROW, ROWS, expected, is_whole}
-use Rattle.line.specs.grammar.Kinds.{SHORTER_LINE, SIGNED_WORD}
+use Rattle.line.specs.declared.grammar.kind.Kind.{Kind}
+use Rattle.line.specs.declared.grammar.kind.Kind.TheVariants.{ShorterLine, SignedWord}
 use Rattle.line.specs.declared.scan.Amount.{Amount}
 use Rattle.line.specs.declared.scan.Mistake.{Mistake}
 use Rattle.line.specs.declared.scan.Scan.{Scan}
@@ -34,7 +35,7 @@ use Rattle.line.specs.row_rules.Rules.{rule_of, signed_word}
 abbrev pub LIMIT : ℕ
 LIMIT = 1024
 
-abbrev pub mistake : (at expected : ℕ) → Mistake
+abbrev pub mistake : (at : ℕ) → Kind → Mistake
 mistake at e = record { at = at; expected = e }
 
 -- The statement of each row after those of rules on words: `not` and a name stand before a rule, and are none of their own.
@@ -63,7 +64,7 @@ other row a b = get_or (others a b) (row - NOT_ROW) Blank
 -- a rule with a signed number, where a word has it
 unfoldable pub rule_with : (row : ℕ) (negated : Bool) (at : ℕ) → Option ℕ → Statement
 rule_with row negated at (Some c) = said.Rule (rule_of row negated 0 c)
-rule_with row negated at None = Wrong (mistake at SIGNED_WORD)
+rule_with row negated at None = Wrong (mistake at SignedWord)
 
 -- the rows from `signed x <= m` to `-m <= signed x` have a signed number
 unfoldable pub rule_statement : ℕ → Scan → Statement
@@ -77,18 +78,23 @@ by_row w s = cond (ltb s.place.row NOT_ROW) (rule_statement w s) (other s.place.
 
 -- neither a kind nor what stands before a rule was read
 unfoldable pub nothing_read : Place → Bool
-nothing_read p = eqb p.shape 0 && eqb p.limit ROWS
+nothing_read p = eqb p.read 0 && eqb p.limit ROWS
+
+-- the first mistake, where there is one
+abbrev pub wrong_or : Option Mistake → Statement → Statement
+wrong_or (Some m) says = Wrong m
+wrong_or None says = says
 
 -- What a line says that was scanned to its end: its first mistake; nothing, where nothing was read; what its row says; or that more was
 -- expected where it ends.
 unfoldable pub finished : ℕ → Scan → ℕ → Statement
 finished w s end =
-    cond s.wrong (Wrong s.mistake)
+    wrong_or s.mistake
     (cond (nothing_read s.place) Blank
     (cond (is_whole s.place) (by_row w s)
     (Wrong (mistake end (expected s.place)))))
 
 unfoldable pub read : ℕ → List ℕ → Line
 read w l =
-    cond (ltb LIMIT (length l)) (record { statement = Wrong (mistake LIMIT SHORTER_LINE); name = record { named = false; from = 0; to = 0 } })
+    cond (ltb LIMIT (length l)) (record { statement = Wrong (mistake LIMIT ShorterLine); name = None })
     (record { statement = finished w (scanned l) (end_of l); name = (scanned l).name })

@@ -1,89 +1,26 @@
 // The grammar of a line: its rows, each a list of kinds, and how far the kinds of a line follow them.
 
 pub mod kind;
+mod rows;
 
-ghost use Rattle.std.specs.Prelude.{◌≡◌, ◌≤◌};
-ghost use Rattle.line.specs.grammar.Grammar.{expected, find, follow, is_watts, is_whole, kind_of, none, row_at, start_at};
+ghost use Rattle.std.specs.Prelude.{◌≡◌, ◌<◌, ◌≤◌, [], eqb, find, get_or, position};
+ghost use Rattle.line.specs.grammar.Grammar.{KINDS, agree, expected, follow, goes_on, is_watts, is_whole, kind_of, padded, row_at, start_at};
+ghost use Rattle.line.specs.declared.grammar.kind.Kind.TheVariants.{End};
+ghost use Rattle.line.specs.grammar.Kinds.{letters_of, packed, packs};
 
-// How far a line has come: the first row that begins with the kinds read, these kinds packed 256 to the place, 256 to the power of
-// the places left, and how many rows are open to it.
+use kind::{Kind, WORDS};
+use rows::GRAMMAR;
+
+/// How far a line has come: the first row that begins with the kinds read, how many kinds these are, and how many rows are open to it.
 #[derive(Clone, Copy)]
 pub struct Place {
     pub row: usize,
-    pub shape: u64,
-    pub unit: u64,
+    pub read: usize,
     pub limit: usize,
 }
 
-// The words and signs, packed 256 to the place, in the order of their kinds.
-const TEXTS: [u64; 30] = [
-    0x78,
-    0x2b,
-    0x3c3d,
-    0x3c,
-    0x3e3d,
-    0x3e,
-    0x3d,
-    0x26,
-    0x2e2e,
-    0x3a,
-    0x6e6f74,
-    0x7369676e6564,
-    0x736574746c6564,
-    0x73696e6365,
-    0x666f72,
-    0x7761747473,
-    0x6174,
-    0x6c65617374,
-    0x6d6f7374,
-    0x77697468696e,
-    0x776f7264,
-    0x6d61726b,
-    0x6261636b,
-    0x666f7277617264,
-    0x61736b,
-    0x636f756e74,
-    0x6c697374,
-    0x66726f6d,
-    0x776879,
-    0x73686f77,
-];
-
-// The rows, seven kinds each, packed 256 to the place, with nothing after the last.
-const ROWS: [u64; 29] = [
-    0x01_03_1f_00_00_00_00,
-    0x01_04_1f_00_00_00_00,
-    0x01_05_1f_00_00_00_00,
-    0x01_06_1f_00_00_00_00,
-    0x01_07_1f_00_00_00_00,
-    0x01_02_1f_03_1f_00_00,
-    0x01_02_1f_03_01_02_1f,
-    0x1f_03_01_02_1f_00_00,
-    0x01_08_1f_07_1f_00_00,
-    0x0c_01_03_1f_00_00_00,
-    0x0c_01_03_20_00_00_00,
-    0x1f_03_0c_01_00_00_00,
-    0x20_03_0c_01_00_00_00,
-    0x0d_0e_1f_0f_1f_00_00,
-    0x0b_00_00_00_00_00_00,
-    0x10_11_12_21_00_00_00,
-    0x10_11_13_21_00_00_00,
-    0x10_14_21_09_21_00_00,
-    0x23_0a_00_00_00_00_00,
-    0x15_1f_00_00_00_00_00,
-    0x16_00_00_00_00_00_00,
-    0x17_00_00_00_00_00_00,
-    0x18_00_00_00_00_00_00,
-    0x19_00_00_00_00_00_00,
-    0x1a_00_00_00_00_00_00,
-    0x1b_1f_00_00_00_00_00,
-    0x1b_1c_1f_1f_00_00_00,
-    0x1d_1f_00_00_00_00_00,
-    0x1e_00_00_00_00_00_00,
-];
-
-// How many kinds a row has room for, packed: 256 to the seventh.
-const UNIT: u64 = 0x01_00_00_00_00_00_00_00;
+// How many kinds a row has room for.
+const KINDS: usize = 7;
 
 impl Place {
     // How many rows there are, the row of `not` and the row of a name: a rule after `not` has the rows before the one, a rule after a
@@ -94,136 +31,161 @@ impl Place {
 
     pub const NAME: usize = 18;
 
-    // Nothing is read, and so many rows are open.
+    /// Nothing is read, and so many rows are open.
     pub fn start(limit: usize) -> Place
         ensures { result ≡ start_at limit }
     {
         Place {
             row: 0,
-            shape: 0,
-            unit: UNIT,
+            read: 0,
             limit,
         }
     }
 
-    // A kind more. Where no open row goes on so, the row is the number of open rows.
-    pub fn follow(self, kind: u8) -> Place
+    /// A kind more, where an open row goes on so.
+    #[tactic(auto, using(crate::proofs::grammar::Same::wanted), unfolding(crate::specs::grammar::Grammar::follow))]
+    pub fn follow(self, kind: Kind) -> Option<Place>
         ensures { result ≡ follow self kind }
     {
-        let unit = self.unit / 256;
-        let shape = self.shape;
-        let limit = self.limit;
-        if unit == 0 {
-            return none(limit);
+        if KINDS <= self.read || Place::ROWS < self.limit {
+            return None;
         }
-        if UNIT / 256 <= shape {
-            return none(limit);
-        }
-        if Place::ROWS < limit {
-            return none(limit);
-        }
-        let longer = 256 * shape + wide(kind);
-        let rows = ROWS;
-        Place {
-            row: find(&rows[..limit], unit, longer),
-            shape: longer,
-            unit,
-            limit,
-        }
+        let rows = GRAMMAR;
+        let row = next_row(&rows[..self.limit], row_at(self.row), self.read, kind)?;
+        Some(Place {
+            row,
+            read: self.read + 1,
+            limit: self.limit,
+        })
     }
 
-    // What the row has where the line stands.
-    pub fn expected(self) -> u8
+    /// What the row has where the line stands.
+    #[tactic(auto, using(crate::proofs::grammar::Same::wanted), unfolding(crate::specs::grammar::Grammar::expected))]
+    pub fn expected(self) -> Kind
         ensures { result ≡ expected self }
     {
-        let unit = self.unit / 256;
-        if self.shape == 0 {
-            if self.limit == Place::ROWS {
-                return kind::STATEMENT;
-            }
-            return kind::RULE;
+        if 0 < self.read {
+            return kind_at(self.row, self.read);
         }
-        if unit == 0 {
-            return kind::END;
+        if self.limit == Place::ROWS {
+            return Kind::Statement;
         }
-        (row_at(self.row) / unit % 256) as u8
+        Kind::Rule
     }
 
-    // Whether the line is one on watts.
+    /// Whether the line is one on watts.
+    #[tactic(auto, using(crate::proofs::grammar::Same::wanted), unfolding(crate::specs::grammar::Grammar::is_watts))]
     pub fn is_watts(self) -> bool
         ensures { result ≡ is_watts self }
     {
-        if self.shape == 0 {
-            return false;
-        }
-        row_at(self.row) / (UNIT / 256) == kind::WATTS as u64
+        0 < self.read && matches!(kind_at(self.row, 0), Kind::Watts)
     }
 
-    // Whether the row is read to its end.
+    /// Whether the row is read to its end.
+    #[tactic(auto, using(crate::proofs::grammar::Same::wanted), unfolding(crate::specs::grammar::Grammar::is_whole))]
     pub fn is_whole(self) -> bool
         ensures { result ≡ is_whole self }
     {
-        let unit = self.unit;
-        let row = row_at(self.row);
-        if unit == 0 {
-            return false;
-        }
-        if row / unit != self.shape {
-            return false;
-        }
-        row % unit == 0
+        matches!(kind_at(self.row, self.read), Kind::End)
     }
 }
 
-// The kind of a word or a sign that is packed 256 to the place, or of what is none of the grammar's.
-pub fn kind_of(text: u64) -> u8
+/// The kind of a word or a sign whose letters are packed, or of what is none of the grammar's.
+#[tactic(auto, using(crate::proofs::grammar::Same::wanted), unfolding(crate::specs::grammar::Grammar::kind_of))]
+pub fn kind_of(text: u64) -> Kind
     ensures { result ≡ kind_of text }
 {
-    let texts = TEXTS;
-    let i = find(&texts, 1, text);
-    if i < 30 {
-        return 1 + i as u8;
-    }
-    kind::NAME
+    spelled(&WORDS, text).unwrap_or(Kind::Name)
 }
 
-// No row goes on so.
-fn none(limit: usize) -> Place
-    ensures { result ≡ none limit }
+// The first of some words that has a text.
+fn spelled(words: &[Kind], text: u64) -> Option<Kind>
+    ensures { result ≡ find (λ k. eqb (packs 0 (letters_of k)) text) words.now }
 {
-    Place {
-        row: limit,
-        shape: 0,
-        unit: 0,
-        limit,
-    }
+    words
+        .iter()
+        .copied()
+        .find(|kind| pack(kind.text().as_bytes()) == text)
 }
 
-// A row by its number; nothing where there is none.
-fn row_at(i: usize) -> u64
-    ensures { result ≡ row_at i }
+/// Letters packed 256 to the place.
+pub fn pack(letters: &[u8]) -> u64
+    ensures { result ≡ packs 0 letters.now }
 {
-    if i < Place::ROWS {
-        return ROWS[i];
-    }
-    0
+    letters.iter().fold(0, |text, b| packed(text, *b))
 }
 
-// How many numbers of a table stand before the first that begins so.
-fn find(table: &[u64], unit: u64, shape: u64) -> usize
-    requires { 1 ≤ unit }
-    ensures { result ≡ find table.now unit shape }
+/// A letter more, packed; eight letters are more than any text of the grammar has.
+#[tactic(auto, using(crate::proofs::grammar::Same::wanted), unfolding(crate::specs::grammar::Kinds::packed))]
+pub fn packed(text: u64, b: u8) -> u64
+    ensures { result ≡ packed text b }
 {
-    for i in 0..table.len() {
-        if table[i] / unit == shape {
-            return i;
+    if text < 0x01_00_00_00_00_00_00_00 {
+        return 256 * text + b as u64;
+    }
+    text
+}
+
+// The first of some rows that begins with the first kinds of another and goes on with a kind.
+fn next_row(rows: &[[Kind; KINDS]], read: [Kind; KINDS], n: usize, kind: Kind) -> Option<usize>
+    requires { n < KINDS }
+    ensures { result ≡ position (goes_on read n kind) rows.now }
+{
+    rows.iter().position(|row| goes_on(&read, n, kind, row))
+}
+
+// Whether a row begins with the first kinds of another, and goes on with a kind.
+#[tactic(auto, using(crate::proofs::grammar::Same::wanted), unfolding(crate::specs::grammar::Grammar::goes_on))]
+fn goes_on(read: &[Kind; KINDS], n: usize, kind: Kind, row: &[Kind; KINDS]) -> bool
+    requires { n < KINDS }
+    ensures { result ≡ goes_on read.now n kind row.now }
+{
+    if row[n] != kind {
+        return false;
+    }
+    agree(read, row, n)
+}
+
+// Whether two rows have the same first kinds.
+fn agree(a: &[Kind; KINDS], b: &[Kind; KINDS], n: usize) -> bool
+    requires { n ≤ KINDS }
+    ensures { result ≡ agree a.now b.now n }
+{
+    for i in 0..n {
+        if a[i] != b[i] {
+            return false;
         }
     }
-    table.len()
+    true
 }
 
-fn wide(kind: u8) -> u64
-    ensures { result ≡ kind }
+// A row by its number, and one without kinds where there is none.
+#[tactic(auto, unfolding(crate::specs::grammar::Grammar::row_at))]
+fn row_at(i: usize) -> [Kind; KINDS]
+    ensures { result ≡ row_at i }
 {
-    kind as u64
+    let rows = GRAMMAR;
+    row_of(&rows, i)
+}
+
+// A row of a table by its number, and one without kinds where there is none.
+#[tactic(auto, using(crate::proofs::grammar::Same::no_row))]
+fn row_of(rows: &[[Kind; KINDS]], i: usize) -> [Kind; KINDS]
+    ensures { result ≡ get_or rows.now i (padded KINDS []) }
+{
+    if i < rows.len() {
+        return rows[i];
+    }
+    [Kind::End; KINDS]
+}
+
+// What a row has at a place.
+fn kind_at(row: usize, i: usize) -> Kind
+    ensures { result ≡ get_or (row_at row) i End }
+{
+    let row = row_at(row);
+    if i < KINDS {
+        return row[i];
+    }
+    Kind::End
 }

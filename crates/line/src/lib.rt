@@ -13,7 +13,8 @@ ghost use Rattle.std.specs.Prelude.{◌≡◌};
 ghost use Rattle.word.specs.Word.{IsWidth};
 ghost use Rattle.line.specs.Line.{by_row, finished, nothing_read, other, read, rule_statement};
 
-use crate::grammar::{Place, kind};
+use crate::grammar::Place;
+use crate::grammar::kind::Kind;
 use crate::line_end::end_of;
 use crate::row_rules::{rule_of, signed_word};
 use crate::scan::{Amount, Mistake, Name, Scan};
@@ -51,13 +52,14 @@ pub enum Statement {
 #[derive(Clone, Copy)]
 pub struct Line {
     pub statement: Statement,
-    pub name: Name,
+    pub name: Option<Name>,
 }
 
 // The most bytes that a line may have.
 pub const LIMIT: usize = 1024;
 
 // The line, without its byte 10, where a word has a width.
+#[tactic(auto, unfolding(crate::specs::Line::read))]
 pub fn read(line: &[u8], width: Width) -> Line
     requires { IsWidth width.bits }
     ensures { result ≡ read width.bits line.now }
@@ -66,33 +68,28 @@ pub fn read(line: &[u8], width: Width) -> Line
         return Line {
             statement: Statement::Wrong(Mistake {
                 at: LIMIT,
-                expected: kind::SHORTER_LINE,
+                expected: Kind::ShorterLine,
             }),
-            name: Name {
-                named: false,
-                from: 0,
-                to: 0,
-            },
+            name: None,
         };
     }
     let scan = crate::scanning::whole(line);
-    let name = scan.name;
     Line {
         statement: finish(scan, end_of(line), width),
-        name,
+        name: scan.name,
     }
 }
 
 // What a line that was scanned to its end says; what was left out was expected where what it says ends.
+#[tactic(auto, unfolding(crate::specs::Line::finished))]
 fn finish(scan: Scan, end: usize, width: Width) -> Statement
     requires { IsWidth width.bits }
     ensures { result ≡ finished width.bits scan end }
 {
-    let place = scan.place;
-    let mistake = scan.mistake;
-    if scan.wrong {
+    if let Some(mistake) = scan.mistake {
         return Statement::Wrong(mistake);
     }
+    let place = scan.place;
     if nothing_read(place) {
         return Statement::Blank;
     }
@@ -106,50 +103,41 @@ fn finish(scan: Scan, end: usize, width: Width) -> Statement
 }
 
 // Whether neither a kind nor what stands before a rule was read.
+#[tactic(auto, using(crate::proofs::grammar::Same::wanted), unfolding(crate::specs::Line::nothing_read))]
 fn nothing_read(place: Place) -> bool
     ensures { result ≡ nothing_read place }
 {
-    if place.shape != 0 {
-        return false;
-    }
-    place.limit == Place::ROWS
+    place.read == 0 && place.limit == Place::ROWS
 }
 
 // What a whole row says.
+#[tactic(auto, using(crate::proofs::grammar::Same::wanted), unfolding(crate::specs::Line::by_row))]
 fn by_row(scan: Scan, width: Width) -> Statement
     requires { IsWidth width.bits }
     ensures { result ≡ by_row width.bits scan }
 {
-    let place = scan.place;
-    let first = scan.first;
-    let second = scan.second;
-    if place.row < Place::NOT {
+    if scan.place.row < Place::NOT {
         return rule_statement(scan, width);
     }
-    other(place.row, first, second)
+    other(scan.place.row, scan.first, scan.second)
 }
 
 // A rule, where a signed number is in the range of its words.
+#[tactic(auto, using(crate::proofs::grammar::Same::wanted), unfolding(crate::specs::Line::rule_statement, crate::specs::Line::rule_with))]
 fn rule_statement(scan: Scan, width: Width) -> Statement
     requires { IsWidth width.bits }
     ensures { result ≡ rule_statement width.bits scan }
 {
-    let place = scan.place;
-    let first = scan.first;
-    let second = scan.second;
-    let n = first.numeral;
-    let m = second.numeral;
-    let row = place.row;
-    if row < 9 {
-        return Statement::Rule(rule_of(row, scan.negated, n.value, m.value));
-    }
-    if row == 13 {
+    let row = scan.place.row;
+    let n = scan.first.numeral;
+    let m = scan.second.numeral;
+    if row < 9 || row == 13 {
         return Statement::Rule(rule_of(row, scan.negated, n.value, m.value));
     }
     let Some(c) = signed_word(width, m.minus, m.value) else {
         return Statement::Wrong(Mistake {
-            at: second.at,
-            expected: kind::SIGNED_WORD,
+            at: scan.second.at,
+            expected: Kind::SignedWord,
         });
     };
     Statement::Rule(rule_of(row, scan.negated, 0, c))

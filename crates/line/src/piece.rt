@@ -1,28 +1,28 @@
 // The words of a line, one after another: what stands from a place on, its kind, its number and its letters.
 
 ghost use Rattle.std.specs.Prelude.{◌≡◌};
-ghost use Rattle.line.specs.piece.Piece.{end_at, ends, fresh, grown, piece_of, word_at};
+ghost use Rattle.line.specs.piece.Piece.{end_at, ends, grown, piece_of, word_at};
 
-use crate::grammar::kind;
+use crate::grammar::kind::Kind;
 use crate::token::Token;
-use digits::numeral::Numeral;
+use crate::token::class::{Class, class_of};
 
-// A word, a number or a sign: its kind, where it begins and ends, the number that it is, and its letters packed 256 to the place. At the
-// end of the line, and before a comment, stands one of the kind of the end.
+/// A word, a number or a sign: its kind, where it begins and ends, the number that it is, and its letters packed 256 to the place. At the
+/// end of the line, and before a comment, stands one of the kind of the end.
 #[derive(Clone, Copy)]
 pub struct Piece {
-    pub kind: u8,
+    pub kind: Kind,
     pub from: usize,
     pub to: usize,
     pub value: u64,
     pub text: u64,
 }
 
-// What stands from a place on.
+/// What stands from a place on.
 pub fn next(line: &[u8], at: usize) -> Piece
     ensures { result ≡ word_at line.now at }
 {
-    let mut token = fresh();
+    let mut token = Token::none();
     let mut i = at;
     while i < line.len() {
         let b = line[i];
@@ -35,73 +35,56 @@ pub fn next(line: &[u8], at: usize) -> Piece
     piece_of(token, i)
 }
 
-// Nothing is read, as where blanks stand.
-fn fresh() -> Token
-    ensures { result ≡ fresh }
-{
-    let numeral = Numeral::start();
-    Token {
-        class: Token::BLANK,
-        from: 0,
-        text: 0,
-        numeral,
-    }
-}
-
 // Whether a token ends before a letter: one of another class, but a comment has no end, and after blanks a token is to begin.
+#[tactic(auto, using(crate::proofs::token::Classes::wanted), unfolding(crate::specs::piece::Piece::ends))]
 fn ends(token: Token, b: u8) -> bool
     ensures { result ≡ ends token b }
 {
-    let class = crate::token::class_of(b);
-    if token.class == class {
+    if token.class == class_of(b) {
         return false;
     }
-    if token.class == Token::COMMENT {
+    if token.class == Class::Comment {
         return false;
     }
-    token.class != Token::BLANK
+    token.class != Class::Blank
 }
 
 // A letter more, where the token does not end before it.
+#[tactic(auto, using(crate::proofs::token::Classes::wanted), unfolding(crate::specs::piece::Piece::grown))]
 fn grown(token: Token, b: u8, at: usize) -> Token
     ensures { result ≡ grown token b at }
 {
-    let class = crate::token::class_of(b);
-    if token.class == class {
-        return token.more(b);
-    }
-    if token.class == Token::COMMENT {
+    let class = class_of(b);
+    if token.class == class || token.class == Class::Comment {
         return token.more(b);
     }
     Token::begin(class, b, at)
 }
 
 // A token that ends before a place.
+#[tactic(auto, using(crate::proofs::token::Classes::wanted), unfolding(crate::specs::piece::Piece::piece_of))]
 fn piece_of(token: Token, to: usize) -> Piece
     ensures { result ≡ piece_of token to }
 {
-    let numeral = token.numeral;
-    if token.class == Token::BLANK {
-        return end_at(to);
-    }
-    if token.class == Token::COMMENT {
+    if token.class == Class::Blank || token.class == Class::Comment {
         return end_at(to);
     }
     Piece {
         kind: token.kind(false),
         from: token.from,
         to,
-        value: numeral.value,
+        value: token.numeral.value,
         text: token.text,
     }
 }
 
 // The end of the line.
+#[tactic(auto, unfolding(crate::specs::piece::Piece::end_at))]
 fn end_at(at: usize) -> Piece
     ensures { result ≡ end_at at }
 {
     Piece {
-        kind: kind::END,
+        kind: Kind::End,
         from: at,
         to: at,
         value: 0,

@@ -4,78 +4,67 @@
 ghost use Rattle.std.specs.Prelude.{◌≡◌};
 ghost use Rattle.line.specs.scan.Scan.{failed, instead_of, is_number, named, negated, numbered, placed, started, takes_number, with_token};
 
-use crate::grammar::{Place, kind};
+use crate::grammar::Place;
+use crate::grammar::kind::Kind;
 use crate::token::Token;
 use digits::numeral::Numeral;
 
-// Where a line is wrong first, in bytes from its start, and the kind that was expected there.
+/// Where a line is wrong first, in bytes from its start, and the kind that was expected there.
 #[derive(Clone, Copy)]
 pub struct Mistake {
     pub at: usize,
-    pub expected: u8,
+    pub expected: Kind,
 }
 
-// Where a rule's name stands in its line, if it has one.
+/// Where a rule's name stands in its line: from a place, and before another.
 #[derive(Clone, Copy)]
 pub struct Name {
-    pub named: bool,
     pub from: usize,
     pub to: usize,
 }
 
-// A number, and where it stands.
+/// A number, and where it stands.
 #[derive(Clone, Copy)]
 pub struct Amount {
     pub at: usize,
     pub numeral: Numeral,
 }
 
-// The token that is being read; how far the line follows the grammar; whether `not` stands before the rule, and its name; the last
-// two numbers; and whether the line is wrong, and where.
+/// The token that is being read; how far the line follows the grammar; whether `not` stands before the rule, and its name; the last
+/// two numbers; and where the line is wrong, if it is. A line that is wrong keeps its name, so its mistake is no `Err`.
 #[derive(Clone, Copy)]
 pub struct Scan {
     pub token: Token,
     pub place: Place,
     pub negated: bool,
-    pub name: Name,
+    pub name: Option<Name>,
     pub first: Amount,
     pub second: Amount,
-    pub wrong: bool,
-    pub mistake: Mistake,
+    pub mistake: Option<Mistake>,
 }
 
 impl Scan {
-    // Nothing is read.
+    /// Nothing is read.
+    #[tactic(auto, unfolding(crate::specs::scan::Scan::started))]
     pub fn start() -> Scan
         ensures { result ≡ started }
     {
-        let numeral = Numeral::start();
-        let token = Token {
-            class: Token::BLANK,
-            from: 0,
-            text: 0,
-            numeral,
+        let amount = Amount {
+            at: 0,
+            numeral: Numeral::start(),
         };
-        let amount = Amount { at: 0, numeral };
         Scan {
-            token,
+            token: Token::none(),
             place: Place::start(Place::ROWS),
             negated: false,
-            name: Name {
-                named: false,
-                from: 0,
-                to: 0,
-            },
+            name: None,
             first: amount,
             second: amount,
-            wrong: false,
-            mistake: Mistake {
-                at: 0,
-                expected: kind::END,
-            },
+            mistake: None,
         }
     }
 
+    #[tactic(auto, unfolding(crate::specs::scan::Scan::with_token))]
     pub fn with_token(mut self, token: Token) -> Scan
         ensures { result ≡ with_token self token }
     {
@@ -83,15 +72,15 @@ impl Scan {
         self
     }
 
-    pub fn failed(mut self, at: usize, expected: u8) -> Scan
+    #[tactic(auto, unfolding(crate::specs::scan::Scan::failed))]
+    pub fn failed(mut self, at: usize, expected: Kind) -> Scan
         ensures { result ≡ failed self at expected }
     {
-        let mistake = Mistake { at, expected };
-        self.wrong = true;
-        self.mistake = mistake;
+        self.mistake = Some(Mistake { at, expected });
         self
     }
 
+    #[tactic(auto, unfolding(crate::specs::scan::Scan::placed))]
     pub fn placed(mut self, place: Place) -> Scan
         ensures { result ≡ placed self place }
     {
@@ -99,6 +88,7 @@ impl Scan {
         self
     }
 
+    #[tactic(auto, unfolding(crate::specs::scan::Scan::negated))]
     pub fn negated(mut self, place: Place) -> Scan
         ensures { result ≡ negated self place }
     {
@@ -107,71 +97,66 @@ impl Scan {
         self
     }
 
-    // The token is a name.
+    /// The token is a name.
+    #[tactic(auto, unfolding(crate::specs::scan::Scan::named))]
     pub fn named(mut self, place: Place, at: usize) -> Scan
         ensures { result ≡ named self place at }
     {
-        let token = self.token;
-        let name = Name {
-            named: true,
-            from: token.from,
-            to: at,
-        };
         self.place = place;
-        self.name = name;
+        self.name = Some(Name {
+            from: self.token.from,
+            to: at,
+        });
         self
     }
 
-    // The token is a number: it is the second now, and the second the first.
+    /// The token is a number: it is the second now, and the second the first.
+    #[tactic(auto, unfolding(crate::specs::scan::Scan::numbered))]
     pub fn numbered(mut self, place: Place) -> Scan
         ensures { result ≡ numbered self place }
     {
-        let token = self.token;
-        let first = self.second;
-        let numeral = token.numeral;
-        let second = Amount {
-            at: token.from,
-            numeral,
-        };
         self.place = place;
-        self.first = first;
-        self.second = second;
+        self.first = self.second;
+        self.second = Amount {
+            at: self.token.from,
+            numeral: self.token.numeral,
+        };
         self
     }
 }
 
-// Whether a kind is one of numbers.
-pub fn is_number(kind: u8) -> bool
+/// Whether a kind is one of numbers.
+#[tactic(auto, using(crate::proofs::scan::Numbers::wanted), unfolding(crate::specs::scan::Scan::is_number))]
+pub fn is_number(kind: Kind) -> bool
     ensures { result ≡ is_number kind }
 {
-    if kind < kind::NUMBER {
-        return false;
+    match kind {
+        Kind::Number | Kind::Negative | Kind::Amount | Kind::Fraction => true,
+        _ => false,
     }
-    kind <= kind::FRACTION
 }
 
-// What is said to be expected where a kind stands: of a number past 64 bits, where a number may stand, one within them.
-pub fn instead_of(kind: u8, expected: u8) -> u8
+/// What is said to be expected where a kind stands: of a number past 64 bits, where a number may stand, one within them.
+#[tactic(auto, using(crate::proofs::scan::Numbers::wanted), unfolding(crate::specs::scan::Scan::instead_of))]
+pub fn instead_of(kind: Kind, expected: Kind) -> Kind
     ensures { result ≡ instead_of kind expected }
 {
-    if kind != kind::LARGE {
+    if kind != Kind::Large {
         return expected;
     }
     if takes_number(expected) {
-        return kind::LARGE;
+        return Kind::Large;
     }
     expected
 }
 
 // Whether a number may stand where a kind is expected.
-fn takes_number(expected: u8) -> bool
+#[tactic(auto, using(crate::proofs::scan::Numbers::wanted), unfolding(crate::specs::scan::Scan::takes_number))]
+fn takes_number(expected: Kind) -> bool
     ensures { result ≡ takes_number expected }
 {
-    if expected == kind::STATEMENT {
-        return true;
+    match expected {
+        Kind::Statement | Kind::Rule => true,
+        _ => is_number(expected),
     }
-    if expected == kind::RULE {
-        return true;
-    }
-    is_number(expected)
 }

@@ -1,137 +1,120 @@
 // What a line is made of, letter by letter: words, signs and numbers, and the kind that each has in the grammar.
 
-mod class;
+pub mod class;
 
 ghost use Rattle.std.specs.Prelude.{◌≡◌};
-ghost use Rattle.line.specs.token.Token.{begun, kind, kind_of_number, more, opened, packed, text_kind};
+ghost use Rattle.line.specs.token.Token.{begun, kind, kind_of_number, more, none, opened, text_kind};
 
-use crate::grammar::kind;
-pub use class::class_of;
-use digits::numeral::Numeral;
+use crate::grammar::kind::Kind;
+use crate::grammar::packed;
+use class::Class;
+use digits::numeral::{Numeral, Stage};
 
-// A word, a sign, or letters that are neither: the class of its letters, where it begins, its text packed 256 to the place, and the
-// number that it may be.
+/// A word, a sign, or letters that are neither: the class of its letters, where it begins, its text packed 256 to the place, and the
+/// number that it may be.
 #[derive(Clone, Copy)]
 pub struct Token {
-    pub class: u64,
+    pub class: Class,
     pub from: usize,
     pub text: u64,
     pub numeral: Numeral,
 }
 
 impl Token {
-    // Blanks; letters, digits, `_` and `.`; the letters of signs; a comment; what is in no line; and the minus, which begins a number.
-    pub const BLANK: u64 = 0;
+    /// Nothing is read, as where blanks stand.
+    pub fn none() -> Token
+        ensures { result ≡ none }
+    {
+        Token {
+            class: Class::Blank,
+            from: 0,
+            text: 0,
+            numeral: Numeral::start(),
+        }
+    }
 
-    pub const WORD: u64 = 1;
-
-    pub const SIGN: u64 = 2;
-
-    pub const COMMENT: u64 = 3;
-
-    pub const STRAY: u64 = 4;
-
-    pub const MINUS: u64 = 5;
-
-    // A letter of a class begins it at a place.
-    pub fn begin(class: u64, b: u8, at: usize) -> Token
+    /// A letter of a class begins it at a place.
+    #[tactic(auto, unfolding(crate::specs::token::Token::begun))]
+    pub fn begin(class: Class, b: u8, at: usize) -> Token
         ensures { result ≡ begun class b at }
     {
         Token {
             class: opened(class),
             from: at,
-            text: wide(b),
+            text: b as u64,
             numeral: Numeral::start().next(b),
         }
     }
 
-    // A letter more.
+    /// A letter more.
+    #[tactic(auto, unfolding(crate::specs::token::Token::more))]
     pub fn more(self, b: u8) -> Token
         ensures { result ≡ more self b }
     {
-        let numeral = self.numeral;
         Token {
             class: self.class,
             from: self.from,
             text: packed(self.text, b),
-            numeral: numeral.next(b),
+            numeral: self.numeral.next(b),
         }
     }
 
-    // Its kind; a number of any kind is one of watts in a line on watts.
-    pub fn kind(self, watts: bool) -> u8
+    /// Its kind; a number of any kind is one of watts in a line on watts.
+    #[tactic(auto, using(crate::proofs::token::Classes::wanted), unfolding(crate::specs::token::Token::kind))]
+    pub fn kind(self, watts: bool) -> Kind
         ensures { result ≡ kind self watts }
     {
-        let numeral = self.numeral;
-        let stage = numeral.stage;
-        if self.class == Token::STRAY {
-            return kind::OTHER;
+        if self.class == Class::Stray {
+            return Kind::Other;
         }
-        if stage == Numeral::BAD {
-            return text_kind(self.text, self.class);
+        match self.numeral.stage {
+            Stage::Bad => text_kind(self.text, self.class),
+            Stage::Needs => Kind::Other,
+            Stage::Large => Kind::Large,
+            Stage::Start | Stage::Zero | Stage::Digits => number_kind(self.numeral, watts),
         }
-        if stage == Numeral::NEEDS {
-            return kind::OTHER;
-        }
-        if stage == Numeral::LARGE {
-            return kind::LARGE;
-        }
-        number_kind(numeral, watts)
     }
 }
 
 // The class of a token whose first letter has a class: a minus begins a number.
-fn opened(class: u64) -> u64
+#[tactic(auto, using(crate::proofs::token::Classes::not_minus), unfolding(crate::specs::token::Token::opened))]
+fn opened(class: Class) -> Class
     ensures { result ≡ opened class }
 {
-    if class == Token::MINUS {
-        return Token::WORD;
+    match class {
+        Class::Minus => Class::Word,
+        _ => class,
     }
-    class
-}
-
-// A letter more, packed; eight letters are more than any text of the grammar has.
-fn packed(text: u64, b: u8) -> u64
-    ensures { result ≡ packed text b }
-{
-    if text < 0x01_00_00_00_00_00_00_00 {
-        return 256 * text + wide(b);
-    }
-    text
 }
 
 // The kind of a text that is no number: a sign that is none of the grammar's is no name.
-fn text_kind(text: u64, class: u64) -> u8
+#[tactic(auto, using(crate::proofs::token::Classes::kinds), unfolding(crate::specs::token::Token::text_kind))]
+fn text_kind(text: u64, class: Class) -> Kind
     ensures { result ≡ text_kind text class }
 {
     let kind = crate::grammar::kind_of(text);
-    if class == Token::WORD {
+    if class == Class::Word {
         return kind;
     }
-    if kind == kind::NAME {
-        return kind::OTHER;
+    if kind == Kind::Name {
+        return Kind::Other;
     }
     kind
 }
 
 // The kind of a number.
-fn number_kind(numeral: Numeral, watts: bool) -> u8
+#[tactic(auto, unfolding(crate::specs::token::Token::kind_of_number))]
+fn number_kind(numeral: Numeral, watts: bool) -> Kind
     ensures { result ≡ kind_of_number numeral watts }
 {
     if watts {
-        return kind::AMOUNT;
+        return Kind::Amount;
     }
     if numeral.point {
-        return kind::FRACTION;
+        return Kind::Fraction;
     }
     if numeral.minus {
-        return kind::NEGATIVE;
+        return Kind::Negative;
     }
-    kind::NUMBER
-}
-
-fn wide(b: u8) -> u64
-    ensures { result ≡ b }
-{
-    b as u64
+    Kind::Number
 }

@@ -1,12 +1,20 @@
 -- Rows put one after another, and the name in a row, byte by byte.
 use mathlib.Core.Path.{◌≡◌, refl, ap}
+use mathlib.Core.Bool.{Bool, true, false, cond, not}
 use mathlib.Core.List.{List, [], ◌∷◌}
-use Prim.Native.Nat.{ℕ, zero, suc, ◌-◌, ◌≤◌, ◌<◌, min}
+use Prim.Native.Nat.{ℕ, zero, suc, ◌+◌, ◌-◌, ◌≤◌, ◌<◌, min}
+use native.Mathlib.Decide.{dec_lt}
 use native.Mathlib.Omega.{arith}
-use borrow.Author.Tests.{eq-eqb, ne_eqb}
-use lib.ListN.{drop, get_or, replicate, set, take}
-use lib.Seq.{sets}
-use Rattle.naming.specs.Names.{before_zero, put}
+use borrow.Author.Tests.{eq-eqb, le-ltb, lt-ltb, ne_eqb}
+use lib.Dec.{eqb, ltb}
+use lib.ListN.{drop, get_or, length, replicate, set, take}
+use lib.Seq.{sets, take_all}
+use Rattle.std.specs.Prelude.{None, Some, position, unwrap_or}
+use Rattle.std.specs.List.{position_or_len}
+use Rattle.std.proofs.lemmas.List.Recursion.{is_position_or_len}
+use Rattle.std.proofs.lemmas.List.Sums.{prefix_len-le-length}
+use Rattle.line.specs.Line.{LIMIT}
+use Rattle.naming.specs.Names.{before_zero, name_in, put}
 
 -- a row is put, and then as many as are left
 pub put_one : (row : List ℕ) (n at : ℕ) (rows : List (List ℕ)) → at < 200 → put row (suc n) at rows ≡ put row n (suc at) (set rows at row)
@@ -47,3 +55,28 @@ unfolding before_zero
 name_full zero l = refl
 name_full (suc n) [] = refl
 name_full (suc n) (b ∷ l) = name_full n l
+
+-- how long a name is: up to the first zero byte of its row, or as long as the row
+before_length : (l : List ℕ) → length (before_zero l) ≡ position_or_len (λ b. eqb b 0) l
+unfolding before_zero
+before_length = is_position_or_len (λ l. length (before_zero l)) (λ b. eqb b 0) refl more
+  where
+    pick : (t : Bool) (b : ℕ) (bs : List ℕ) → length (cond t [] (b ∷ bs)) ≡ cond t 0 (1 + length bs)
+    pick true b bs = refl
+    pick false b bs = omega arith
+
+    more : (b : ℕ) (l : List ℕ) → length (cond (eqb b 0) [] (b ∷ before_zero l)) ≡ cond (eqb b 0) 0 (1 + length (before_zero l))
+    more b l = pick (eqb b 0) b (before_zero l)
+
+pub row_length : (row : List ℕ) → length row ≡ LIMIT → unwrap_or (position (λ b. eqb b 0) row) LIMIT ≡ length (name_in row)
+unfolding name_in
+row_length row e =
+    let all : take LIMIT row ≡ row = take_all LIMIT row (omega arith) in
+    rw (all, before_length row) (go (position_or_len (λ b. eqb b 0) row) (prefix_len-le-length (λ b. not (eqb b 0)) row))
+  where
+    go : (n : ℕ) → n ≤ length row → unwrap_or (cond (ltb n (length row)) (Some n) None) LIMIT ≡ n
+    go n h = pick (dec_lt n (length row))
+      where
+        pick : Dec (n < length row) → unwrap_or (cond (ltb n (length row)) (Some n) None) LIMIT ≡ n
+        pick (yes l) = rw (lt-ltb n (length row) l) refl
+        pick (no l) = rw (le-ltb n (length row) (omega arith)) (omega arith)

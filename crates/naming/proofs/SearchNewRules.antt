@@ -5,7 +5,6 @@ use Rattle.rule.specs.declared.Rule.{Rule}
 use Rattle.line.specs.declared.scan.Amount.{Amount}
 use Rattle.line.specs.declared.Statement.{Statement}
 use Rattle.line.specs.declared.Statement.TheVariants as said
-use borrow.Author.Rules.{rules}
 use Rattle.naming.specs.Names.{new_rules}
 
 pub none : (st : Statement) → ((u : Rule) → st ≡ said.Rule u → ⊥) → ((a : Amount) → st ≡ said.AtLeast a → ⊥) → ((a : Amount) → st ≡ said.AtMost a → ⊥)

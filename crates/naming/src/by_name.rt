@@ -22,7 +22,7 @@ fn has_name(row: &[u8; MOST], name: &[u8]) -> bool
     0 < n
 }
 
-// The number of the first rule in force that has a name.
+/// The number of the first rule in force that has a name.
 #[tactic(auto, using(crate::proofs::by_name::SearchNumberOf::wanted), unfolding(crate::specs::by_name::Which::number_of))]
 pub fn number_of(names: &[[u8; MOST]; Rule::LIMIT], count: usize, name: &[u8]) -> Option<u64>
     ensures { result ≡ number_of names.now count name.now }
@@ -31,8 +31,7 @@ pub fn number_of(names: &[[u8; MOST]; Rule::LIMIT], count: usize, name: &[u8]) -
         if count <= i {
             return None;
         }
-        let row = names[i];
-        if has_name(&row, name) {
+        if has_name(&names[i], name) {
             return Some(i as u64);
         }
     }

@@ -5,23 +5,22 @@ pub mod by_name;
 pub mod named;
 pub mod spoken;
 
-ghost use Rattle.std.specs.Prelude.{◌≡◌, length};
+ghost use Rattle.std.specs.Prelude.{◌≡◌, eqb, length, position};
 ghost use Rattle.naming.specs.Names.{kept, name_in, new_rules, put, row_of};
 
 use gate::Gate;
 use line::Statement;
 use rule::Rule;
 
-// The bytes of a row: a name is shorter than a line, and has no zero byte.
+/// The bytes of a row: a name is shorter than a line, and has no zero byte.
 pub const MOST: usize = line::LIMIT;
 
-// Keeps the name of an accepted statement, which was said of a sheet with so many rules in force: no bytes are no name.
+/// Keeps the name of an accepted statement, which was said of a sheet with so many rules in force: no bytes are no name.
+#[tactic(auto, unfolding(crate::specs::Names::kept))]
 pub fn keep(names: &mut [[u8; MOST]; Rule::LIMIT], statement: Statement, count: usize, name: &[u8])
     ensures { names.new ≡ kept statement count name.now names.old }
 {
-    let rules = new_rules(statement);
-    let row = row_of(name);
-    put(&mut *names, count, rules, row);
+    put(names, count, new_rules(statement), row_of(name));
 }
 
 // How many rules an accepted statement adds.
@@ -64,15 +63,17 @@ fn put(names: &mut [[u8; MOST]; Rule::LIMIT], from: usize, times: usize, row: [u
     }
 }
 
-// How long the name in a row is.
+/// How long the name in a row is.
+#[tactic(auto, using(crate::proofs::Rows::row_length))]
 pub fn length(row: &[u8; MOST]) -> usize
     ensures { result ≡ length (name_in row.now) }
 {
-    for i in 0..MOST {
-        let is_end = row[i] == 0;
-        if is_end {
-            return i;
-        }
-    }
-    MOST
+    first_zero(row).unwrap_or(MOST)
+}
+
+// The place of the first zero byte.
+fn first_zero(bytes: &[u8]) -> Option<usize>
+    ensures { result ≡ position (λ b. eqb b 0) bytes.now }
+{
+    bytes.iter().position(|b| *b == 0)
 }

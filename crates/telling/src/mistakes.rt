@@ -3,7 +3,7 @@
 use crate::printing::{Told, words_of};
 use dialogue::upshot::Response;
 use line::Statement;
-use line::grammar::kind;
+use line::grammar::kind::Kind;
 use line::scan::Name;
 use std::fmt;
 use std::io::{Eprint, Result};
@@ -62,7 +62,7 @@ impl fmt::Display for Mark<'_> {
 // above the top word of so many bits, and of a bit outside a mask.
 #[derive(Clone, Copy)]
 enum Fault {
-    Expected(u8),
+    Expected(Kind),
     Refused(u64),
     HighConstant { bits: u64 },
     HighWord { bits: u64 },
@@ -109,12 +109,12 @@ impl Fault {
 }
 
 // Where the statement begins: after the name of its rule and the colon, where it has one.
-fn beginning(text: &[u8], name: Name) -> usize {
-    let first = line::piece::next(text, name.to);
-    if !name.named {
-        return first.from;
-    }
-    line::piece::next(text, first.to).from
+fn beginning(text: &[u8], name: Option<Name>) -> usize {
+    let Some(name) = name else {
+        return line::piece::next(text, 0).from;
+    };
+    let colon = line::piece::next(text, name.to);
+    line::piece::next(text, colon.to).from
 }
 
 // Whether a number is above the top word.
@@ -166,49 +166,48 @@ fn reason(number: u64) -> &'static str {
 }
 
 // What is expected where a kind is.
-fn expected(kind: u8) -> &'static str {
+fn expected(kind: Kind) -> &'static str {
     match kind {
-        kind::END => "the end of the line",
-        kind::X => "x",
-        kind::PLUS => "+",
-        kind::AT_MOST => "<=",
-        kind::BELOW => "<",
-        kind::AT_LEAST => ">=",
-        kind::ABOVE => ">",
-        kind::EQUALS => "=",
-        kind::AND => "&",
-        kind::UP_TO => "..",
-        kind::COLON => ":",
-        kind::NOT => "not",
-        kind::SIGNED => "signed",
-        kind::SETTLED => "settled",
-        kind::SINCE => "since",
-        kind::FOR => "for",
-        kind::WATTS => "watts",
-        kind::AT => "at",
-        kind::LEAST => "least",
-        kind::MOST => "most",
-        kind::WITHIN => "within",
-        kind::WORD => "word",
-        kind::MARK => "mark",
-        kind::BACK => "back",
-        kind::FORWARD => "forward",
-        kind::ASK => "ask",
-        kind::COUNT => "count",
-        kind::LIST => "list",
-        kind::FROM => "from",
-        kind::WHY => "why",
-        kind::SHOW => "show",
-        kind::NUMBER => "a number (decimal, 0x with lowercase digits, or 0b)",
-        kind::NEGATIVE => "a number below zero",
-        kind::AMOUNT | kind::FRACTION => "a number of watts",
-        kind::NAME => "a name",
-        kind::OTHER => "a word",
-        kind::LARGE => "a number below 2^64",
-        kind::STATEMENT => "a statement",
-        kind::RULE => "a rule",
-        kind::SIGNED_WORD => "a number that a signed word has",
-        kind::SHORTER_LINE => "a line of at most 1,024 bytes",
-        _ => "",
+        Kind::End => "the end of the line",
+        Kind::X => "x",
+        Kind::Plus => "+",
+        Kind::AtMost => "<=",
+        Kind::Below => "<",
+        Kind::AtLeast => ">=",
+        Kind::Above => ">",
+        Kind::Equals => "=",
+        Kind::And => "&",
+        Kind::UpTo => "..",
+        Kind::Colon => ":",
+        Kind::Not => "not",
+        Kind::Signed => "signed",
+        Kind::Settled => "settled",
+        Kind::Since => "since",
+        Kind::For => "for",
+        Kind::Watts => "watts",
+        Kind::At => "at",
+        Kind::Least => "least",
+        Kind::Most => "most",
+        Kind::Within => "within",
+        Kind::Word => "word",
+        Kind::Mark => "mark",
+        Kind::Back => "back",
+        Kind::Forward => "forward",
+        Kind::Ask => "ask",
+        Kind::Count => "count",
+        Kind::List => "list",
+        Kind::From => "from",
+        Kind::Why => "why",
+        Kind::Show => "show",
+        Kind::Number => "a number (decimal, 0x with lowercase digits, or 0b)",
+        Kind::Negative => "a number below zero",
+        Kind::Amount | Kind::Fraction => "a number of watts",
+        Kind::Name => "a name",
+        Kind::Other => "a word",
+        Kind::Large => "a number below 2^64",
+        Kind::Statement => "a statement",
+        Kind::Rule => "a rule",
+        Kind::SignedWord => "a number that a signed word has",
+        Kind::ShorterLine => "a line of at most 1,024 bytes",
     }
 }

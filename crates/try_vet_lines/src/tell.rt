@@ -1,7 +1,7 @@
 // What a statement is, in numbers.
 ghost use Rattle.word.specs.Word.{IsWidth};
 
-use line::scan::Amount;
+use line::scan::{Amount, Name};
 use line::{Line, Statement};
 
 const STDOUT: i32 = 1;
@@ -12,7 +12,7 @@ pub fn tell(read: Line, width: u64) -> u64
     ensures { IsWidth result }
 {
     let statement = read.statement;
-    let name = read.name;
+    let name = read.name.unwrap_or(Name { from: 0, to: 0 });
     let after = opened(statement, width);
     print(statement);
     number(name.from as u64);

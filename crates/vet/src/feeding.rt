@@ -92,7 +92,10 @@ impl Run {
         let heard = self.dialogue.hear(text, &mut numbers, &mut words);
         let statement = heard.line.statement;
         if !self.dialogue.stopped {
-            let name = lines::name_in(heard.line.name, text);
+            let name = match heard.line.name {
+                Some(name) => lines::name_in(name, text),
+                None => b"",
+            };
             naming::keep(&mut self.names, statement, count, name);
         }
         let told = Told {

@@ -17,26 +17,22 @@ pub use digits::figure::{NUMBER, put_number};
 use rule::Rule;
 use word::Width;
 
-// The most bytes of a rule: `not settled since N for N`, where a number has twenty digits.
+/// The most bytes of a rule: `not settled since N for N`, where a number has twenty digits.
 pub const ROOM: usize = 63;
 
-// Writes a rule from a place on, and says where it ends.
+/// Writes a rule from a place on, and says where it ends.
 pub fn put_rule(out: &mut [u8], at: usize, rule: Rule, width: Width) -> usize
     requires width { IsWidth width.bits }
     requires at_in_bounds { at + ROOM ≤ length out.old }
     ensures { Put out.old at (rule_text width.bits rule) out.new result × (result ≤ at + ROOM) }
 {
     let sense = rule.sense;
-    if rule.form == 2 {
-        if rule.c2 == 0 {
-            return put_at_least(&mut *out, at, sense, rule.c1);
-        }
+    if rule.form == 2 && rule.c2 == 0 {
+        return put_at_least(out, at, sense, rule.c1);
     }
-    if rule.form == 3 {
-        if rule.c1 == 0 {
-            return put_at_most(&mut *out, at, sense, rule.c2);
-        }
+    if rule.form == 3 && rule.c1 == 0 {
+        return put_at_most(out, at, sense, rule.c2);
     }
-    let from = put_before(&mut *out, at, sense);
-    put_form(&mut *out, from, rule, width)
+    let from = put_before(out, at, sense);
+    put_form(out, from, rule, width)
 }

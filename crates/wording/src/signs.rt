@@ -6,29 +6,29 @@ ghost use Rattle.wording.specs.signs.Signs.{at_least, at_most, before};
 
 use digits::phrase::{put_one, put_text};
 
-// Form 2 with nothing added to x.
+/// Form 2 with nothing added to x.
 pub fn put_at_least(out: &mut [u8], at: usize, sense: u64, n: u64) -> usize
     requires { at + length (at_least sense n) ≤ length out.old }
     ensures { Put out.old at (at_least sense n) out.new result }
 {
     if sense == 0 {
-        return put_one(&mut *out, at, b"x >= ", n);
+        return put_one(out, at, b"x >= ", n);
     }
-    put_one(&mut *out, at, b"x < ", n)
+    put_one(out, at, b"x < ", n)
 }
 
-// Form 3 with nothing added to x.
+/// Form 3 with nothing added to x.
 pub fn put_at_most(out: &mut [u8], at: usize, sense: u64, n: u64) -> usize
     requires { at + length (at_most sense n) ≤ length out.old }
     ensures { Put out.old at (at_most sense n) out.new result }
 {
     if sense == 0 {
-        return put_one(&mut *out, at, b"x <= ", n);
+        return put_one(out, at, b"x <= ", n);
     }
-    put_one(&mut *out, at, b"x > ", n)
+    put_one(out, at, b"x > ", n)
 }
 
-// What stands before a rule of a sense.
+/// What stands before a rule of a sense.
 pub fn put_before(out: &mut [u8], at: usize, sense: u64) -> usize
     requires { at + length (before sense) ≤ length out.old }
     ensures { Put out.old at (before sense) out.new result }
@@ -36,5 +36,5 @@ pub fn put_before(out: &mut [u8], at: usize, sense: u64) -> usize
     if sense == 0 {
         return at;
     }
-    put_text(&mut *out, at, b"not ")
+    put_text(out, at, b"not ")
 }

@@ -16,7 +16,7 @@ use Rattle.chain.specs.Links.{link}
 use Rattle.frame.specs.fields.Answers.{LINKED, link_line}
 use Rattle.frame.specs.fields.Fields.{BYTE, InDigits, Line, WORD, byte, digits_in}
 use Rattle.frame.proofs.fields.Fields.{digits_digits, fields_read, fields_at, length_digits, total}
-use Rattle.citing.specs.declared.linked.Linked.TheVariants.{At}
+use Rattle.std.specs.Prelude.{Some}
 use Rattle.citing.specs.linked.Linked.{bare, bare_end, end_of, is_link, link_in, link_of}
 
 digit_at : (l : List ℕ) (i : ℕ) → all_digits l ≡ true → i < length l → is_digit (get_or l i 0) ≡ true
@@ -63,15 +63,15 @@ not_old l k = rw (ne_eqb (length l) (end_of (WORD Old)) (λ e. omega arith))
 
 -- a line that the desk writes for a link is read as that link
 pub desk_reads_back : (e : Edition) (from to reason : ℕ) → InDigits (link_line e from to reason)
-    → link_in (digits_in (link_line e from to reason)) ≡ At (link from to reason)
+    → link_in (digits_in (link_line e from to reason)) ≡ Some (link from to reason)
 unfolding link_in terms
 desk_reads_back Old from to reason h =
     let l = written Old from to reason h in
     let n = long Old from to reason h in
     rw (bare_digits l (digits_digits (link_line Old from to reason)) (omega arith), is_link_lem Old from to reason h)
-    (ap At (link_is Old from to reason h))
+    (ap Some (link_is Old from to reason h))
 desk_reads_back New from to reason h =
     let l = written New from to reason h in
     let n = long New from to reason h in
     rw (bare_digits l (digits_digits (link_line New from to reason)) (omega arith), not_old l n, is_link_lem New from to reason h)
-    (ap At (link_is New from to reason h))
+    (ap Some (link_is New from to reason h))

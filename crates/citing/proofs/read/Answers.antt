@@ -3,7 +3,8 @@ use mathlib.Core.Path.{sym, ap, ◌∙◌}
 use native.Mathlib.Omega.{arith}
 use borrow.Author.Tests.{le-ltb, lt-ltb}
 use lib.ListN.{length}
-use Rattle.citing.specs.declared.linked.Linked.{Linked}
+use Rattle.std.specs.Prelude.{Option}
+use Rattle.chain.specs.declared.Link.{Link}
 use Rattle.citing.specs.Citation.{citation, or_lab}
 use Rattle.citing.proofs.read.Goals as goal
 
@@ -12,13 +13,13 @@ unfolding citation
 returns-then-line-gt-LIMIT c =
     rw (lt-ltb 1024 (length c.args.line.now) (omega arith))
 
-pub returns-in-At : goal.returns-in-At
+pub returns-in-Some : goal.returns-in-Some
 unfolding citation or_lab
-returns-in-At c =
-    rw (le-ltb 1024 (length c.args.line.now) (omega arith)) (ap (λ (k : Linked). or_lab k c.args.line.now) (sym c.in-At.is ∙ c.read.ensures))
+returns-in-Some c =
+    rw (le-ltb 1024 (length c.args.line.now) (omega arith)) (ap (λ (k : Option Link). or_lab k c.args.line.now) (sym c.in-Some.is ∙ c.read.ensures))
 
-pub returns-in-Nothing : goal.returns-in-Nothing
+pub returns-in-None : goal.returns-in-None
 unfolding citation or_lab
-returns-in-Nothing c =
+returns-in-None c =
     rw (le-ltb 1024 (length c.args.line.now) (omega arith))
-    (c.lab_says.ensures ∙ ap (λ (k : Linked). or_lab k c.args.line.now) (sym c.in-Nothing.is ∙ c.read.ensures))
+    (c.lab_says.ensures ∙ ap (λ (k : Option Link). or_lab k c.args.line.now) (sym c.in-None.is ∙ c.read.ensures))

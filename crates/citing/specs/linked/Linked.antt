@@ -1,5 +1,5 @@
 -- A link as the desk writes it (`fields: Answers`, `link_line`), in either edition.
-use Rattle.std.specs.Prelude.{Bool, ◌&&◌, cond, List, ℕ, ◌+◌, ◌-◌, eqb, get_or, length, take}
+use Rattle.std.specs.Prelude.{Bool, ◌&&◌, cond, List, ℕ, ◌+◌, ◌-◌, eqb, get_or, length, take, Option, Some, None}
 use Rattle.std.proofs.Math.Seq.{slice}
 use Rattle.word.specs.declared.Edition.{Edition}
 use Rattle.word.specs.declared.Edition.TheVariants.{New, Old}
@@ -8,8 +8,6 @@ use Rattle.chain.specs.declared.Link.{Link}
 use Rattle.chain.specs.Links.{link}
 use Rattle.frame.specs.fields.Answers.{LINKED}
 use Rattle.frame.specs.fields.Fields.{BYTE, WORD}
-use Rattle.citing.specs.declared.linked.Linked.{Linked}
-use Rattle.citing.specs.declared.linked.Linked.TheVariants.{At, Nothing}
 
 -- "`c0` from(8) to(8) reason(2)", and in the new edition 16 digits for a word: where each number begins, and where the line ends
 abbrev pub to_at : ℕ → ℕ
@@ -39,8 +37,8 @@ unfoldable pub bare : List ℕ → List ℕ
 bare l = take (bare_end l) l
 
 -- the link that a line is, of the old edition or of the new one
-unfoldable pub link_in : List ℕ → Linked
+unfoldable pub link_in : List ℕ → Option Link
 link_in l =
-    cond (is_link Old (bare l)) (At (link_of (WORD Old) (bare l)))
-    (cond (is_link New (bare l)) (At (link_of (WORD New) (bare l)))
-    Nothing)
+    cond (is_link Old (bare l)) (Some (link_of (WORD Old) (bare l)))
+    (cond (is_link New (bare l)) (Some (link_of (WORD New) (bare l)))
+    None)

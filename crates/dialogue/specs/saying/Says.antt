@@ -1,13 +1,11 @@
 -- What one statement does: the answer and the next sheet are those of its call, and a mistake or a refusal stops.
-use Rattle.std.specs.Prelude.{◌≡◌, List, ℕ, min, Result, Ok, Err}
+use Rattle.std.specs.Prelude.{◌≡◌, List, ℕ, min, Option, Some, None, Result, Ok, Err}
 use Rattle.std.specs.Float.{binary32}
 use Rattle.std.specs.Float.Ieee.{Float, of_bits}
 use Rattle.word.specs.declared.Edition.TheVariants.{New}
 use Rattle.gate.specs.declared.Gate.{Gate}
 use Rattle.gate.specs.declared.Gate.TheVariants.{AtLeast, AtMost, Within}
-use Rattle.line.specs.grammar.Kinds.{AMOUNT}
-use Rattle.watts.specs.declared.Limit.{Limit}
-use Rattle.watts.specs.declared.Limit.TheVariants.{Bits, TooFine}
+use Rattle.line.specs.declared.grammar.kind.Kind.TheVariants as kinds
 use Rattle.watts.specs.Watts.{limit_of}
 use Rattle.page.specs.Calls.{Call, add, back, forward, mark, open_at, set_gate}
 use Rattle.page.specs.Page.{at_width}
@@ -82,12 +80,12 @@ pub record Shows (s : Sheet) (r : Upshot) : Type 0 where
   pub result : r ≡ by_number number s Shown
 
 abbrev pub too_fine : (at : ℕ) → Mistake
-too_fine at = mistake at AMOUNT
+too_fine at = mistake at kinds.Amount
 
 -- a limit as a number of watts, or a mistake where it stands that has more digits after the point than are read
-unfoldable pub by_bits : (at : ℕ) → Limit → Result Float Mistake
-by_bits i TooFine = Err (too_fine i)
-by_bits i (Bits l) = Ok (of_bits binary32 l)
+unfoldable pub by_bits : (at : ℕ) → Option ℕ → Result Float Mistake
+by_bits i None = Err (too_fine i)
+by_bits i (Some l) = Ok (of_bits binary32 l)
 
 abbrev pub limit_at : Amount → Result Float Mistake
 limit_at a = by_bits a.at (limit_of a.numeral.minus a.numeral.value a.numeral.places)

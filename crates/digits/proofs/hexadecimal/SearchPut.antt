@@ -1,8 +1,7 @@
 -- The lemmas that the goals of `put` want, whatever its tests are named. Assumes nothing.
-use mathlib.Core.Path.{◌≡◌, refl, sym, ap, ◌∙◌}
+use mathlib.Core.Path.{◌≡◌, sym, ap, ◌∙◌}
 use mathlib.Core.List.{List}
-use Prim.Native.Nat.{ℕ, suc, ◌+◌, ◌-◌, ◌/◌, ◌%◌}
-use native.Mathlib.Omega.{arith}
+use Prim.Native.Nat.{ℕ, suc, ◌+◌, ◌/◌, ◌%◌}
 use lib.ListN.{length-set, set}
 use lib.Seq.{sets}
 use Rattle.digits.specs.hexadecimal.Hex.{glyph, hex}

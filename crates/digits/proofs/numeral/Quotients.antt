@@ -9,12 +9,14 @@ use native.Mathlib.Nat.{div-add-mod, div-lt_self, le-div_iff_mul-le, le-mul_of_p
 use native.Mathlib.Numerals.{add-one}
 use native.Mathlib.Omega.{arith}
 use borrow.Author.Tests.{le-leb, le-ltb, lt-leb, lt-ltb, ne_eqb}
-use lib.Dec.{eqb, ltb}
+use lib.Dec.{ltb}
 use lib.ListN.{length, length-append}
 use Rattle.digits.specs.hexadecimal.Hex.{glyph}
 use Rattle.digits.specs.declared.numeral.Numeral.{Numeral}
 use Rattle.digits.specs.numeral.Digits.{digits, digits_in}
-use Rattle.digits.specs.numeral.Numeral.{BAD, DIGITS, NEEDS, PLACES, START, ZERO, after_zero, below_zero, digit, next, numeral, numeral_from, past_digit, pointed, start, value_of}
+use Rattle.digits.specs.declared.numeral.Stage.{Stage}
+use Rattle.digits.specs.declared.numeral.Stage.TheVariants.{Digits, Needs, Start}
+use Rattle.digits.specs.numeral.Numeral.{PLACES, after_zero, below_zero, digit, has_digits, is_start, is_stopped, is_zero, next, numeral, numeral_from, past_digit, pointed, start, value_of}
 
 module _ (base : ℕ) (two : 2 ≤ base) where
   -- any number of digits above the number itself is enough
@@ -52,7 +54,7 @@ numeral_more n [] ys = refl
 numeral_more n (x ∷ xs) ys = numeral_more (next n x) xs ys
 
 -- a digit more of a whole number
-module _ (stage base v d : ℕ) (minus : Bool) (other : stage ≡ ZERO → ⊥) (going : stage < BAD) (few : base ≤ 16) (small : d < base) where
+module _ (stage : Stage) (base v d : ℕ) (minus : Bool) (other : is_zero stage ≡ false) (going : is_stopped stage ≡ false) (few : base ≤ 16) (small : d < base) where
   value_back : value_of (glyph d) ≡ d
   unfolding value_of glyph
   value_back = go (dec_lt d 10)
@@ -75,14 +77,14 @@ module _ (stage base v d : ℕ) (minus : Bool) (other : stage ≡ ZERO → ⊥) 
       → next (numeral stage minus base false v 0) (glyph d) ≡ numeral (past_digit stage d) minus base false (base * v + d) 0
   unfolding next digit
   next_digit fits =
-      rw (ne_eqb (glyph d) 45 no_sign.0, ne_eqb (glyph d) 46 no_sign.1, ne_eqb stage ZERO other, value_back, lt-leb BAD stage going, lt-leb base d small, le-leb (base * v + d) (2 ^ 64 - 1) fits)
+      rw (ne_eqb (glyph d) 45 no_sign.0, ne_eqb (glyph d) 46 no_sign.1, other, value_back, going, lt-leb base d small, le-leb (base * v + d) (2 ^ 64 - 1) fits)
 
-module _ (stage base : ℕ) (minus : Bool) (other : stage ≡ ZERO → ⊥) (going : stage < BAD) (two : 2 ≤ base) (few : base ≤ 16) where
-  past_some : (x : ℕ) → 1 ≤ x → past_digit stage x ≡ DIGITS
+module _ (stage : Stage) (base : ℕ) (minus : Bool) (other : is_zero stage ≡ false) (going : is_stopped stage ≡ false) (two : 2 ≤ base) (few : base ≤ 16) where
+  past_some : (x : ℕ) → 1 ≤ x → past_digit stage x ≡ Digits
   unfolding past_digit
-  past_some x h = rw (ne_eqb x 0 (λ e. omega arith), and-false (eqb stage START))
+  past_some x h = rw (ne_eqb x 0 (λ e. omega arith), and-false (is_start stage))
 
-  past_digits : (d : ℕ) → past_digit DIGITS d ≡ DIGITS
+  past_digits : (d : ℕ) → past_digit Digits d ≡ Digits
   unfolding past_digit
   past_digits d = refl
 
@@ -104,25 +106,25 @@ module _ (stage base : ℕ) (minus : Bool) (other : stage ≡ ZERO → ⊥) (goi
           let e : base * (x / base) + x % base ≡ x = div-add-mod x base in
           let some : 1 ≤ x / base = (le-div_iff_mul-le {k = base} {x = 1} {y = x} (omega arith)).1 (omega arith) in
           rw (le-ltb x base (omega arith), numeral_more (numeral stage minus base false 0 0) (digits base k (x / base)) (glyph (x % base) ∷ []), later (omega arith) (omega arith))
-          (ap (λ (s : ℕ). next (numeral s minus base false (x / base) 0) (glyph (x % base))) (past_some (x / base) some)
-          ∙ next_digit DIGITS base (x / base) (x % base) minus (λ z. omega arith) (omega arith) few (mod-lt x (omega arith)) (omega arith)
-          ∙ ap (λ (n : ℕ). numeral (past_digit DIGITS (x % base)) minus base false n 0) e
-          ∙ ap (λ (s : ℕ). numeral s minus base false x 0) (past_digits (x % base) ∙ sym (past_some x (omega arith))))
+          (ap (λ (s : Stage). next (numeral s minus base false (x / base) 0) (glyph (x % base))) (past_some (x / base) some)
+          ∙ next_digit Digits base (x / base) (x % base) minus refl refl few (mod-lt x (omega arith)) (omega arith)
+          ∙ ap (λ (n : ℕ). numeral (past_digit Digits (x % base)) minus base false n 0) e
+          ∙ ap (λ (s : Stage). numeral s minus base false x 0) (past_digits (x % base) ∙ sym (past_some x (omega arith))))
 
 -- what is written in a base is read again as that number
-pub digits_back : (x : ℕ) → x ≤ 2 ^ 64 - 1 → numeral_from start (digits_in 10 x) ≡ numeral (past_digit START x) false 10 false x 0
+pub digits_back : (x : ℕ) → x ≤ 2 ^ 64 - 1 → numeral_from start (digits_in 10 x) ≡ numeral (past_digit Start x) false 10 false x 0
 unfolding digits_in
-digits_back x h = back START 10 false (λ e. omega arith) (omega arith) (omega arith) (omega arith) (suc x) x (omega arith) h
+digits_back x h = back Start 10 false refl refl (omega arith) (omega arith) (suc x) x (omega arith) h
 
 -- after `0x`
-pub hex_back : (x : ℕ) → x ≤ 2 ^ 64 - 1 → numeral_from start (48 ∷ 120 ∷ digits_in 16 x) ≡ numeral DIGITS false 16 false x 0
+pub hex_back : (x : ℕ) → x ≤ 2 ^ 64 - 1 → numeral_from start (48 ∷ 120 ∷ digits_in 16 x) ≡ numeral Digits false 16 false x 0
 unfolding digits_in numeral_from next after_zero digit value_of past_digit
-hex_back x h = back NEEDS 16 false (λ e. omega arith) (omega arith) (omega arith) (omega arith) (suc x) x (omega arith) h
+hex_back x h = back Needs 16 false refl refl (omega arith) (omega arith) (suc x) x (omega arith) h
 
 -- after `-`
-pub minus_back : (x : ℕ) → x ≤ 2 ^ 64 - 1 → numeral_from start (45 ∷ digits_in 10 x) ≡ numeral DIGITS true 10 false x 0
+pub minus_back : (x : ℕ) → x ≤ 2 ^ 64 - 1 → numeral_from start (45 ∷ digits_in 10 x) ≡ numeral Digits true 10 false x 0
 unfolding digits_in numeral_from next below_zero past_digit
-minus_back x h = back NEEDS 10 true (λ e. omega arith) (omega arith) (omega arith) (omega arith) (suc x) x (omega arith) h
+minus_back x h = back Needs 10 true refl refl (omega arith) (omega arith) (suc x) x (omega arith) h
 
 -- ---- fractions
 
@@ -132,27 +134,27 @@ places zero b = []
 places (suc k) b = places k (b / 10) ++ glyph (b % 10) ∷ []
 
 -- a digit after the point
-module _ (stage v d k : ℕ) (minus : Bool) (some : DIGITS ≤ stage) (going : stage < BAD) (small : d < 10) (few : k < PLACES) where
-  next_place : 10 * v + d ≤ 2 ^ 64 - 1 → next (numeral stage minus 10 true v k) (glyph d) ≡ numeral DIGITS minus 10 true (10 * v + d) (k + 1)
+module _ (stage : Stage) (v d k : ℕ) (minus : Bool) (some : (is_start stage ≡ false) × (is_zero stage ≡ false)) (going : is_stopped stage ≡ false) (small : d < 10) (few : k < PLACES) where
+  next_place : 10 * v + d ≤ 2 ^ 64 - 1 → next (numeral stage minus 10 true v k) (glyph d) ≡ numeral Digits minus 10 true (10 * v + d) (k + 1)
   unfolding next digit past_digit
   next_place fits =
-      let sign = no_sign stage 10 v d minus (λ e. omega arith) going (omega arith) small in
-      let back = value_back stage 10 v d minus (λ e. omega arith) going (omega arith) small in
-      rw (ne_eqb (glyph d) 45 sign.0, ne_eqb (glyph d) 46 sign.1, ne_eqb stage ZERO (λ e. omega arith), back, lt-leb BAD stage going, lt-leb 10 d small, lt-leb PLACES k few, le-leb (10 * v + d) (2 ^ 64 - 1) fits, ne_eqb stage START (λ e. omega arith))
+      let sign = no_sign stage 10 v d minus some.1 going (omega arith) small in
+      let back = value_back stage 10 v d minus some.1 going (omega arith) small in
+      rw (ne_eqb (glyph d) 45 sign.0, ne_eqb (glyph d) 46 sign.1, some.1, back, going, lt-leb 10 d small, lt-leb PLACES k few, le-leb (10 * v + d) (2 ^ 64 - 1) fits, some.0)
 
 -- the point wants a digit after it
-unfoldable went : ℕ → ℕ
-went zero = NEEDS
-went (suc k) = DIGITS
+unfoldable went : ℕ → Stage
+went zero = Needs
+went (suc k) = Digits
 
-went_some : (k : ℕ) → (DIGITS ≤ went k) × (went k < BAD)
+went_some : (k : ℕ) → ((is_start (went k) ≡ false) × (is_zero (went k) ≡ false)) × (is_stopped (went k) ≡ false)
 unfolding went
-went_some zero = (omega arith, omega arith)
-went_some (suc k) = (omega arith, omega arith)
+went_some zero = ((refl, refl), refl)
+went_some (suc k) = ((refl, refl), refl)
 
 module _ (minus : Bool) (v : ℕ) where
   Back : (k b : ℕ) → Type 0
-  Back k b = numeral_from (numeral NEEDS minus 10 true v 0) (places k b) ≡ numeral (went k) minus 10 true (v * 10 ^ k + b) k
+  Back k b = numeral_from (numeral Needs minus 10 true v 0) (places k b) ≡ numeral (went k) minus 10 true (v * 10 ^ k + b) k
 
   scaled : (k b : ℕ) → 10 * (v * 10 ^ k + b / 10) + b % 10 ≡ v * 10 ^ suc k + b
   scaled k b =
@@ -164,15 +166,15 @@ module _ (minus : Bool) (v : ℕ) where
   unfolding Back places numeral_from went
   one_more k b few fits before =
       let q = scaled k b in
-      numeral_more (numeral NEEDS minus 10 true v 0) (places k (b / 10)) (glyph (b % 10) ∷ [])
+      numeral_more (numeral Needs minus 10 true v 0) (places k (b / 10)) (glyph (b % 10) ∷ [])
       ∙ ap (λ (n : Numeral). next n (glyph (b % 10))) before
       ∙ next_place (went k) (v * 10 ^ k + b / 10) (b % 10) k minus (went_some k).0 (went_some k).1 (mod-lt b (omega arith)) few (omega arith)
-      ∙ ap₂ (numeral DIGITS minus 10 true) q (add-one k)
+      ∙ ap₂ (numeral Digits minus 10 true) q (add-one k)
 
   none_yet : (b : ℕ) → b < 10 ^ 0 → Back 0 b
   unfolding Back places numeral_from went
   none_yet b small =
-      let e : v ≡ v * 10 ^ 0 + b = omega arith in ap (λ (n : ℕ). numeral NEEDS minus 10 true n 0) e
+      let e : v ≡ v * 10 ^ 0 + b = omega arith in ap (λ (n : ℕ). numeral Needs minus 10 true n 0) e
 
   places_back : (k b : ℕ) → k ≤ PLACES → b < 10 ^ k → v * 10 ^ k + b ≤ 2 ^ 64 - 1 → Back k b
   places_back zero b few small fits = none_yet b small
@@ -181,45 +183,45 @@ module _ (minus : Bool) (v : ℕ) where
       one_more k b few fits (places_back k (b / 10) (omega arith) (omega (arith, div-add-mod b 10)) (omega arith))
 
 -- a point after a whole number
-point_after : (minus : Bool) (stage v : ℕ) → ZERO ≤ stage → stage ≤ DIGITS → next (numeral stage minus 10 false v 0) 46 ≡ numeral NEEDS minus 10 true v 0
+point_after : (minus : Bool) (stage : Stage) (v : ℕ) → has_digits stage ≡ true → next (numeral stage minus 10 false v 0) 46 ≡ numeral Needs minus 10 true v 0
 unfolding next pointed
-point_after minus stage v low high = rw (le-leb ZERO stage low, le-leb stage DIGITS high)
+point_after minus stage v some = rw some
 
-past_start : (a : ℕ) → (ZERO ≤ past_digit START a) × (past_digit START a ≤ DIGITS)
+past_start : (a : ℕ) → has_digits (past_digit Start a) ≡ true
 unfolding past_digit
-past_start zero = (omega arith, omega arith)
-past_start (suc a) = rw (ne_eqb (suc a) 0 (λ e. omega arith)) (omega arith, omega arith)
+past_start zero = refl
+past_start (suc a) = rw (ne_eqb (suc a) 0 (λ e. omega arith)) refl
 
 -- What is read of the digits of a, a point, and k digits of b, is a * 10^k + b with k places.
 module _ (a k b : ℕ) (one : 1 ≤ k) (few : k ≤ PLACES) (small : b < 10 ^ k) (fits : a * 10 ^ k + b ≤ 2 ^ 64 - 1) where
   whole_fits : a ≤ 2 ^ 64 - 1
   whole_fits = omega (arith, le-mul_of_pos_right {m = 10 ^ k} a (one-le-pow k 10 (omega arith)))
 
-  went_digits : went k ≡ DIGITS
+  went_digits : went k ≡ Digits
   unfolding went
   went_digits = go k one
     where
-      go : (j : ℕ) → 1 ≤ j → went j ≡ DIGITS
+      go : (j : ℕ) → 1 ≤ j → went j ≡ Digits
       go zero h = absurd (omega arith)
       go (suc j) h = refl
 
-  after : (minus : Bool) (stage : ℕ) → ZERO ≤ stage → stage ≤ DIGITS
-      → numeral_from (numeral stage minus 10 false a 0) (46 ∷ places k b) ≡ numeral DIGITS minus 10 true (a * 10 ^ k + b) k
+  after : (minus : Bool) (stage : Stage) → has_digits stage ≡ true
+      → numeral_from (numeral stage minus 10 false a 0) (46 ∷ places k b) ≡ numeral Digits minus 10 true (a * 10 ^ k + b) k
   unfolding numeral_from Back
-  after minus stage low high =
-      ap (λ (n : Numeral). numeral_from n (places k b)) (point_after minus stage a low high)
+  after minus stage some =
+      ap (λ (n : Numeral). numeral_from n (places k b)) (point_after minus stage a some)
       ∙ places_back minus a k b few small fits
-      ∙ ap (λ (s : ℕ). numeral s minus 10 true (a * 10 ^ k + b) k) went_digits
+      ∙ ap (λ (s : Stage). numeral s minus 10 true (a * 10 ^ k + b) k) went_digits
 
-  pub fraction_back : numeral_from start (digits_in 10 a ++ 46 ∷ places k b) ≡ numeral DIGITS false 10 true (a * 10 ^ k + b) k
+  pub fraction_back : numeral_from start (digits_in 10 a ++ 46 ∷ places k b) ≡ numeral Digits false 10 true (a * 10 ^ k + b) k
   fraction_back =
       numeral_more start (digits_in 10 a) (46 ∷ places k b)
       ∙ ap (λ (n : Numeral). numeral_from n (46 ∷ places k b)) (digits_back a whole_fits)
-      ∙ after false (past_digit START a) (past_start a).0 (past_start a).1
+      ∙ after false (past_digit Start a) (past_start a)
 
   -- after `-`
-  pub minus_fraction_back : numeral_from start (45 ∷ digits_in 10 a ++ 46 ∷ places k b) ≡ numeral DIGITS true 10 true (a * 10 ^ k + b) k
+  pub minus_fraction_back : numeral_from start (45 ∷ digits_in 10 a ++ 46 ∷ places k b) ≡ numeral Digits true 10 true (a * 10 ^ k + b) k
   minus_fraction_back =
       numeral_more start (45 ∷ digits_in 10 a) (46 ∷ places k b)
       ∙ ap (λ (n : Numeral). numeral_from n (46 ∷ places k b)) (minus_back a whole_fits)
-      ∙ after true DIGITS (omega arith) (omega arith)
+      ∙ after true Digits refl

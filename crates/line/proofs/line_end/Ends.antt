@@ -7,7 +7,8 @@ use Prim.Native.Nat.{ℕ, zero, suc, ◌+◌}
 use native.Mathlib.Omega.{arith}
 use borrow.Author.Tests.{ne_eqb}
 use lib.Dec.{eqb}
-use Rattle.line.specs.token.Token.{BLANK, COMMENT, class_of}
+use Rattle.line.specs.declared.token.class.Class.TheVariants.{Blank, Comment}
+use Rattle.line.specs.token.Token.{class_of, same}
 use Rattle.line.specs.line_end.End.{end_of, past_last, uncommented}
 use Rattle.line.specs.line_end.route.Course.{end_from, past}
 
@@ -30,12 +31,12 @@ stop : (c : Bool) (e at b : ℕ) (bs : List ℕ)
     → cond c e (end_from (past (class_of b) (suc at) e) (suc at) bs) ≡ after e at (past_last (cond c [] (b ∷ uncommented bs)))
 unfolding past past_last
 stop true e at b bs h = refl
-stop false e at b bs h = h ∙ one_more (eqb (class_of b) BLANK) e at (past_last (uncommented bs))
+stop false e at b bs h = h ∙ one_more (same (class_of b) Blank) e at (past_last (uncommented bs))
 
 course : (e at : ℕ) (l : List ℕ) → end_from e at l ≡ after e at (past_last (uncommented l))
 unfolding end_from past_last uncommented
 course e at [] = refl
-course e at (b ∷ bs) = stop (eqb (class_of b) COMMENT) e at b bs (course (past (class_of b) (suc at) e) (suc at) bs)
+course e at (b ∷ bs) = stop (same (class_of b) Comment) e at b bs (course (past (class_of b) (suc at) e) (suc at) bs)
 
 pub ends : (l : List ℕ) → end_of l ≡ end_from 0 0 l
 unfolding end_of

@@ -1,4 +1,4 @@
 -- The lemmas that the goals of `past` want, whatever its tests are named. Assumes nothing.
-use borrow.Author.Tests.{eq-eqb, ne_eqb}
+use Rattle.line.proofs.token.Classes.{not_same, same_self}
 
-pub ruleset wanted = (eq-eqb, ne_eqb)
+pub ruleset wanted = (same_self, not_same)

@@ -1,10 +1,8 @@
 -- The lemmas that the goals of `rule_at` want, whatever its tests are named. Assumes nothing.
-use mathlib.Core.Path.{◌≡◌, ap, sym, ◌∙◌}
+use mathlib.Core.Path.{◌≡◌}
 use Prim.Native.Nat.{ℕ, suc, ◌≤◌}
 use native.Mathlib.Omega.{arith}
 use lib.ListN.{get_or-eq_default}
-use Rattle.rule.specs.accept.Accept.{no_rule}
-use Rattle.line.specs.row_rules.Rules.{rule_at, rules}
 
 -- what is at least k and is not k is more
 pub up : (k row : ℕ) → k ≤ row → (row ≡ k → ⊥) → suc k ≤ row

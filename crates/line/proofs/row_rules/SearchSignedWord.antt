@@ -1,11 +1,11 @@
 -- The lemmas that the goals of `signed_word` want, whatever its tests are named. Assumes nothing.
 use native.Mathlib.Omega.{arith}
-use mathlib.Core.Path.{◌≡◌, ap}
+use mathlib.Core.Path.{◌≡◌}
 use mathlib.Core.Bool.{Bool, true, false}
 use Prim.Native.Nat.{ℕ, ◌<◌}
 use borrow.Author.Tests.{le-leb, le-ltb, lt-leb, lt-ltb}
 use Rattle.word.specs.Word.{half}
-use Rattle.std.specs.Prelude.{Some, None}
+use Rattle.std.specs.Prelude.{None}
 use Rattle.line.specs.row_rules.Rules.{signed_word}
 
 pub too_large : (w : ℕ) (b : Bool) (n : ℕ) → half w < n → None ≡ signed_word w b n

@@ -1,94 +1,94 @@
 -- The grammar of a line: the rows of docs/VET.md, each a list of kinds, and how far the kinds of a line follow them.
-use Rattle.std.specs.Prelude.{Bool, not, ◌&&◌, ◌||◌, cond, List, [], ◌∷◌, map, ℕ, zero, suc, ◌+◌, ◌*◌, ◌/◌, ◌%◌, ◌^◌, eqb, leb, ltb, get_or, take}
+use Rattle.std.specs.Prelude.{Bool, true, not, ◌&&◌, ◌||◌, cond, List, [], ◌∷◌, map, ℕ, zero, suc, ◌+◌, eqb, leb, ltb, get_or, take, Option, None, find, option_map, position, unwrap_or}
 use Rattle.line.specs.declared.grammar.Place.{Place}
-use Rattle.line.specs.grammar.Kinds.{
-  ABOVE,
-  AMOUNT,
-  AND,
-  ASK,
-  AT,
-  AT_LEAST,
-  AT_MOST,
-  BACK,
-  BELOW,
-  COLON,
-  COUNT,
-  END,
-  EQUALS,
-  FOR,
-  FORWARD,
-  FROM,
-  LEAST,
-  LIST,
-  MARK,
-  MOST,
-  NAME,
-  NEGATIVE,
-  NOT,
-  NUMBER,
-  PLUS,
-  RULE,
-  SETTLED,
-  SHOW,
-  SIGNED,
-  SINCE,
-  STATEMENT,
-  UP_TO,
-  WATTS,
-  WHY,
-  WITHIN,
-  WORD,
+use Rattle.line.specs.declared.grammar.kind.Kind.{Kind}
+use Rattle.line.specs.declared.grammar.kind.Kind.TheVariants.{
+  Above,
+  Amount,
+  And,
+  Ask,
+  At,
+  AtLeast,
+  AtMost,
+  Back,
+  Below,
+  Colon,
+  Count,
+  End,
+  Equals,
+  For,
+  Forward,
+  From,
+  Least,
+  Mark,
+  Most,
+  Name,
+  Negative,
+  Not,
+  Number,
+  Plus,
+  Rule,
+  Settled,
+  Show,
+  Signed,
+  Since,
+  Statement,
+  UpTo,
+  Watts,
+  Why,
+  Within,
+  Word,
   X,
-  packed_from,
-  texts,
 }
+use Rattle.line.specs.declared.grammar.kind.Kind.TheVariants as kinds
+use Rattle.line.specs.grammar.Kinds.{letters_of, packs, same, words}
 
 -- the rows, with a line of each: rules, what stands before a rule, and the other statements
-abbrev pub grammar : List (List ℕ)
+abbrev pub grammar : List (List Kind)
 grammar =
-    (X ∷ AT_MOST ∷ NUMBER ∷ [])  -- x <= 9
-    ∷ (X ∷ BELOW ∷ NUMBER ∷ [])  -- x < 9
-    ∷ (X ∷ AT_LEAST ∷ NUMBER ∷ [])  -- x >= 9
-    ∷ (X ∷ ABOVE ∷ NUMBER ∷ [])  -- x > 9
-    ∷ (X ∷ EQUALS ∷ NUMBER ∷ [])  -- x = 9
-    ∷ (X ∷ PLUS ∷ NUMBER ∷ AT_MOST ∷ NUMBER ∷ [])  -- x + 5 <= 3
-    ∷ (X ∷ PLUS ∷ NUMBER ∷ AT_MOST ∷ X ∷ PLUS ∷ NUMBER ∷ [])  -- x + 1 <= x + 2
-    ∷ (NUMBER ∷ AT_MOST ∷ X ∷ PLUS ∷ NUMBER ∷ [])  -- 3 <= x + 5
-    ∷ (X ∷ AND ∷ NUMBER ∷ EQUALS ∷ NUMBER ∷ [])  -- x & 12 = 4
-    ∷ (SIGNED ∷ X ∷ AT_MOST ∷ NUMBER ∷ [])  -- signed x <= 3
-    ∷ (SIGNED ∷ X ∷ AT_MOST ∷ NEGATIVE ∷ [])  -- signed x <= -3
-    ∷ (NUMBER ∷ AT_MOST ∷ SIGNED ∷ X ∷ [])  -- 3 <= signed x
-    ∷ (NEGATIVE ∷ AT_MOST ∷ SIGNED ∷ X ∷ [])  -- -3 <= signed x
-    ∷ (SETTLED ∷ SINCE ∷ NUMBER ∷ FOR ∷ NUMBER ∷ [])  -- settled since 14 for 3
-    ∷ (NOT ∷ [])  -- not
-    ∷ (WATTS ∷ AT ∷ LEAST ∷ AMOUNT ∷ [])  -- watts at least 5.5
-    ∷ (WATTS ∷ AT ∷ MOST ∷ AMOUNT ∷ [])  -- watts at most 20
-    ∷ (WATTS ∷ WITHIN ∷ AMOUNT ∷ UP_TO ∷ AMOUNT ∷ [])  -- watts within 5.5 .. 20
-    ∷ (NAME ∷ COLON ∷ [])  -- name :
-    ∷ (WORD ∷ NUMBER ∷ [])  -- word 16
-    ∷ (MARK ∷ [])  -- mark
-    ∷ (BACK ∷ [])  -- back
-    ∷ (FORWARD ∷ [])  -- forward
-    ∷ (ASK ∷ [])  -- ask
-    ∷ (COUNT ∷ [])  -- count
-    ∷ (LIST ∷ NUMBER ∷ [])  -- list 9
-    ∷ (LIST ∷ FROM ∷ NUMBER ∷ NUMBER ∷ [])  -- list from 3 9
-    ∷ (WHY ∷ NUMBER ∷ [])  -- why 9
-    ∷ (SHOW ∷ [])  -- show
+    (X ∷ AtMost ∷ Number ∷ [])  -- x <= 9
+    ∷ (X ∷ Below ∷ Number ∷ [])  -- x < 9
+    ∷ (X ∷ AtLeast ∷ Number ∷ [])  -- x >= 9
+    ∷ (X ∷ Above ∷ Number ∷ [])  -- x > 9
+    ∷ (X ∷ Equals ∷ Number ∷ [])  -- x = 9
+    ∷ (X ∷ Plus ∷ Number ∷ AtMost ∷ Number ∷ [])  -- x + 5 <= 3
+    ∷ (X ∷ Plus ∷ Number ∷ AtMost ∷ X ∷ Plus ∷ Number ∷ [])  -- x + 1 <= x + 2
+    ∷ (Number ∷ AtMost ∷ X ∷ Plus ∷ Number ∷ [])  -- 3 <= x + 5
+    ∷ (X ∷ And ∷ Number ∷ Equals ∷ Number ∷ [])  -- x & 12 = 4
+    ∷ (Signed ∷ X ∷ AtMost ∷ Number ∷ [])  -- signed x <= 3
+    ∷ (Signed ∷ X ∷ AtMost ∷ Negative ∷ [])  -- signed x <= -3
+    ∷ (Number ∷ AtMost ∷ Signed ∷ X ∷ [])  -- 3 <= signed x
+    ∷ (Negative ∷ AtMost ∷ Signed ∷ X ∷ [])  -- -3 <= signed x
+    ∷ (Settled ∷ Since ∷ Number ∷ For ∷ Number ∷ [])  -- settled since 14 for 3
+    ∷ (Not ∷ [])  -- not
+    ∷ (Watts ∷ At ∷ Least ∷ Amount ∷ [])  -- watts at least 5.5
+    ∷ (Watts ∷ At ∷ Most ∷ Amount ∷ [])  -- watts at most 20
+    ∷ (Watts ∷ Within ∷ Amount ∷ UpTo ∷ Amount ∷ [])  -- watts within 5.5 .. 20
+    ∷ (Name ∷ Colon ∷ [])  -- name :
+    ∷ (Word ∷ Number ∷ [])  -- word 16
+    ∷ (Mark ∷ [])  -- mark
+    ∷ (Back ∷ [])  -- back
+    ∷ (Forward ∷ [])  -- forward
+    ∷ (Ask ∷ [])  -- ask
+    ∷ (Count ∷ [])  -- count
+    ∷ (kinds.List ∷ Number ∷ [])  -- list 9
+    ∷ (kinds.List ∷ From ∷ Number ∷ Number ∷ [])  -- list from 3 9
+    ∷ (Why ∷ Number ∷ [])  -- why 9
+    ∷ (Show ∷ [])  -- show
     ∷ []
-
--- so many kinds, packed 256 to the place, with nothing after the last
-abbrev pub padded : ℕ → ℕ → List ℕ → ℕ
-padded zero n ks = n
-padded (suc m) n [] = padded m (256 * n) []
-padded (suc m) n (k ∷ ks) = padded m (256 * n + k) ks
 
 -- how many kinds a row has room for
 abbrev pub KINDS : ℕ
 KINDS = 7
 
-abbrev pub rows : List ℕ
-rows = map (padded KINDS 0) grammar
+-- so many kinds, with the end of the line after the last
+abbrev pub padded : ℕ → List Kind → List Kind
+padded zero ks = []
+padded (suc m) [] = End ∷ padded m []
+padded (suc m) (k ∷ ks) = k ∷ padded m ks
+
+abbrev pub rows : List (List Kind)
+rows = map (padded KINDS) grammar
 
 -- how many rows there are, and the rows of `not` and of a name
 abbrev pub ROWS : ℕ
@@ -100,46 +100,44 @@ NOT_ROW = 14
 abbrev pub NAME_ROW : ℕ
 NAME_ROW = 18
 
-abbrev pub place : (row shape unit limit : ℕ) → Place
-place row shape unit limit = record { row = row; shape = shape; unit = unit; limit = limit }
+abbrev pub place : (row read limit : ℕ) → Place
+place row read limit = record { row = row; read = read; limit = limit }
 
 -- nothing is read, and so many rows are open
 abbrev pub start_at : ℕ → Place
-start_at limit = place 0 0 (256 ^ KINDS) limit
+start_at limit = place 0 0 limit
 
--- no row goes on so
-abbrev pub none : ℕ → Place
-none limit = place limit 0 0 limit
+unfoldable pub row_at : ℕ → List Kind
+row_at i = get_or rows i (padded KINDS [])
 
--- how many numbers of a table stand before the first that begins so
-unfoldable pub find : List ℕ → (unit shape : ℕ) → ℕ
-find [] unit shape = 0
-find (r ∷ rs) unit shape = cond (eqb (r / unit) shape) 0 (suc (find rs unit shape))
+-- two rows have the same first kinds
+unfoldable pub agree : (a b : List Kind) → ℕ → Bool
+agree a b zero = true
+agree a b (suc n) = same (get_or a n End) (get_or b n End) && agree a b n
 
--- A kind more: the first open row that begins with the kinds read and this one. Seven kinds are the most.
-unfoldable pub follow : Place → ℕ → Place
+-- a row begins with the first n kinds of another, and goes on with a kind
+unfoldable pub goes_on : (read : List Kind) (n : ℕ) → Kind → List Kind → Bool
+goes_on read n k row = same (get_or row n End) k && agree read row n
+
+-- A kind more: the first open row that begins with the kinds read and this one, where there is one. Seven kinds are the most.
+unfoldable pub follow : Place → Kind → Option Place
 follow p k =
-    cond (eqb (p.unit / 256) 0 || leb (256 ^ 6) p.shape || ltb ROWS p.limit) (none p.limit)
-    (place (find (take p.limit rows) (p.unit / 256) (256 * p.shape + k)) (256 * p.shape + k) (p.unit / 256) p.limit)
-
-unfoldable pub row_at : ℕ → ℕ
-row_at i = get_or rows i 0
+    cond (leb KINDS p.read || ltb ROWS p.limit) None
+    (option_map (λ row. place row (p.read + 1) p.limit) (position (goes_on (row_at p.row) p.read k) (take p.limit rows)))
 
 -- What was expected where a line stands: what the first row that begins with the kinds read has next; before any kind a statement, or a
 -- rule where only rules are open.
-unfoldable pub expected : Place → ℕ
-expected p =
-    cond (eqb p.shape 0) (cond (eqb p.limit ROWS) STATEMENT RULE)
-    (cond (eqb (p.unit / 256) 0) END (row_at p.row / (p.unit / 256) % 256))
+unfoldable pub expected : Place → Kind
+expected p = cond (eqb p.read 0) (cond (eqb p.limit ROWS) Statement Rule) (get_or (row_at p.row) p.read End)
 
 -- whether the line is one on watts
 unfoldable pub is_watts : Place → Bool
-is_watts p = not (eqb p.shape 0) && eqb (row_at p.row / 256 ^ 6) WATTS
+is_watts p = not (eqb p.read 0) && same (get_or (row_at p.row) 0 End) Watts
 
 -- whether the row is read to its end
 unfoldable pub is_whole : Place → Bool
-is_whole p = not (eqb p.unit 0) && (eqb (row_at p.row / p.unit) p.shape && eqb (row_at p.row % p.unit) 0)
+is_whole p = same (get_or (row_at p.row) p.read End) End
 
--- the kind of a word or a sign that is packed, or of what is none of the grammar's
-unfoldable pub kind_of : ℕ → ℕ
-kind_of text = cond (ltb (find (map (packed_from 0) texts) 1 text) 30) (1 + find (map (packed_from 0) texts) 1 text) NAME
+-- the kind of a word or a sign whose letters are packed, or of what is none of the grammar's
+unfoldable pub kind_of : ℕ → Kind
+kind_of text = unwrap_or (find (λ k. eqb (packs 0 (letters_of k)) text) words) Name

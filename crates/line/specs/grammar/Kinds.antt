@@ -1,173 +1,172 @@
 -- The kinds of what a line is made of, and the texts of the grammar's words and signs.
-use Rattle.std.specs.Prelude.{List, [], ◌∷◌, ℕ, ◌+◌, ◌*◌}
+use Rattle.std.specs.Prelude.{Bool, cond, List, [], ◌∷◌, ℕ, ◌+◌, ◌*◌, ◌^◌, eqb, fold, ltb}
+use Rattle.line.specs.declared.grammar.kind.Kind.{Kind}
+use Rattle.line.specs.declared.grammar.kind.Kind.TheVariants.{
+  Above,
+  Amount,
+  And,
+  Ask,
+  At,
+  AtLeast,
+  AtMost,
+  Back,
+  Below,
+  Colon,
+  Count,
+  End,
+  Equals,
+  For,
+  Forward,
+  Fraction,
+  From,
+  Large,
+  Least,
+  Mark,
+  Most,
+  Name,
+  Negative,
+  Not,
+  Number,
+  Other,
+  Plus,
+  Rule,
+  Settled,
+  ShorterLine,
+  Show,
+  Signed,
+  SignedWord,
+  Since,
+  Statement,
+  UpTo,
+  Watts,
+  Why,
+  Within,
+  Word,
+  X,
+}
+use Rattle.line.specs.declared.grammar.kind.Kind.TheVariants as kinds
 
--- letters packed 256 to the place, after those that are packed already
-unfoldable pub packed_from : ℕ → List ℕ → ℕ
-packed_from n [] = n
-packed_from n (b ∷ bs) = packed_from (256 * n + b) bs
+-- a letter more, packed 256 to the place; eight letters are more than any text of the grammar has
+unfoldable pub packed : ℕ → ℕ → ℕ
+packed text b = cond (ltb text (256 ^ 7)) (256 * text + b) text
 
--- the end of the line
-abbrev pub END : ℕ
-END = 0
+-- letters after those that are packed already
+abbrev pub packs : ℕ → List ℕ → ℕ
+packs text bs = fold packed text bs
 
--- the words and signs of the grammar, in the order of their texts
-abbrev pub X : ℕ
-X = 1
+-- the number of each kind: two kinds are the same where their numbers are
+abbrev pub number : Kind → ℕ
+number End = 0
+number X = 1
+number Plus = 2
+number AtMost = 3
+number Below = 4
+number AtLeast = 5
+number Above = 6
+number Equals = 7
+number And = 8
+number UpTo = 9
+number Colon = 10
+number Not = 11
+number Signed = 12
+number Settled = 13
+number Since = 14
+number For = 15
+number Watts = 16
+number At = 17
+number Least = 18
+number Most = 19
+number Within = 20
+number Word = 21
+number Mark = 22
+number Back = 23
+number Forward = 24
+number Ask = 25
+number Count = 26
+number kinds.List = 27
+number From = 28
+number Why = 29
+number Show = 30
+number Number = 31
+number Negative = 32
+number Amount = 33
+number Fraction = 34
+number Name = 35
+number Other = 36
+number Large = 37
+number Statement = 38
+number Rule = 39
+number SignedWord = 40
+number ShorterLine = 41
 
-abbrev pub PLUS : ℕ
-PLUS = 2
+abbrev pub same : Kind → Kind → Bool
+same a b = eqb (number a) (number b)
 
-abbrev pub AT_MOST : ℕ
-AT_MOST = 3
-
-abbrev pub BELOW : ℕ
-BELOW = 4
-
-abbrev pub AT_LEAST : ℕ
-AT_LEAST = 5
-
-abbrev pub ABOVE : ℕ
-ABOVE = 6
-
-abbrev pub EQUALS : ℕ
-EQUALS = 7
-
-abbrev pub AND : ℕ
-AND = 8
-
-abbrev pub UP_TO : ℕ
-UP_TO = 9
-
-abbrev pub COLON : ℕ
-COLON = 10
-
-abbrev pub NOT : ℕ
-NOT = 11
-
-abbrev pub SIGNED : ℕ
-SIGNED = 12
-
-abbrev pub SETTLED : ℕ
-SETTLED = 13
-
-abbrev pub SINCE : ℕ
-SINCE = 14
-
-abbrev pub FOR : ℕ
-FOR = 15
-
-abbrev pub WATTS : ℕ
-WATTS = 16
-
-abbrev pub AT : ℕ
-AT = 17
-
-abbrev pub LEAST : ℕ
-LEAST = 18
-
-abbrev pub MOST : ℕ
-MOST = 19
-
-abbrev pub WITHIN : ℕ
-WITHIN = 20
-
-abbrev pub WORD : ℕ
-WORD = 21
-
-abbrev pub MARK : ℕ
-MARK = 22
-
-abbrev pub BACK : ℕ
-BACK = 23
-
-abbrev pub FORWARD : ℕ
-FORWARD = 24
-
-abbrev pub ASK : ℕ
-ASK = 25
-
-abbrev pub COUNT : ℕ
-COUNT = 26
-
-abbrev pub LIST : ℕ
-LIST = 27
-
-abbrev pub FROM : ℕ
-FROM = 28
-
-abbrev pub WHY : ℕ
-WHY = 29
-
-abbrev pub SHOW : ℕ
-SHOW = 30
-
--- a whole number, one below zero, one of watts, and one with a point
-abbrev pub NUMBER : ℕ
-NUMBER = 31
-
-abbrev pub NEGATIVE : ℕ
-NEGATIVE = 32
-
-abbrev pub AMOUNT : ℕ
-AMOUNT = 33
-
-abbrev pub FRACTION : ℕ
-FRACTION = 34
-
--- a word that is none of the grammar's, what is nothing at all, and a number past 64 bits
-abbrev pub NAME : ℕ
-NAME = 35
-
-abbrev pub OTHER : ℕ
-OTHER = 36
-
-abbrev pub LARGE : ℕ
-LARGE = 37
-
--- what is expected beside a kind: a statement, a rule, a number that a signed word has, and a shorter line
-abbrev pub STATEMENT : ℕ
-STATEMENT = 38
-
-abbrev pub RULE : ℕ
-RULE = 39
-
-abbrev pub SIGNED_WORD : ℕ
-SIGNED_WORD = 40
-
-abbrev pub SHORTER_LINE : ℕ
-SHORTER_LINE = 41
-
--- the texts, letter by letter, in the order of their kinds
-abbrev pub texts : List (List ℕ)
-texts =
-    (120 ∷ [])
-    ∷ (43 ∷ [])
-    ∷ (60 ∷ 61 ∷ [])
-    ∷ (60 ∷ [])
-    ∷ (62 ∷ 61 ∷ [])
-    ∷ (62 ∷ [])
-    ∷ (61 ∷ [])
-    ∷ (38 ∷ [])
-    ∷ (46 ∷ 46 ∷ [])
-    ∷ (58 ∷ [])
-    ∷ (110 ∷ 111 ∷ 116 ∷ [])
-    ∷ (115 ∷ 105 ∷ 103 ∷ 110 ∷ 101 ∷ 100 ∷ [])
-    ∷ (115 ∷ 101 ∷ 116 ∷ 116 ∷ 108 ∷ 101 ∷ 100 ∷ [])
-    ∷ (115 ∷ 105 ∷ 110 ∷ 99 ∷ 101 ∷ [])
-    ∷ (102 ∷ 111 ∷ 114 ∷ [])
-    ∷ (119 ∷ 97 ∷ 116 ∷ 116 ∷ 115 ∷ [])
-    ∷ (97 ∷ 116 ∷ [])
-    ∷ (108 ∷ 101 ∷ 97 ∷ 115 ∷ 116 ∷ [])
-    ∷ (109 ∷ 111 ∷ 115 ∷ 116 ∷ [])
-    ∷ (119 ∷ 105 ∷ 116 ∷ 104 ∷ 105 ∷ 110 ∷ [])
-    ∷ (119 ∷ 111 ∷ 114 ∷ 100 ∷ [])
-    ∷ (109 ∷ 97 ∷ 114 ∷ 107 ∷ [])
-    ∷ (98 ∷ 97 ∷ 99 ∷ 107 ∷ [])
-    ∷ (102 ∷ 111 ∷ 114 ∷ 119 ∷ 97 ∷ 114 ∷ 100 ∷ [])
-    ∷ (97 ∷ 115 ∷ 107 ∷ [])
-    ∷ (99 ∷ 111 ∷ 117 ∷ 110 ∷ 116 ∷ [])
-    ∷ (108 ∷ 105 ∷ 115 ∷ 116 ∷ [])
-    ∷ (102 ∷ 114 ∷ 111 ∷ 109 ∷ [])
-    ∷ (119 ∷ 104 ∷ 121 ∷ [])
-    ∷ (115 ∷ 104 ∷ 111 ∷ 119 ∷ [])
+-- the words and signs of the grammar
+abbrev pub words : List Kind
+words =
+    X
+    ∷ Plus
+    ∷ AtMost
+    ∷ Below
+    ∷ AtLeast
+    ∷ Above
+    ∷ Equals
+    ∷ And
+    ∷ UpTo
+    ∷ Colon
+    ∷ Not
+    ∷ Signed
+    ∷ Settled
+    ∷ Since
+    ∷ For
+    ∷ Watts
+    ∷ At
+    ∷ Least
+    ∷ Most
+    ∷ Within
+    ∷ Word
+    ∷ Mark
+    ∷ Back
+    ∷ Forward
+    ∷ Ask
+    ∷ Count
+    ∷ kinds.List
+    ∷ From
+    ∷ Why
+    ∷ Show
     ∷ []
+
+-- the text of each, letter by letter
+abbrev pub letters_of : Kind → List ℕ
+letters_of X = 120 ∷ []
+letters_of Plus = 43 ∷ []
+letters_of AtMost = 60 ∷ 61 ∷ []
+letters_of Below = 60 ∷ []
+letters_of AtLeast = 62 ∷ 61 ∷ []
+letters_of Above = 62 ∷ []
+letters_of Equals = 61 ∷ []
+letters_of And = 38 ∷ []
+letters_of UpTo = 46 ∷ 46 ∷ []
+letters_of Colon = 58 ∷ []
+letters_of Not = 110 ∷ 111 ∷ 116 ∷ []
+letters_of Signed = 115 ∷ 105 ∷ 103 ∷ 110 ∷ 101 ∷ 100 ∷ []
+letters_of Settled = 115 ∷ 101 ∷ 116 ∷ 116 ∷ 108 ∷ 101 ∷ 100 ∷ []
+letters_of Since = 115 ∷ 105 ∷ 110 ∷ 99 ∷ 101 ∷ []
+letters_of For = 102 ∷ 111 ∷ 114 ∷ []
+letters_of Watts = 119 ∷ 97 ∷ 116 ∷ 116 ∷ 115 ∷ []
+letters_of At = 97 ∷ 116 ∷ []
+letters_of Least = 108 ∷ 101 ∷ 97 ∷ 115 ∷ 116 ∷ []
+letters_of Most = 109 ∷ 111 ∷ 115 ∷ 116 ∷ []
+letters_of Within = 119 ∷ 105 ∷ 116 ∷ 104 ∷ 105 ∷ 110 ∷ []
+letters_of Word = 119 ∷ 111 ∷ 114 ∷ 100 ∷ []
+letters_of Mark = 109 ∷ 97 ∷ 114 ∷ 107 ∷ []
+letters_of Back = 98 ∷ 97 ∷ 99 ∷ 107 ∷ []
+letters_of Forward = 102 ∷ 111 ∷ 114 ∷ 119 ∷ 97 ∷ 114 ∷ 100 ∷ []
+letters_of Ask = 97 ∷ 115 ∷ 107 ∷ []
+letters_of Count = 99 ∷ 111 ∷ 117 ∷ 110 ∷ 116 ∷ []
+letters_of kinds.List = 108 ∷ 105 ∷ 115 ∷ 116 ∷ []
+letters_of From = 102 ∷ 114 ∷ 111 ∷ 109 ∷ []
+letters_of Why = 119 ∷ 104 ∷ 121 ∷ []
+letters_of Show = 115 ∷ 104 ∷ 111 ∷ 119 ∷ []
+letters_of k = []

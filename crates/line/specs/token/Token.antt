@@ -1,30 +1,28 @@
 -- What a line is made of, letter by letter: letters of one class in a row are one token.
-use Rattle.std.specs.Prelude.{Bool, ◌&&◌, ◌||◌, cond, ℕ, ◌+◌, ◌*◌, ◌^◌, eqb, leb, ltb}
+use Rattle.std.specs.Prelude.{Bool, true, false, ◌&&◌, ◌||◌, cond, ℕ, eqb, leb}
 use Rattle.digits.specs.declared.numeral.Numeral.{Numeral}
-use Rattle.digits.specs.numeral.Numeral.{BAD, LARGE, NEEDS, next, start}
+use Rattle.digits.specs.declared.numeral.Stage.{Stage}
+use Rattle.digits.specs.declared.numeral.Stage.TheVariants.{Bad, Needs}
+use Rattle.digits.specs.declared.numeral.Stage.TheVariants as stages
+use Rattle.digits.specs.numeral.Numeral.{next, start}
+use Rattle.line.specs.declared.grammar.kind.Kind.{Kind}
+use Rattle.line.specs.declared.grammar.kind.Kind.TheVariants.{Amount, Fraction, Name, Negative, Number, Other}
+use Rattle.line.specs.declared.grammar.kind.Kind.TheVariants as kinds
 use Rattle.line.specs.grammar.Grammar.{kind_of}
-use Rattle.line.specs.grammar.Kinds.{AMOUNT, FRACTION, NAME, NEGATIVE, NUMBER, OTHER}
-use Rattle.line.specs.grammar.Kinds as kinds
+use Rattle.line.specs.grammar.Kinds.{packed}
+use Rattle.line.specs.declared.token.class.Class.{Class}
+use Rattle.line.specs.declared.token.class.Class.TheVariants.{Blank, Comment, Minus, Sign, Stray, Word}
 use Rattle.line.specs.declared.token.Token.{Token}
 
--- blanks; letters, digits, `_` and `.`; the letters of signs; a comment; what is in no line; and the minus, which begins a number
-abbrev pub BLANK : ℕ
-BLANK = 0
-
-abbrev pub WORD : ℕ
-WORD = 1
-
-abbrev pub SIGN : ℕ
-SIGN = 2
-
-abbrev pub COMMENT : ℕ
-COMMENT = 3
-
-abbrev pub STRAY : ℕ
-STRAY = 4
-
-abbrev pub MINUS : ℕ
-MINUS = 5
+-- two classes are the same
+abbrev pub same : Class → Class → Bool
+same Blank Blank = true
+same Word Word = true
+same Sign Sign = true
+same Comment Comment = true
+same Stray Stray = true
+same Minus Minus = true
+same a b = false
 
 -- `.`, `_`, `0` to `9`, `A` to `Z`, `a` to `z`
 unfoldable pub is_word : ℕ → Bool
@@ -39,40 +37,49 @@ unfoldable pub is_blank : ℕ → Bool
 is_blank b = eqb b 32 || (eqb b 9 || eqb b 13)
 
 -- `#` begins a comment
-unfoldable pub class_of : ℕ → ℕ
+unfoldable pub class_of : ℕ → Class
 class_of b =
-    cond (is_word b) WORD (cond (is_sign b) SIGN (cond (is_blank b) BLANK (cond (eqb b 35) COMMENT (cond (eqb b 45) MINUS STRAY))))
+    cond (is_word b) Word (cond (is_sign b) Sign (cond (is_blank b) Blank (cond (eqb b 35) Comment (cond (eqb b 45) Minus Stray))))
 
-abbrev pub token : (class from text : ℕ) → Numeral → Token
+abbrev pub token : (class : Class) (from text : ℕ) → Numeral → Token
 token class from text n = record { class = class; from = from; text = text; numeral = n }
 
--- a minus begins a number
-unfoldable pub opened : ℕ → ℕ
-opened class = cond (eqb class MINUS) WORD class
+-- nothing is read, as where blanks stand
+abbrev pub none : Token
+none = token Blank 0 0 start
 
--- a letter more, packed 256 to the place; eight letters are more than any text of the grammar has
-unfoldable pub packed : ℕ → ℕ → ℕ
-packed text b = cond (ltb text (256 ^ 7)) (256 * text + b) text
+-- a minus begins a number
+unfoldable pub opened : Class → Class
+opened Minus = Word
+opened c = c
 
 -- a letter of a class begins a token
-unfoldable pub begun : (class b at : ℕ) → Token
+unfoldable pub begun : (class : Class) (b at : ℕ) → Token
 begun class b at = token (opened class) at b (next start b)
 
 unfoldable pub more : Token → ℕ → Token
 more t b = token t.class t.from (packed t.text b) (next t.numeral b)
 
--- the kind of a text that is no number: a sign that is none of the grammar's is no name
-unfoldable pub text_kind : (text class : ℕ) → ℕ
-text_kind text class = cond (eqb class WORD) (kind_of text) (cond (eqb (kind_of text) NAME) OTHER (kind_of text))
+-- a sign that is none of the grammar's is no name
+abbrev pub of_sign : Kind → Kind
+of_sign Name = Other
+of_sign k = k
+
+-- the kind of a text that is no number
+unfoldable pub text_kind : (text : ℕ) → Class → Kind
+text_kind text Word = kind_of text
+text_kind text class = of_sign (kind_of text)
 
 -- the kind of a number: of any kind in a line on watts
-unfoldable pub kind_of_number : Numeral → Bool → ℕ
-kind_of_number n watts = cond watts AMOUNT (cond n.point FRACTION (cond n.minus NEGATIVE NUMBER))
+unfoldable pub kind_of_number : Numeral → Bool → Kind
+kind_of_number n watts = cond watts Amount (cond n.point Fraction (cond n.minus Negative Number))
 
-unfoldable pub kind : Token → Bool → ℕ
-kind t watts =
-    cond (eqb t.class STRAY) OTHER
-    (cond (eqb t.numeral.stage BAD) (text_kind t.text t.class)
-    (cond (eqb t.numeral.stage NEEDS) OTHER
-    (cond (eqb t.numeral.stage LARGE) kinds.LARGE
-    (kind_of_number t.numeral watts))))
+-- the kind of a token by how far the number came that it may be
+abbrev pub kind_by : Stage → Token → Bool → Kind
+kind_by Bad t watts = text_kind t.text t.class
+kind_by Needs t watts = Other
+kind_by stages.Large t watts = kinds.Large
+kind_by stage t watts = kind_of_number t.numeral watts
+
+unfoldable pub kind : Token → Bool → Kind
+kind t watts = cond (same t.class Stray) Other (kind_by t.numeral.stage t watts)

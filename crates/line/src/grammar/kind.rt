@@ -1,89 +1,138 @@
-// Kinds of what a line is made of: the words and signs of the grammar, in the order of its texts, and what has no text of its own.
+// Kinds of what a line is made of: the words and signs of the grammar, and what has no text of its own.
 
-// The end of the line.
-pub const END: u8 = 0;
+ghost use Rattle.std.specs.Prelude.{◌≡◌};
+ghost use Rattle.line.specs.grammar.Kinds.{letters_of};
 
-pub const X: u8 = 1;
+/// What a word, a sign or a number of a line is, or what was expected in its place.
+#[derive(Clone, Copy, PartialEq, Eq)]
+pub enum Kind {
+    /// The end of the line.
+    End,
+    X,
+    Plus,
+    AtMost,
+    Below,
+    AtLeast,
+    Above,
+    Equals,
+    And,
+    UpTo,
+    Colon,
+    Not,
+    Signed,
+    Settled,
+    Since,
+    For,
+    Watts,
+    At,
+    Least,
+    Most,
+    Within,
+    Word,
+    Mark,
+    Back,
+    Forward,
+    Ask,
+    Count,
+    List,
+    From,
+    Why,
+    Show,
+    /// A whole number.
+    Number,
+    /// A whole number below zero.
+    Negative,
+    /// A number of watts.
+    Amount,
+    /// A number with a point.
+    Fraction,
+    /// A word that is none of the grammar's.
+    Name,
+    /// What is nothing at all.
+    Other,
+    /// A number past 64 bits.
+    Large,
+    /// A statement, where any may begin.
+    Statement,
+    /// A rule, where only rules are open.
+    Rule,
+    /// A number that a signed word has.
+    SignedWord,
+    /// A line that is not too long.
+    ShorterLine,
+}
 
-pub const PLUS: u8 = 2;
+/// The kinds that have a text: the words and signs of the grammar.
+pub const WORDS: [Kind; 30] = [
+    Kind::X,
+    Kind::Plus,
+    Kind::AtMost,
+    Kind::Below,
+    Kind::AtLeast,
+    Kind::Above,
+    Kind::Equals,
+    Kind::And,
+    Kind::UpTo,
+    Kind::Colon,
+    Kind::Not,
+    Kind::Signed,
+    Kind::Settled,
+    Kind::Since,
+    Kind::For,
+    Kind::Watts,
+    Kind::At,
+    Kind::Least,
+    Kind::Most,
+    Kind::Within,
+    Kind::Word,
+    Kind::Mark,
+    Kind::Back,
+    Kind::Forward,
+    Kind::Ask,
+    Kind::Count,
+    Kind::List,
+    Kind::From,
+    Kind::Why,
+    Kind::Show,
+];
 
-pub const AT_MOST: u8 = 3;
-
-pub const BELOW: u8 = 4;
-
-pub const AT_LEAST: u8 = 5;
-
-pub const ABOVE: u8 = 6;
-
-pub const EQUALS: u8 = 7;
-
-pub const AND: u8 = 8;
-
-pub const UP_TO: u8 = 9;
-
-pub const COLON: u8 = 10;
-
-pub const NOT: u8 = 11;
-
-pub const SIGNED: u8 = 12;
-
-pub const SETTLED: u8 = 13;
-
-pub const SINCE: u8 = 14;
-
-pub const FOR: u8 = 15;
-
-pub const WATTS: u8 = 16;
-
-pub const AT: u8 = 17;
-
-pub const LEAST: u8 = 18;
-
-pub const MOST: u8 = 19;
-
-pub const WITHIN: u8 = 20;
-
-pub const WORD: u8 = 21;
-
-pub const MARK: u8 = 22;
-
-pub const BACK: u8 = 23;
-
-pub const FORWARD: u8 = 24;
-
-pub const ASK: u8 = 25;
-
-pub const COUNT: u8 = 26;
-
-pub const LIST: u8 = 27;
-
-pub const FROM: u8 = 28;
-
-pub const WHY: u8 = 29;
-
-pub const SHOW: u8 = 30;
-
-// A whole number, one below zero, one of watts, and one with a point.
-pub const NUMBER: u8 = 31;
-
-pub const NEGATIVE: u8 = 32;
-
-pub const AMOUNT: u8 = 33;
-
-pub const FRACTION: u8 = 34;
-
-// A word that is none of the grammar's, what is nothing at all, and a number past 64 bits.
-pub const NAME: u8 = 35;
-
-pub const OTHER: u8 = 36;
-
-pub const LARGE: u8 = 37;
-
-// What is expected beside a kind: a statement, a rule, a number that a signed word has, and a shorter line.
-pub const STATEMENT: u8 = 38;
-
-pub const RULE: u8 = 39;
-
-pub const SIGNED_WORD: u8 = 40;
-
-pub const SHORTER_LINE: u8 = 41;
+impl Kind {
+    /// The text of a word or a sign of the grammar; what is none of them has none.
+    pub fn text(self) -> &'static str
+        ensures { result.now ≡ letters_of self }
+    {
+        match self {
+            Kind::X => "x",
+            Kind::Plus => "+",
+            Kind::AtMost => "<=",
+            Kind::Below => "<",
+            Kind::AtLeast => ">=",
+            Kind::Above => ">",
+            Kind::Equals => "=",
+            Kind::And => "&",
+            Kind::UpTo => "..",
+            Kind::Colon => ":",
+            Kind::Not => "not",
+            Kind::Signed => "signed",
+            Kind::Settled => "settled",
+            Kind::Since => "since",
+            Kind::For => "for",
+            Kind::Watts => "watts",
+            Kind::At => "at",
+            Kind::Least => "least",
+            Kind::Most => "most",
+            Kind::Within => "within",
+            Kind::Word => "word",
+            Kind::Mark => "mark",
+            Kind::Back => "back",
+            Kind::Forward => "forward",
+            Kind::Ask => "ask",
+            Kind::Count => "count",
+            Kind::List => "list",
+            Kind::From => "from",
+            Kind::Why => "why",
+            Kind::Show => "show",
+            _ => "",
+        }
+    }
+}

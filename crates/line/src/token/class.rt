@@ -1,91 +1,65 @@
-// The class of a letter.
+// The classes of letters.
 ghost use Rattle.std.specs.Prelude.{◌≡◌};
 ghost use Rattle.line.specs.token.Token.{class_of, is_blank, is_sign, is_word};
 
-use crate::token::Token;
+/// What a letter can be part of.
+#[derive(Clone, Copy, PartialEq, Eq)]
+pub enum Class {
+    /// A blank.
+    Blank,
+    /// A word or a number: letters, digits, `_` and `.`.
+    Word,
+    /// A sign.
+    Sign,
+    /// A comment.
+    Comment,
+    /// Nothing that a line has.
+    Stray,
+    /// A number below zero, which a minus begins.
+    Minus,
+}
 
-pub fn class_of(b: u8) -> u64
+/// The class of a letter.
+#[tactic(auto, using(crate::proofs::token::Classes::wanted), unfolding(crate::specs::token::Token::class_of))]
+pub fn class_of(b: u8) -> Class
     ensures { result ≡ class_of b }
 {
-    let word = is_word(b);
-    let sign = is_sign(b);
-    let blank = is_blank(b);
-    if word {
-        return Token::WORD;
+    if is_word(b) {
+        return Class::Word;
     }
-    if sign {
-        return Token::SIGN;
+    if is_sign(b) {
+        return Class::Sign;
     }
-    if blank {
-        return Token::BLANK;
+    if is_blank(b) {
+        return Class::Blank;
     }
-    if b == b'#' {
-        return Token::COMMENT;
+    match b {
+        b'#' => Class::Comment,
+        b'-' => Class::Minus,
+        _ => Class::Stray,
     }
-    if b == b'-' {
-        return Token::MINUS;
-    }
-    Token::STRAY
 }
 
 // A letter, a digit, `_` or `.`.
+#[tactic(auto, using(crate::proofs::token::Classes::letters), unfolding(crate::specs::token::Token::is_word))]
 fn is_word(b: u8) -> bool
     ensures { result ≡ is_word b }
 {
-    if b == b'.' {
-        return true;
-    }
-    if b == b'_' {
-        return true;
-    }
-    if b < b'0' {
-        return false;
-    }
-    if b <= b'9' {
-        return true;
-    }
-    if b < b'A' {
-        return false;
-    }
-    if b <= b'Z' {
-        return true;
-    }
-    if b < b'a' {
-        return false;
-    }
-    b <= b'z'
+    matches!(b, b'.' | b'_' | b'0'..=b'9' | b'A'..=b'Z' | b'a'..=b'z')
 }
 
-// `&`, `+`, `:`, `<`, `=` or `>`.
-#[tactic(auto, using(crate::proofs::token::SearchClassIsSign::wanted), unfolding(crate::specs::token::Token::is_sign))]
+// A letter of a sign.
+#[tactic(auto, using(crate::proofs::token::Classes::letters), unfolding(crate::specs::token::Token::is_sign))]
 fn is_sign(b: u8) -> bool
     ensures { result ≡ is_sign b }
 {
-    if b == b'&' {
-        return true;
-    }
-    if b == b'+' {
-        return true;
-    }
-    if b == b':' {
-        return true;
-    }
-    if b < b'<' {
-        return false;
-    }
-    b <= b'>'
+    matches!(b, b'&' | b'+' | b':' | b'<'..=b'>')
 }
 
 // A space, a tab, or the byte 13 that ends a line before its byte 10.
-#[tactic(auto, using(crate::proofs::token::SearchClassIsBlank::wanted), unfolding(crate::specs::token::Token::is_blank))]
+#[tactic(auto, using(crate::proofs::token::Classes::letters), unfolding(crate::specs::token::Token::is_blank))]
 fn is_blank(b: u8) -> bool
     ensures { result ≡ is_blank b }
 {
-    if b == 32 {
-        return true;
-    }
-    if b == 9 {
-        return true;
-    }
-    b == 13
+    matches!(b, b' ' | b'\t' | b'\r')
 }

@@ -1,6 +1,6 @@
 // Mistakes in a chain, on standard error: where, what was expected, the line, and a mark under the place. `+` stands for the name of the chain.
 
-use line::grammar::kind;
+use line::grammar::kind::Kind;
 use line::scan::Mistake;
 use std::fmt;
 use std::io::Eprint;
@@ -51,11 +51,11 @@ impl fmt::Display for Fault {
     }
 }
 
-fn wanted(expected: u8) -> &'static str {
+fn wanted(expected: Kind) -> &'static str {
     match expected {
-        kind::END => "the end of the line",
-        kind::NUMBER => "a number",
-        kind::RULE => "a rule: its number or its name, or bits",
+        Kind::End => "the end of the line",
+        Kind::Number => "a number",
+        Kind::Rule => "a rule: its number or its name, or bits",
         _ => "a line of at most 1,024 bytes",
     }
 }

@@ -15,9 +15,13 @@ use Rattle.rule.specs.declared.Rule.{Rule}
 use Rattle.rule.specs.accept.Accept.{acceptable}
 use Rattle.digits.specs.declared.numeral.Numeral.{Numeral}
 use Rattle.digits.specs.numeral.Numeral.{digit, next, start, value_of}
-use Rattle.line.specs.grammar.Grammar.{ROWS, find, follow, is_watts, kind_of, row_at, start_at}
-use Rattle.line.specs.grammar.Kinds.{END, NAME, packed_from}
-use Rattle.line.specs.token.Token.{BLANK, SIGN, WORD, begun, class_of, is_blank, is_sign, is_word, kind, text_kind, token}
+use Rattle.std.specs.Prelude.{Some, None}
+use Rattle.line.specs.grammar.Grammar.{NAME_ROW, ROWS, agree, follow, goes_on, is_watts, kind_of, place, row_at}
+use Rattle.line.specs.grammar.Kinds.{packed}
+use Rattle.line.specs.declared.grammar.kind.Kind.{Kind}
+use Rattle.line.specs.declared.grammar.kind.Kind.TheVariants as kinds
+use Rattle.line.specs.declared.token.class.Class.TheVariants.{Blank, Sign, Word}
+use Rattle.line.specs.token.Token.{begun, class_of, is_blank, is_sign, is_word, kind, text_kind, token}
 use Rattle.line.specs.token.Token as tokens
 use Rattle.line.specs.declared.scan.Scan.{Scan}
 use Rattle.line.specs.scan.Scan.{amount, is_number, placed, scan, started, with_token}
@@ -37,25 +41,25 @@ use Rattle.wording.proofs.echo.Worded.{worded}
 -- the start of a line that ends at a place, and what it says at another
 abbrev at_start : (end last : ℕ) → Opening
 at_start end last =
-    record { token = token BLANK 0 0 start; name = unnamed; first = amount 0; second = amount 0; mistake = record { at = 0; expected = END }; at = 0; end = end; last = last }
+    record { token = token Blank 0 0 start; name = unnamed; first = amount 0; second = amount 0; at = 0; end = end; last = last }
 
 -- after a name that ends at a place, its colon and a blank
 abbrev at_rule : (to end last : ℕ) → Opening
 at_rule to end last =
-    record { token = begun BLANK 32 (suc to); name = record { named = true; from = 0; to = to }; first = amount 0; second = amount 0; mistake = record { at = 0; expected = END }; at = suc (suc to); end = end; last = last }
+    record { token = begun Blank 32 (suc to); name = Some (record { from = 0; to = to }); first = amount 0; second = amount 0; at = suc (suc to); end = end; last = last }
 
 -- the colon ends the name
 abbrev at_colon : (to : ℕ) → Scan
 at_colon to =
-    scan (begun SIGN 58 to) (follow (start_at ROWS) NAME) false (record { named = true; from = 0; to = to }) (amount 0) (amount 0) false (record { at = 0; expected = END })
+    scan (begun Sign 58 to) (place NAME_ROW 1 ROWS) false (Some (record { from = 0; to = to })) (amount 0) (amount 0) None
 
-ends_name : (text : ℕ) (n : Numeral) (to : ℕ) → kind (token WORD 0 text n) false ≡ NAME → step (with_token started (token WORD 0 text n)) 58 to ≡ at_colon to
-unfolding step closed with_token accepted followed sofar.named is_number started class_of is_word is_sign is_blank find follow is_watts
-ends_name text n to e = ap (λ (k : ℕ). with_token (accepted (with_token started (token WORD 0 text n)) k to) (begun SIGN 58 to)) e
+ends_name : (text : ℕ) (n : Numeral) (to : ℕ) → kind (token Word 0 text n) false ≡ kinds.Name → step (with_token started (token Word 0 text n)) 58 to ≡ at_colon to
+unfolding step closed with_token accepted followed sofar.named is_number started class_of is_word is_sign is_blank agree goes_on follow is_watts
+ends_name text n to e = ap (λ (k : Kind). with_token (accepted (with_token started (token Word 0 text n)) k to) (begun Sign 58 to)) e
 
 -- and the blank ends the colon
 ends_colon : (to end last : ℕ) → step (at_colon to) 32 (suc to) ≡ opened true (at_rule to end last)
-unfolding step closed with_token accepted followed placed begun tokens.opened class_of is_word is_sign is_blank find follow is_watts row_at kind text_kind kind_of packed_from next digit value_of
+unfolding step closed with_token accepted followed placed begun tokens.opened class_of is_word is_sign is_blank agree goes_on follow is_watts row_at kind text_kind kind_of packed next digit value_of
 ends_colon to end last = refl
 
 after_name : (a : List ℕ) → IsName a → (l : List ℕ) (end last : ℕ) → steps started 0 (a ++ 58 ∷ 32 ∷ l) ≡ steps (opened true (at_rule (length a) end last)) (suc (suc (length a))) l

@@ -1,7 +1,7 @@
 -- Every rule that a sheet accepts has a text of pieces that say just that rule: the row of its form, or a sign where nothing is added to x. A
 -- signed number is the one that the word is read as, and the word of that number is the word. Assumes nothing.
 use mathlib.Core.Path.{◌≡◌, refl, ap}
-use mathlib.Core.Bool.{Bool, true, false, not, ◌&&◌}
+use mathlib.Core.Bool.{Bool, true, false, ◌&&◌}
 use mathlib.Core.List.{List, [], ◌∷◌, ◌++◌}
 use mathlib.Core.Logic.{⊎_elim}
 use Prim.Native.Nat.{ℕ, zero, suc, ◌+◌, ◌-◌, ◌^◌, ◌≤◌, ◌<◌}
@@ -18,9 +18,10 @@ use Rattle.rule.specs.declared.Rule.{Rule}
 use Rattle.rule.specs.Meaning.{rule}
 use Rattle.digits.specs.hexadecimal.Text.{bytes_of}
 use Rattle.digits.specs.numeral.Numeral.{after_zero, below_zero, digit, next, numeral_from, pointed, value_of}
-use Rattle.line.specs.grammar.Grammar.{find, kind_of}
-use Rattle.line.specs.grammar.Kinds.{ABOVE, AND, AT_LEAST, AT_MOST, BELOW, EQUALS, FOR, NOT, PLUS, SETTLED, SIGNED, SINCE, X, packed_from}
-use Rattle.line.specs.token.Token.{class_of, is_blank, is_sign, is_word, opened, packed, text_kind}
+use Rattle.line.specs.grammar.Grammar.{kind_of}
+use Rattle.line.specs.declared.grammar.kind.Kind.TheVariants.{Above, And, AtLeast, AtMost, Below, Equals, For, Not, Plus, Settled, Signed, Since, X}
+use Rattle.line.specs.grammar.Kinds.{packed}
+use Rattle.line.specs.token.Token.{class_of, is_blank, is_sign, is_word, opened, text_kind}
 use Rattle.line.specs.row_rules.Rules.{signed_word}
 use Rattle.digits.specs.phrase.Phrase.{signedly}
 use Rattle.digits.proofs.phrase.Signed.{signed_high, signed_low}
@@ -44,12 +45,12 @@ pub record Worded (w : ℕ) (r : Rule) : Type 0 where
 module _ (w form c1 c2 : ℕ) (p : Piece) (ps : List Piece) (right : AllRight (p ∷ ps)) where
   by_row : (form_text w (rule form 0 c1 c2) ≡ spaced (p ∷ ps)) → (eqb form 2 && eqb c2 0) ≡ false → (eqb form 3 && eqb c1 0) ≡ false
       → ((after : Bool) (z : Opening) → Both after z w (p ∷ ps) form c1 c2) → (sense : ℕ) → sense ≤ 1 → Worded w (rule form sense c1 c2)
-  unfolding rule_text form_text before bytes_of known single classed text_of packs class_of is_word is_sign is_blank opened packed numeral_from next below_zero pointed after_zero digit value_of text_kind kind_of find packed_from
+  unfolding rule_text form_text before bytes_of known single classed text_of packs class_of is_word is_sign is_blank opened packed numeral_from next below_zero pointed after_zero digit value_of text_kind kind_of
   by_row text two three both zero h =
       record { piece = p; pieces = ps; right = right; text = rw (two, three) text; says = λ after z. (both after z).0 }
   by_row text two three both (suc zero) h =
       record {
-        piece = the NOT;
+        piece = the Not;
         pieces = p ∷ ps;
         right = (refl, right);
         text = rw (two, three) (ap (λ (l : List ℕ). bytes_of "not " ++ l) text);
@@ -60,19 +61,19 @@ module _ (w form c1 c2 : ℕ) (p : Piece) (ps : List Piece) (right : AllRight (p
 -- nothing is added to x
 module _ (w n : ℕ) (fits : n ≤ 2 ^ 64 - 1) where
   by_sign_2 : (sense : ℕ) → sense ≤ 1 → Worded w (rule 2 sense n 0)
-  unfolding rule_text form_text before bytes_of known single classed text_of packs class_of is_word is_sign is_blank opened packed numeral_from next below_zero pointed after_zero digit value_of text_kind kind_of find packed_from at_least
+  unfolding rule_text form_text before bytes_of known single classed text_of packs class_of is_word is_sign is_blank opened packed numeral_from next below_zero pointed after_zero digit value_of text_kind kind_of at_least
   by_sign_2 zero h =
-      record { piece = the X; pieces = the AT_LEAST ∷ number n ∷ []; right = (refl, (refl, (fits, tt))); text = refl; says = λ after z. (signs after z w n).0 }
+      record { piece = the X; pieces = the AtLeast ∷ number n ∷ []; right = (refl, (refl, (fits, tt))); text = refl; says = λ after z. (signs after z w n).0 }
   by_sign_2 (suc zero) h =
-      record { piece = the X; pieces = the BELOW ∷ number n ∷ []; right = (refl, (refl, (fits, tt))); text = refl; says = λ after z. (signs after z w n).1 }
+      record { piece = the X; pieces = the Below ∷ number n ∷ []; right = (refl, (refl, (fits, tt))); text = refl; says = λ after z. (signs after z w n).1 }
   by_sign_2 (suc (suc s)) h = absurd (omega arith)
 
   by_sign_3 : (sense : ℕ) → sense ≤ 1 → Worded w (rule 3 sense 0 n)
-  unfolding rule_text form_text before bytes_of known single classed text_of packs class_of is_word is_sign is_blank opened packed numeral_from next below_zero pointed after_zero digit value_of text_kind kind_of find packed_from at_most
+  unfolding rule_text form_text before bytes_of known single classed text_of packs class_of is_word is_sign is_blank opened packed numeral_from next below_zero pointed after_zero digit value_of text_kind kind_of at_most
   by_sign_3 zero h =
-      record { piece = the X; pieces = the AT_MOST ∷ number n ∷ []; right = (refl, (refl, (fits, tt))); text = refl; says = λ after z. (signs after z w n).2 }
+      record { piece = the X; pieces = the AtMost ∷ number n ∷ []; right = (refl, (refl, (fits, tt))); text = refl; says = λ after z. (signs after z w n).2 }
   by_sign_3 (suc zero) h =
-      record { piece = the X; pieces = the ABOVE ∷ number n ∷ []; right = (refl, (refl, (fits, tt))); text = refl; says = λ after z. (signs after z w n).3 }
+      record { piece = the X; pieces = the Above ∷ number n ∷ []; right = (refl, (refl, (fits, tt))); text = refl; says = λ after z. (signs after z w n).3 }
   by_sign_3 (suc (suc s)) h = absurd (omega arith)
 
 -- ---- a signed number
@@ -120,40 +121,40 @@ module _ (w : ℕ) (width : IsWidth w) where
   fits h = omega (arith, pow_mono {i = w} {j = 64} width.high, top-suc w)
 
   by_form : (form sense c1 c2 : ℕ) → Acceptable w (rule form sense c1 c2) → Worded w (rule form sense c1 c2)
-  unfolding form_text bytes_of known single classed text_of packs class_of is_word is_sign is_blank opened packed numeral_from next below_zero pointed after_zero digit value_of text_kind kind_of find packed_from
+  unfolding form_text bytes_of known single classed text_of packs class_of is_word is_sign is_blank opened packed numeral_from next below_zero pointed after_zero digit value_of text_kind kind_of
   by_form zero sense c1 c2 a = absurd (omega (arith, a.low))
   by_form (suc zero) sense c1 c2 a =
-      by_row w 1 c1 c2 (the X) (the PLUS ∷ number c1 ∷ the AT_MOST ∷ the X ∷ the PLUS ∷ number c2 ∷ []) (refl, (refl, (fits a.c1_word, (refl, (refl, (refl, (fits a.c2_word, tt))))))) refl refl refl
+      by_row w 1 c1 c2 (the X) (the Plus ∷ number c1 ∷ the AtMost ∷ the X ∷ the Plus ∷ number c2 ∷ []) (refl, (refl, (fits a.c1_word, (refl, (refl, (refl, (fits a.c2_word, tt))))))) refl refl refl
       (λ after z. (rows after z w c1 c2).0) sense a.sense
   by_form (suc (suc zero)) sense c1 zero a = by_sign_2 w c1 (fits a.c1_word) sense a.sense
   by_form (suc (suc zero)) sense c1 (suc c2) a =
-      by_row w 2 c1 (suc c2) (number c1) (the AT_MOST ∷ the X ∷ the PLUS ∷ number (suc c2) ∷ []) (fits a.c1_word, (refl, (refl, (refl, (fits a.c2_word, tt))))) refl (eqb-suc-zero c2) refl
+      by_row w 2 c1 (suc c2) (number c1) (the AtMost ∷ the X ∷ the Plus ∷ number (suc c2) ∷ []) (fits a.c1_word, (refl, (refl, (refl, (fits a.c2_word, tt))))) refl (eqb-suc-zero c2) refl
       (λ after z. (rows after z w c1 (suc c2)).1) sense a.sense
   by_form (suc (suc (suc zero))) sense zero c2 a = by_sign_3 w c2 (fits a.c2_word) sense a.sense
   by_form (suc (suc (suc zero))) sense (suc c1) c2 a =
-      by_row w 3 (suc c1) c2 (the X) (the PLUS ∷ number (suc c1) ∷ the AT_MOST ∷ number c2 ∷ []) (refl, (refl, (fits a.c1_word, (refl, (fits a.c2_word, tt))))) refl refl (eqb-suc-zero c1)
+      by_row w 3 (suc c1) c2 (the X) (the Plus ∷ number (suc c1) ∷ the AtMost ∷ number c2 ∷ []) (refl, (refl, (fits a.c1_word, (refl, (fits a.c2_word, tt))))) refl refl (eqb-suc-zero c1)
       (λ after z. (rows after z w (suc c1) c2).2) sense a.sense
   by_form (suc (suc (suc (suc zero)))) sense c1 zero a =
       let q = read_so w width c1 a.c1_word in
       let n = integer q.minus_sign q.size in
-      by_row w 4 c1 0 (the SIGNED) (the X ∷ the AT_MOST ∷ n ∷ []) (refl, (refl, (refl, (right_integer q.minus_sign q.size q.fits, tt)))) (ap (λ (l : List ℕ). bytes_of "signed x <= " ++ l) q.text) refl refl
+      by_row w 4 c1 0 (the Signed) (the X ∷ the AtMost ∷ n ∷ []) (refl, (refl, (refl, (right_integer q.minus_sign q.size q.fits, tt)))) (ap (λ (l : List ℕ). bytes_of "signed x <= " ++ l) q.text) refl refl
       (λ after z. (signed_rows after q.minus_sign z w q.size c1 q.back).0) sense a.sense
   by_form (suc (suc (suc (suc zero)))) sense c1 (suc c2) a = absurd (omega (arith, a.alone (omega arith) (omega arith)))
   by_form (suc (suc (suc (suc (suc zero))))) sense c1 zero a =
       let q = read_so w width c1 a.c1_word in
       let n = integer q.minus_sign q.size in
-      by_row w 5 c1 0 n (the AT_MOST ∷ the SIGNED ∷ the X ∷ []) (right_integer q.minus_sign q.size q.fits, (refl, (refl, (refl, tt)))) (ap (λ (l : List ℕ). l ++ bytes_of " <= signed x") q.text) refl refl
+      by_row w 5 c1 0 n (the AtMost ∷ the Signed ∷ the X ∷ []) (right_integer q.minus_sign q.size q.fits, (refl, (refl, (refl, tt)))) (ap (λ (l : List ℕ). l ++ bytes_of " <= signed x") q.text) refl refl
       (λ after z. (signed_rows after q.minus_sign z w q.size c1 q.back).1) sense a.sense
   by_form (suc (suc (suc (suc (suc zero))))) sense c1 (suc c2) a = absurd (omega (arith, a.alone (omega arith) (omega arith)))
   by_form (suc (suc (suc (suc (suc (suc zero)))))) sense c1 zero a =
-      by_row w 6 c1 0 (the X) (the EQUALS ∷ number c1 ∷ []) (refl, (refl, (fits a.c1_word, tt))) refl refl refl
+      by_row w 6 c1 0 (the X) (the Equals ∷ number c1 ∷ []) (refl, (refl, (fits a.c1_word, tt))) refl refl refl
       (λ after z. (rows after z w c1 0).3) sense a.sense
   by_form (suc (suc (suc (suc (suc (suc zero)))))) sense c1 (suc c2) a = absurd (omega (arith, a.alone (omega arith) (omega arith)))
   by_form (suc (suc (suc (suc (suc (suc (suc zero))))))) sense c1 c2 a =
-      by_row w 7 c1 c2 (the X) (the AND ∷ number c1 ∷ the EQUALS ∷ number c2 ∷ []) (refl, (refl, (fits a.c1_word, (refl, (fits a.c2_word, tt))))) refl refl refl
+      by_row w 7 c1 c2 (the X) (the And ∷ number c1 ∷ the Equals ∷ number c2 ∷ []) (refl, (refl, (fits a.c1_word, (refl, (fits a.c2_word, tt))))) refl refl refl
       (λ after z. (rows after z w c1 c2).4) sense a.sense
   by_form (suc (suc (suc (suc (suc (suc (suc (suc zero)))))))) sense c1 c2 a =
-      by_row w 8 c1 c2 (the SETTLED) (the SINCE ∷ number c1 ∷ the FOR ∷ number c2 ∷ []) (refl, (refl, (fits a.c1_word, (refl, (fits a.c2_word, tt))))) refl refl refl
+      by_row w 8 c1 c2 (the Settled) (the Since ∷ number c1 ∷ the For ∷ number c2 ∷ []) (refl, (refl, (fits a.c1_word, (refl, (fits a.c2_word, tt))))) refl refl refl
       (λ after z. (rows after z w c1 c2).5) sense a.sense
   by_form (suc (suc (suc (suc (suc (suc (suc (suc (suc form))))))))) sense c1 c2 a = absurd (omega (arith, a.high))
 

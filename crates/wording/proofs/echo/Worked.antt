@@ -8,9 +8,9 @@ use Rattle.digits.specs.hexadecimal.Hex.{glyph}
 use Rattle.digits.specs.hexadecimal.Text.{bytes_of}
 use Rattle.digits.specs.numeral.Digits.{digits, digits_in}
 use Rattle.digits.specs.numeral.Numeral.{bad, below_zero, digit, next, pointed, value_of}
-use Rattle.line.specs.grammar.Grammar.{find, kind_of}
-use Rattle.line.specs.grammar.Kinds.{packed_from}
-use Rattle.line.specs.token.Token.{begun, class_of, is_blank, is_sign, is_word, kind, more, opened, packed, text_kind}
+use Rattle.line.specs.grammar.Grammar.{kind_of}
+use Rattle.line.specs.grammar.Kinds.{packed}
+use Rattle.line.specs.token.Token.{begun, class_of, is_blank, is_sign, is_word, kind, more, opened, text_kind}
 use Rattle.line.specs.scan.Scan.{started, with_token}
 use Rattle.line.specs.scanning.Scanning.{closed, step, steps}
 use Rattle.digits.specs.phrase.Phrase.{signedly}
@@ -40,6 +40,6 @@ unfolding rule_text form_text before at_least at_most number_text signedly half 
 texts = (refl, refl, refl, refl, refl, refl, refl, refl, refl, refl, refl, refl, refl)
 
 pub names : IsName (bytes_of "viewing") × IsName (bytes_of "-a_1.b")
-unfolding bytes_of steps step closed with_token started begun more opened packed next below_zero pointed digit value_of class_of is_word is_sign is_blank kind text_kind kind_of find packed_from
+unfolding bytes_of steps step closed with_token started begun more opened packed next below_zero pointed digit value_of class_of is_word is_sign is_blank kind text_kind kind_of
 names =
     (record { text = 0x76696577696e67; numeral = bad; word = refl; name = refl }, record { text = 0x2d615f312e62; numeral = bad; word = refl; name = refl })

@@ -10,7 +10,7 @@ use Rattle.wording.proofs.forms.Sizes.{few_text}
 use Rattle.wording.proofs.signs.Sizes.{few_at_least, few_at_most, few_before}
 use Rattle.wording.proofs.Sizes.{few_rule}
 use Rattle.wording.proofs.Texts.{at_least_lem, at_most_lem, by_form}
-use Rattle.wording.proofs.put_rule.Goals.{else-rule-eq2, else-rule-eq3, then-rule-eq2+else-rule-eq0, then-rule-eq3+else-rule-eq0-2}
+use Rattle.wording.proofs.put_rule.Goals.{else-rule-eq2-via-else-rule-eq2, else-rule-eq2-via-then-rule-eq2+else-rule-eq0, else-rule-eq3-via-else-rule-eq3, else-rule-eq3-via-then-rule-eq3+else-rule-eq0-2}
 use Rattle.wording.proofs.put_rule.Goals as goal
 
 -- either number is another one
@@ -46,7 +46,7 @@ put_form-requires c = record { width = c.requires.width; rule_in_bounds = omega 
 
 pub returns : goal.returns
 returns c =
-    let least : (eqb c.args.rule.form 2 && eqb c.args.rule.c2 0) ≡ false = elim c.if-rule-eq2.branch [ then-rule-eq2+else-rule-eq0 w ↦ not_second c.args.rule.form 2 c.args.rule.c2 w.if-rule-eq0.false | else-rule-eq2 w ↦ not_first c.args.rule.form 2 c.args.rule.c2 w.if-rule-eq2.false ] in
-    let most : (eqb c.args.rule.form 3 && eqb c.args.rule.c1 0) ≡ false = elim c.if-rule-eq3.branch [ then-rule-eq3+else-rule-eq0-2 w ↦ not_second c.args.rule.form 3 c.args.rule.c1 w.if-rule-eq0-2.false | else-rule-eq3 w ↦ not_first c.args.rule.form 3 c.args.rule.c1 w.if-rule-eq3.false ] in
+    let least : (eqb c.args.rule.form 2 && eqb c.args.rule.c2 0) ≡ false = elim c.else-rule-eq2.branch [ else-rule-eq2-via-then-rule-eq2+else-rule-eq0 w ↦ not_second c.args.rule.form 2 c.args.rule.c2 w.if-rule-eq0.false | else-rule-eq2-via-else-rule-eq2 w ↦ not_first c.args.rule.form 2 c.args.rule.c2 w.if-rule-eq2.false ] in
+    let most : (eqb c.args.rule.form 3 && eqb c.args.rule.c1 0) ≡ false = elim c.else-rule-eq3.branch [ else-rule-eq3-via-then-rule-eq3+else-rule-eq0-2 w ↦ not_second c.args.rule.form 3 c.args.rule.c1 w.if-rule-eq0-2.false | else-rule-eq3-via-else-rule-eq3 w ↦ not_first c.args.rule.form 3 c.args.rule.c1 w.if-rule-eq3.false ] in
     let p = put_as (sym (by_form c.args.width.bits c.args.rule least most)) (put_then c.put_before-from.ensures c.put_form.ensures) in
     (p, omega (arith, p.1, few_rule c.args.width.bits c.args.rule c.requires.width.high (omega arith) (omega arith)))

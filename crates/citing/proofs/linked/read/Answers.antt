@@ -7,7 +7,7 @@ use lib.ListN.{take}
 use lib.Seq.{length-take-le}
 use Rattle.word.specs.declared.Edition.TheVariants.{New, Old}
 use Rattle.frame.specs.fields.Fields.{WORD}
-use Rattle.citing.specs.declared.linked.Linked.TheVariants.{At}
+use Rattle.std.specs.Prelude.{Some}
 use Rattle.citing.specs.linked.Linked.{bare, bare_end, is_link, link_in, link_of}
 use Rattle.citing.proofs.linked.Parts.{length_of}
 use Rattle.citing.proofs.linked.read.Goals as goal
@@ -28,7 +28,7 @@ unfolding link_in
 returns-then-is_link c =
     let b = part c.args.line.now _ c.bare_end-end.ensures.0 in
     let o : is_link Old (bare c.args.line.now) ≡ true = ap (is_link Old) (sym b) ∙ sym c.is_link.ensures ∙ c.if-is_link.true in
-    rw o (ap At (c.link_of.ensures ∙ ap (link_of (WORD Old)) b))
+    rw o (ap Some (c.link_of.ensures ∙ ap (link_of (WORD Old)) b))
 
 pub link_of-requires-then-is_link-2 : goal.link_of-requires-then-is_link-2
 link_of-requires-then-is_link-2 c = length_of New _ (sym c.is_link-2.ensures ∙ c.if-is_link-2.true)
@@ -39,7 +39,7 @@ returns-then-is_link-2 c =
     let b = part c.args.line.now _ c.bare_end-end.ensures.0 in
     let o : is_link Old (bare c.args.line.now) ≡ false = ap (is_link Old) (sym b) ∙ sym c.is_link.ensures ∙ c.if-is_link.false in
     let n : is_link New (bare c.args.line.now) ≡ true = ap (is_link New) (sym b) ∙ sym c.is_link-2.ensures ∙ c.if-is_link-2.true in
-    rw (o, n) (ap At (c.link_of-then-is_link-2.ensures ∙ ap (link_of (WORD New)) b))
+    rw (o, n) (ap Some (c.link_of-then-is_link-2.ensures ∙ ap (link_of (WORD New)) b))
 
 pub returns : goal.returns
 unfolding link_in

@@ -1,7 +1,7 @@
 -- `next` meets its contract. The loop's invariant: what stands from the place on is what the letters left give after the token. Assumes nothing.
 use mathlib.Core.Path.{◌≡◌, sym, ap, ap₂, ◌∙◌}
 use mathlib.Core.Bool.{true, false}
-use Prim.Native.Nat.{ℕ, ◌-◌}
+use Prim.Native.Nat.{ℕ}
 use native.Mathlib.Numerals.{add-one}
 use native.Mathlib.Omega.{arith}
 use lib.ListN.{drop, drop_of_length-le, get_or}
@@ -13,7 +13,7 @@ use Rattle.line.proofs.piece.next.Goals as goal
 pub loop-i-init : goal.loop-i-init
 unfolding word_at
 loop-i-init c =
-    ap (λ (t : Token). word_from t c.args.at (drop c.args.at c.args.line.now)) (sym c.fresh-token.ensures)
+    ap (λ (t : Token). word_from t c.args.at (drop c.args.at c.args.line.now)) (sym c.none-token.ensures)
 
 pub returns-then-ends : goal.returns-then-ends
 unfolding word_from

@@ -7,7 +7,6 @@ use native.Mathlib.Nat.{div-lt_self, mod-lt}
 use native.Mathlib.Omega.{arith}
 use lib.ListN.{length, length-set}
 use lib.Seq.{length-sets}
-use Rattle.digits.specs.hexadecimal.Hex.{glyph}
 use Rattle.digits.proofs.hexadecimal.Digits.{and_then}
 use Rattle.digits.specs.numeral.Digits.{digits_in}
 use Rattle.digits.proofs.numeral.Quotients.{digit_more, last_digit, length_more}

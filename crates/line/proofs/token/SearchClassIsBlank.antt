@@ -1,4 +1,0 @@
--- The lemmas that the goals of `is_blank` want, whatever its tests are named. Assumes nothing.
-use borrow.Author.Tests.{eq-eqb, ne_eqb}
-
-pub ruleset wanted = (eq-eqb, ne_eqb)
