@@ -14,7 +14,6 @@ use listing::Listing;
 use listing::blaming::why;
 use page::Opening;
 use sheet::{Answer, Reply, Sheet};
-use watts::Limit;
 use word::Edition;
 
 // The kinds of gates.
@@ -64,17 +63,17 @@ pub fn says(
 fn gated(sheet: Sheet, kind: u64, low: Amount, high: Amount) -> Upshot
     ensures { SetsGate sheet (wanted kind low high) result }
 {
-    let Limit::Bits(least) = limit_at(low) else {
+    let Some(least) = limit_at(low) else {
         return too_fine(sheet, low.at);
     };
-    let Limit::Bits(most) = limit_at(high) else {
+    let Some(most) = limit_at(high) else {
         return too_fine(sheet, high.at);
     };
     done(gating::set(sheet, outside::on_words::gate_of(kind, least, most)))
 }
 
 // The bits of a limit, as it is written.
-fn limit_at(amount: Amount) -> Limit
+fn limit_at(amount: Amount) -> Option<u32>
     ensures { result ≡ limit_at amount }
 {
     let n = amount.numeral;

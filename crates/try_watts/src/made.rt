@@ -2,7 +2,6 @@
 ghost use Rattle.std.specs.Prelude.{◌^◌, ◌<◌, ◌≤◌};
 
 use trial::trial_direct::draw;
-use watts::Limit;
 
 // How many were compared, how many of them differ, and the sum of the bits read.
 #[derive(Clone, Copy)]
@@ -86,8 +85,8 @@ pub const TOO_FINE: u64 = u64::MAX;
 // The bits read.
 pub fn bits(minus: bool, digits: u64, places: u64) -> u64 {
     match watts::nearest(minus, digits, places) {
-        Limit::Bits(pattern) => pattern as u64,
-        Limit::TooFine => TOO_FINE,
+        Some(pattern) => u64::from(pattern),
+        None => TOO_FINE,
     }
 }
 

@@ -14,7 +14,7 @@ use Rattle.gate.specs.Gate.{gate_rules, not_numbers}
 use Rattle.gate.specs.Paper.{Single, compares}
 use Rattle.gate.proofs.Through.{by_language, exactly}
 use Rattle.digits.specs.numeral.Numeral.{PLACES}
-use Rattle.watts.specs.declared.Limit.TheVariants.{Bits}
+use Rattle.std.specs.Prelude.{Some}
 use Rattle.watts.specs.Watts.{limit_of, pattern, with_sign}
 use Rattle.page.specs.Calls.{back, forward, set_gate}
 use Rattle.sheet.specs.declared.Sheet.{Sheet}
@@ -34,7 +34,7 @@ limit a = of_bits binary32 (bits a)
 abbrev pub Few : Amount → Type 0
 Few a = a.numeral.places ≤ PLACES
 
-limit_read : (a : Amount) → Few a → limit_at a ≡ Bits (bits a)
+limit_read : (a : Amount) → Few a → limit_at a ≡ Some (bits a)
 unfolding limit_of
 limit_read a h = rw (le-leb a.numeral.places PLACES h)
 

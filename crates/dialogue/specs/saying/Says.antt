@@ -1,10 +1,8 @@
 -- What one statement does: the answer and the next sheet are those of its call, and a mistake or a refusal stops.
-use Rattle.std.specs.Prelude.{◌≡◌, List, ℕ, min}
+use Rattle.std.specs.Prelude.{◌≡◌, List, ℕ, min, Option, None, Some}
 use Rattle.word.specs.declared.Edition.TheVariants.{New}
 use Rattle.gate.specs.declared.Gate.{Gate}
 use Rattle.line.specs.grammar.Kinds.{AMOUNT}
-use Rattle.watts.specs.declared.Limit.{Limit}
-use Rattle.watts.specs.declared.Limit.TheVariants.{Bits, TooFine}
 use Rattle.watts.specs.Watts.{limit_of}
 use Rattle.page.specs.Calls.{Call, add, back, forward, mark, open_at, set_gate}
 use Rattle.page.specs.Page.{at_width}
@@ -81,7 +79,7 @@ pub record Shows (s : Sheet) (r : Upshot) : Type 0 where
   pub result : r ≡ by_number number s Shown
 
 -- the bits of a limit, as it is written
-abbrev pub limit_at : Amount → Limit
+abbrev pub limit_at : Amount → Option ℕ
 limit_at a = limit_of a.numeral.minus a.numeral.value a.numeral.places
 
 abbrev pub too_fine : (at : ℕ) → Mistake
@@ -93,10 +91,10 @@ pub data Wanted : Type 0 where
   unread : Mistake → Wanted
 
 -- the gate of a kind, where both limits are read; else a mistake where the first stands that has too many digits
-unfoldable pub by_limits : (kind low_at high_at : ℕ) → (low high : Limit) → Wanted
-by_limits k i j TooFine h = unread (too_fine i)
-by_limits k i j (Bits l) TooFine = unread (too_fine j)
-by_limits k i j (Bits l) (Bits h) = sets (gate_of k l h)
+unfoldable pub by_limits : (kind low_at high_at : ℕ) → (low high : Option ℕ) → Wanted
+by_limits k i j None h = unread (too_fine i)
+by_limits k i j (Some l) None = unread (too_fine j)
+by_limits k i j (Some l) (Some h) = sets (gate_of k l h)
 
 abbrev pub wanted : (kind : ℕ) (low high : Amount) → Wanted
 wanted k a c = by_limits k a.at c.at (limit_at a) (limit_at c)
