@@ -9,8 +9,8 @@ use native.Mathlib.Decide.{dec_lt}
 use native.Mathlib.Omega.{arith}
 use lib.Dec.{leb, ltb}
 use borrow.Author.Tests.{le-leb, le-ltb, leb-true, lt-ltb, ltb-true, not-false}
-use Rattle.word.specs.declared.Found.{Found}
-use Rattle.word.specs.declared.Found.TheVariants.{At, Nothing}
+use Rattle.std.specs.Prelude.{Option}
+use Rattle.std.specs.Prelude.{Some, None}
 use Rattle.word.specs.Search.{first, last}
 use Rattle.word.specs.Word.{half, minus, plus, top}
 use Rattle.word.proofs.Searched.{first_is, first_nothing, last_is, last_nothing}
@@ -34,22 +34,22 @@ module _ (fit : ℕ → Bool) (s : ℕ) where
   unfolding under
   under_is x u = go (first (λ y. fit (s + y)) (half 32) 0) refl
     where
-      go : (r : Found) → first (λ y. fit (s + y)) (half 32) 0 ≡ r
-          → (s ≤ x) × (x < s + elim (first (λ y. fit (s + y)) (half 32) 0) as (λ (r : Found). ℕ) [ At y ↦ y | Nothing ↦ half 32 ])
-      go (At y) e = rw e (u.low, out (dec_lt x (s + y)))
+      go : (r : Option ℕ) → first (λ y. fit (s + y)) (half 32) 0 ≡ r
+          → (s ≤ x) × (x < s + elim (first (λ y. fit (s + y)) (half 32) 0) as (λ (r : Option ℕ). ℕ) [ Some y ↦ y | None ↦ half 32 ])
+      go (Some y) e = rw e (u.low, out (dec_lt x (s + y)))
         where
           out : Dec (x < s + y) → x < s + y
           out (yes h) = h
           out (no h) = absurd (false≢true (sym (u.none (s + y) (omega arith) (omega arith)) ∙ (first_is (λ y. fit (s + y)) (half 32) 0 y e).passes))
-      go Nothing e = rw e (u.low, u.high)
+      go None e = rw e (u.low, u.high)
 
   is_under : (x : ℕ) → s ≤ x → x < s + under (λ y. fit (s + y)) → Under fit s x
   unfolding under
   is_under x l = go (first (λ y. fit (s + y)) (half 32) 0) refl
     where
-      go : (r : Found) → first (λ y. fit (s + y)) (half 32) 0 ≡ r
-          → x < s + elim (first (λ y. fit (s + y)) (half 32) 0) as (λ (r : Found). ℕ) [ At y ↦ y | Nothing ↦ half 32 ] → Under fit s x
-      go (At y) e h =
+      go : (r : Option ℕ) → first (λ y. fit (s + y)) (half 32) 0 ≡ r
+          → x < s + elim (first (λ y. fit (s + y)) (half 32) 0) as (λ (r : Option ℕ). ℕ) [ Some y ↦ y | None ↦ half 32 ] → Under fit s x
+      go (Some y) e h =
           let k : x < s + y = rw e at h in
           let found = first_is (λ y. fit (s + y)) (half 32) 0 y e in
           record {
@@ -57,7 +57,7 @@ module _ (fit : ℕ → Bool) (s : ℕ) where
             high = omega (arith, found.high);
             none = λ z a b. sym (moved z a) ∙ found.none_before (z - s) zero-le (omega arith);
           }
-      go Nothing e h =
+      go None e h =
           let k : x < s + half 32 = rw e at h in
           record { low = l; high = k; none = λ z a b. sym (moved z a) ∙ first_nothing (λ y. fit (s + y)) (half 32) 0 e (z - s) zero-le (omega arith) }
 
@@ -65,9 +65,9 @@ module _ (fit : ℕ → Bool) (s : ℕ) where
   unfolding over
   over_is x o = go (last (λ y. fit (s + y)) (half 32)) refl
     where
-      go : (r : Found) → last (λ y. fit (s + y)) (half 32) ≡ r
-          → (s + elim (last (λ y. fit (s + y)) (half 32)) as (λ (r : Found). ℕ) [ At y ↦ suc y | Nothing ↦ half 32 ] ≤ x) × (x < s + half 32)
-      go (At y) e = rw e (out (dec_lt (s + y) x), o.high)
+      go : (r : Option ℕ) → last (λ y. fit (s + y)) (half 32) ≡ r
+          → (s + elim (last (λ y. fit (s + y)) (half 32)) as (λ (r : Option ℕ). ℕ) [ Some y ↦ suc y | None ↦ half 32 ] ≤ x) × (x < s + half 32)
+      go (Some y) e = rw e (out (dec_lt (s + y) x), o.high)
         where
           found : (y < half 32) × (fit (s + y) ≡ true)
           found = let f = last_is (λ y. fit (s + y)) (half 32) y e in (f.high, f.passes)
@@ -75,7 +75,7 @@ module _ (fit : ℕ → Bool) (s : ℕ) where
           out : Dec (s + y < x) → s + suc y ≤ x
           out (yes h) = omega arith
           out (no h) = absurd (false≢true (sym (o.none (s + y) (omega arith) (omega (arith, found.0))) ∙ found.1))
-      go Nothing e =
+      go None e =
           let (y, low, high, fits) = o.some in
           absurd (false≢true (sym (last_nothing (λ y. fit (s + y)) (half 32) e (y - s) (omega (arith, o.high))) ∙ moved y low ∙ fits))
 
@@ -83,9 +83,9 @@ module _ (fit : ℕ → Bool) (s : ℕ) where
   unfolding over
   is_over x l h = go (last (λ y. fit (s + y)) (half 32)) refl l
     where
-      go : (r : Found) → last (λ y. fit (s + y)) (half 32) ≡ r
-          → s + elim (last (λ y. fit (s + y)) (half 32)) as (λ (r : Found). ℕ) [ At y ↦ suc y | Nothing ↦ half 32 ] ≤ x → Over fit s x
-      go (At y) e k =
+      go : (r : Option ℕ) → last (λ y. fit (s + y)) (half 32) ≡ r
+          → s + elim (last (λ y. fit (s + y)) (half 32)) as (λ (r : Option ℕ). ℕ) [ Some y ↦ suc y | None ↦ half 32 ] ≤ x → Over fit s x
+      go (Some y) e k =
           let b : s + suc y ≤ x = rw e at k in
           let found = last_is (λ y. fit (s + y)) (half 32) y e in
           record {
@@ -93,16 +93,16 @@ module _ (fit : ℕ → Bool) (s : ℕ) where
             high = h;
             none = λ z a c. sym (moved z (omega arith)) ∙ found.none_after (z - s) (omega arith) (omega arith);
           }
-      go Nothing e k = let b : s + half 32 ≤ x = rw e at k in absurd (omega arith)
+      go None e k = let b : s + half 32 ≤ x = rw e at k in absurd (omega arith)
 
   under_end : under (λ y. fit (s + y)) ≤ half 32
   unfolding under
   under_end = go (first (λ y. fit (s + y)) (half 32) 0) refl
     where
-      go : (r : Found) → first (λ y. fit (s + y)) (half 32) 0 ≡ r
-          → elim (first (λ y. fit (s + y)) (half 32) 0) as (λ (r : Found). ℕ) [ At y ↦ y | Nothing ↦ half 32 ] ≤ half 32
-      go (At y) e = rw e (omega (arith, (first_is (λ y. fit (s + y)) (half 32) 0 y e).high))
-      go Nothing e = rw e (omega arith)
+      go : (r : Option ℕ) → first (λ y. fit (s + y)) (half 32) 0 ≡ r
+          → elim (first (λ y. fit (s + y)) (half 32) 0) as (λ (r : Option ℕ). ℕ) [ Some y ↦ y | None ↦ half 32 ] ≤ half 32
+      go (Some y) e = rw e (omega (arith, (first_is (λ y. fit (s + y)) (half 32) 0 y e).high))
+      go None e = rw e (omega arith)
 
 -- the rule for a run of words fails just these
 module _ (a b : ℕ) (end : b ≤ suc (top 32)) (part : b ≤ a + top 32) where

@@ -6,20 +6,20 @@ use native.Mathlib.Decide.{dec_lt}
 use native.Mathlib.Omega.{arith}
 use lib.Dec.{leb, ltb}
 use borrow.Author.Tests.{le-leb, le-ltb, lt-leb, lt-ltb}
-use Rattle.word.specs.declared.Found.{Found}
-use Rattle.word.specs.declared.Found.TheVariants.{At, Nothing}
+use Rattle.std.specs.Prelude.{Option}
+use Rattle.std.specs.Prelude.{Some, None}
 use Rattle.word.specs.Search.{first, last}
 use Rattle.word.specs.Word.{half}
 use Rattle.word.proofs.Search.{first_at, first_none, last_at}
 use Rattle.word.proofs.Searched.{last_is}
 use Rattle.gate.specs.Gate.{over, under}
 
-pub last_none : (t : ℕ → Bool) (k : ℕ) → ((y : ℕ) → y < k → t y ≡ false) → last t k ≡ Nothing
+pub last_none : (t : ℕ → Bool) (k : ℕ) → ((y : ℕ) → y < k → t y ≡ false) → last t k ≡ None
 last_none t k none = go (last t k) refl
   where
-    go : (r : Found) → last t k ≡ r → last t k ≡ Nothing
-    go Nothing e = e
-    go (At x) e = let is = last_is t k x e in absurd (false≢true (sym (none x is.high) ∙ is.passes))
+    go : (r : Option ℕ) → last t k ≡ r → last t k ≡ None
+    go None e = e
+    go (Some x) e = let is = last_is t k x e in absurd (false≢true (sym (none x is.high) ∙ is.passes))
 
 -- the words of a half that pass are those from `from` on and before `past`
 pub record Runs (t : ℕ → Bool) (from past : ℕ) : Type 0 where
@@ -47,7 +47,7 @@ module _ (t : ℕ → Bool) (from past : ℕ) (run : Runs t from past) where
   unfolding under
   under_is = go (dec_lt from past)
     where
-      go : Dec (from < past) → elim (first t (half 32) 0) as (λ (r : Found). ℕ) [ At y ↦ y | Nothing ↦ half 32 ] ≡ cond (ltb from past) from (half 32)
+      go : Dec (from < past) → elim (first t (half 32) 0) as (λ (r : Option ℕ). ℕ) [ Some y ↦ y | None ↦ half 32 ] ≡ cond (ltb from past) from (half 32)
       go (yes h) =
           rw (first_at t (half 32) 0 from zero-le (omega (arith, run.end)) (inside from (omega arith) h) (λ y a b. before y (omega (arith, run.end)) b), lt-ltb from past h)
       go (no h) = rw (first_none t (half 32) 0 (λ y a b. nowhere (omega arith) y (omega arith)), le-ltb from past (omega arith))
@@ -56,7 +56,7 @@ module _ (t : ℕ → Bool) (from past : ℕ) (run : Runs t from past) where
   unfolding over
   over_is = go (dec_lt from past)
     where
-      go : Dec (from < past) → elim (last t (half 32)) as (λ (r : Found). ℕ) [ At y ↦ suc y | Nothing ↦ half 32 ] ≡ cond (ltb from past) past (half 32)
+      go : Dec (from < past) → elim (last t (half 32)) as (λ (r : Option ℕ). ℕ) [ Some y ↦ suc y | None ↦ half 32 ] ≡ cond (ltb from past) past (half 32)
       go (yes h) =
           rw (last_at t (half 32) (past - 1) (omega (arith, run.end)) (inside (past - 1) (omega arith) (omega arith)) (λ y a b. after y b (omega arith)), lt-ltb from past h) (omega arith)
       go (no h) = rw (last_none t (half 32) (λ y b. nowhere (omega arith) y b), le-ltb from past (omega arith))

@@ -2,7 +2,7 @@
 use Rattle.std.specs.Prelude.{Bool, ◌&&◌, ◌||◌, cond, List, [], ◌∷◌, ℕ, suc, ◌+◌, ◌-◌, ltb, Float, Result, Ok, Err}
 use Rattle.std.specs.Float.{binary32}
 use Rattle.std.specs.Float.Ieee.{is_nan, to_bits}
-use Rattle.word.specs.declared.Found.TheVariants.{At, Nothing}
+use Rattle.std.specs.Prelude.{Some, None}
 use Rattle.word.specs.Search.{first, last}
 use Rattle.word.specs.Word.{half, minus, top}
 use Rattle.rule.specs.declared.Rule.{Rule}
@@ -40,11 +40,11 @@ failing a b = cond (ltb a b) (rule 3 0 (minus 32 0 b) (top 32 - (b - a))) (rule 
 
 -- how many words of a half are "under the smallest fitting one there"; all of them where none fits
 unfoldable pub under : (ℕ → Bool) → ℕ
-under t = elim (first t (half 32) 0) [ At y ↦ y | Nothing ↦ half 32 ]
+under t = elim (first t (half 32) 0) [ Some y ↦ y | None ↦ half 32 ]
 
 -- where in a half those "over the largest fitting one there" start; past its end where none fits
 unfoldable pub over : (ℕ → Bool) → ℕ
-over t = elim (last t (half 32)) [ At y ↦ suc y | Nothing ↦ half 32 ]
+over t = elim (last t (half 32)) [ Some y ↦ suc y | None ↦ half 32 ]
 
 -- the four rules, by how far under and from where over the fitting words those of each half lie
 abbrev pub four : (under over under' over' : ℕ) → Four

@@ -9,8 +9,8 @@ use native.Mathlib.Omega.{arith}
 use lib.Dec.{leb}
 use lib.Pow.{pow_pos}
 use borrow.Author.Tests.{le-leb, leb-false, leb-true}
-use Rattle.word.specs.declared.Found.{Found}
-use Rattle.word.specs.declared.Found.TheVariants.{At, Nothing}
+use Rattle.std.specs.Prelude.{Option}
+use Rattle.std.specs.Prelude.{Some, None}
 use Rattle.word.specs.Search.{last}
 use Rattle.word.proofs.Searched.{last_is, last_nothing}
 use Rattle.gate.specs.Value.{exponent, fraction, magnitude}
@@ -59,10 +59,10 @@ module _ (digits places : ℕ) where
   unfolding at_most below
   about small = go (last at_most INFINITY) refl
     where
-      go : (f : Found) → last at_most INFINITY ≡ f → (p : ℕ) × About p
-      go (At p) e =
+      go : (f : Option ℕ) → last at_most INFINITY ≡ f → (p : ℕ) × About p
+      go (Some p) e =
           let l = last_is at_most INFINITY p e in
           let low = leb-true (worth p * T) N l.passes in
           let k = next_finite small p l.high low in
           (p, record { found = rw (e, below); finite = k; low = low; high = leb-false (worth (p + 1) * T) N (l.none_after (p + 1) (omega arith) k) })
-      go Nothing e = let z : ◌≡◌ {A = ℕ} 0 1 = cc (lowest, last_nothing at_most INFINITY e 0 (omega arith)) in absurd (omega arith)
+      go None e = let z : ◌≡◌ {A = ℕ} 0 1 = cc (lowest, last_nothing at_most INFINITY e 0 (omega arith)) in absurd (omega arith)

@@ -1,7 +1,7 @@
 -- The single-precision number nearest to a decimal fraction, ties to even, by search over all patterns. Over whole numbers: what a pattern
 -- is worth is its value times 2^149, so digits / 10^places is compared with it as digits 2^149 with worth 10^places.
 use Rattle.std.specs.Prelude.{Bool, true, false, cond, ℕ, ◌+◌, ◌-◌, ◌*◌, ◌%◌, ◌^◌, leb, ltb, Option, None, Some}
-use Rattle.word.specs.declared.Found.TheVariants.{At, Nothing}
+use Rattle.std.specs.Prelude.{Some, None}
 use Rattle.word.specs.Search.{last}
 use Rattle.gate.specs.Value.{exponent, fraction, magnitude}
 use Rattle.digits.specs.numeral.Numeral.{PLACES}
@@ -20,7 +20,7 @@ scaled digits = digits * 2 ^ 149
 
 -- the last pattern whose value is at most digits / 10^places; that of zero is
 unfoldable pub below : (digits places : ℕ) → ℕ
-below digits places = elim (last (λ p. leb (worth p * 10 ^ places) (scaled digits)) INFINITY) [ At p ↦ p | Nothing ↦ 0 ]
+below digits places = elim (last (λ p. leb (worth p * 10 ^ places) (scaled digits)) INFINITY) [ Some p ↦ p | None ↦ 0 ]
 
 -- of a pattern and the next the nearer, where one is so far under and the other so far over; "ties to even"
 unfoldable pub nearer : (under over p : ℕ) → ℕ

@@ -7,8 +7,8 @@ use native.Mathlib.Decide.{dec_le}
 use native.Mathlib.Omega.{arith}
 use borrow.Author.Tests.{eq-eqb, eqb-true}
 use lib.Dec.{eqb}
-use Rattle.word.specs.declared.Found.{Found}
-use Rattle.word.specs.declared.Found.TheVariants.{At, Nothing}
+use Rattle.std.specs.Prelude.{Option}
+use Rattle.std.specs.Prelude.{Some, None}
 use Rattle.word.specs.Search.{first, last}
 use Rattle.word.specs.Word.{top}
 use Rattle.word.proofs.Search.{first_at, last_at}
@@ -27,18 +27,18 @@ module _ (f : ℕ → Bool) (i : Interval) where
   unfolding some is_found
   some_at a m t = go (first f (suc i.high - i.low) i.low) refl
     where
-      go : (r : Found) → first f (suc i.high - i.low) i.low ≡ r → is_found (first f (suc i.high - i.low) i.low) ≡ true
-      go (At b) e = ap is_found e
-      go Nothing e = absurd (false≢true (sym (first_nothing f _ _ e a m.low (omega (arith, m.low, m.high))) ∙ t))
+      go : (r : Option ℕ) → first f (suc i.high - i.low) i.low ≡ r → is_found (first f (suc i.high - i.low) i.low) ≡ true
+      go (Some b) e = ap is_found e
+      go None e = absurd (false≢true (sym (first_nothing f _ _ e a m.low (omega (arith, m.low, m.high))) ∙ t))
 
   some_has : some f i ≡ true → (a : ℕ) × (In i a × (f a ≡ true))
   unfolding some is_found
   some_has t = go (first f (suc i.high - i.low) i.low) refl
     where
-      go : (r : Found) → first f (suc i.high - i.low) i.low ≡ r → (a : ℕ) × (In i a × (f a ≡ true))
-      go (At a) e =
+      go : (r : Option ℕ) → first f (suc i.high - i.low) i.low ≡ r → (a : ℕ) × (In i a × (f a ≡ true))
+      go (Some a) e =
           let s = first_is f _ _ a e in (a, (record { low = s.low; high = omega (arith, s.low, s.high) }, s.passes))
-      go Nothing e = absurd (false≢true (sym (ap is_found e) ∙ t))
+      go None e = absurd (false≢true (sym (ap is_found e) ∙ t))
 
 module _ (f : ℕ → ℕ → ℕ) (x y : Interval) where
   gives_at : (a b : ℕ) → In x a → In y b → gives f x y (f a b) ≡ true
@@ -70,9 +70,9 @@ module _ (f : ℕ → ℕ → ℕ) (x y : Interval) where
   unfolding smallest word_of
   smallest_word w = go (first (gives f x y) (2 ^ w) 0) refl
     where
-      go : (r : Found) → first (gives f x y) (2 ^ w) 0 ≡ r → word_of (first (gives f x y) (2 ^ w) 0) ≤ top w
-      go (At v) e = rw e (omega (arith, (first_is _ _ _ v e).high, top-suc w))
-      go Nothing e = rw e zero-le
+      go : (r : Option ℕ) → first (gives f x y) (2 ^ w) 0 ≡ r → word_of (first (gives f x y) (2 ^ w) 0) ≤ top w
+      go (Some v) e = rw e (omega (arith, (first_is _ _ _ v e).high, top-suc w))
+      go None e = rw e zero-le
 
   -- intervals with words in them, whose results are words
   module _ (w : ℕ) (mx : x.low ≤ x.high) (my : y.low ≤ y.high) (words : (a b : ℕ) → In x a → In y b → f a b < 2 ^ w) where
@@ -86,8 +86,8 @@ module _ (f : ℕ → ℕ → ℕ) (x y : Interval) where
     unfolding smallest word_of
     has_smallest = go (first (gives f x y) (2 ^ w) 0) refl
       where
-        go : (r : Found) → first (gives f x y) (2 ^ w) 0 ≡ r → Least f x y (word_of (first (gives f x y) (2 ^ w) 0))
-        go (At v) e = rw e (found (gives_has v (first_is _ _ _ v e).passes))
+        go : (r : Option ℕ) → first (gives f x y) (2 ^ w) 0 ≡ r → Least f x y (word_of (first (gives f x y) (2 ^ w) 0))
+        go (Some v) e = rw e (found (gives_has v (first_is _ _ _ v e).passes))
           where
             found : (a : ℕ) × ((b : ℕ) × (In x a × (In y b × (f a b ≡ v)))) → Least f x y v
             found (a, (b, (p, (q, i)))) = record { a = a; b = b; in_x = p; in_y = q; is = i; least = least }
@@ -99,7 +99,7 @@ module _ (f : ℕ → ℕ → ℕ) (x y : Interval) where
                     test (yes h) = h
                     test (no h) =
                         absurd (false≢true (sym ((first_is _ _ _ v e).none_before (f c d) zero-le (omega arith)) ∙ gives_at c d m n))
-        go Nothing e =
+        go None e =
             absurd
             (false≢true
             (sym (first_nothing (gives f x y) _ _ e (f x.low y.low) zero-le (omega (arith, words _ _ here_x here_y))) ∙ gives_at _ _ here_x here_y))
@@ -108,8 +108,8 @@ module _ (f : ℕ → ℕ → ℕ) (x y : Interval) where
     unfolding largest word_of
     has_largest = go (last (gives f x y) (2 ^ w)) refl
       where
-        go : (r : Found) → last (gives f x y) (2 ^ w) ≡ r → Greatest f x y (word_of (last (gives f x y) (2 ^ w)))
-        go (At v) e = rw e (found (gives_has v (last_is _ _ v e).passes))
+        go : (r : Option ℕ) → last (gives f x y) (2 ^ w) ≡ r → Greatest f x y (word_of (last (gives f x y) (2 ^ w)))
+        go (Some v) e = rw e (found (gives_has v (last_is _ _ v e).passes))
           where
             found : (a : ℕ) × ((b : ℕ) × (In x a × (In y b × (f a b ≡ v)))) → Greatest f x y v
             found (a, (b, (p, (q, i)))) = record { a = a; b = b; in_x = p; in_y = q; is = i; greatest = greatest }
@@ -121,6 +121,6 @@ module _ (f : ℕ → ℕ → ℕ) (x y : Interval) where
                     test (yes h) = h
                     test (no h) =
                         absurd (false≢true (sym ((last_is _ _ v e).none_after (f c d) (omega arith) (words c d m n)) ∙ gives_at c d m n))
-        go Nothing e =
+        go None e =
             absurd
             (false≢true (sym (last_nothing (gives f x y) _ e (f x.low y.low) (words _ _ here_x here_y)) ∙ gives_at _ _ here_x here_y))

@@ -1,16 +1,16 @@
 -- The span of an operation, by exhaustive search over the words of its arguments.
 use Rattle.std.specs.Prelude.{Bool, true, false, ℕ, suc, ◌-◌, ◌^◌, eqb}
-use Rattle.word.specs.declared.Found.{Found}
-use Rattle.word.specs.declared.Found.TheVariants.{At, Nothing}
+use Rattle.std.specs.Prelude.{Option}
+use Rattle.std.specs.Prelude.{Some, None}
 use Rattle.word.specs.Search.{first, last}
 use Rattle.span.specs.declared.interval.Interval.{Interval}
 use Rattle.span.specs.declared.interval.Op.{Op}
 use Rattle.span.specs.interval.Interval.{interval}
 use Rattle.span.specs.interval.Op.{result, second}
 
-unfoldable pub is_found : Found → Bool
-is_found (At a) = true
-is_found Nothing = false
+unfoldable pub is_found : Option ℕ → Bool
+is_found (Some a) = true
+is_found None = false
 
 -- some word of the interval passes
 unfoldable pub some : (ℕ → Bool) → Interval → Bool
@@ -20,9 +20,9 @@ some f i = is_found (first f (suc i.high - i.low) i.low)
 unfoldable pub gives : (ℕ → ℕ → ℕ) → Interval → Interval → ℕ → Bool
 gives f x y v = some (λ a. some (λ b. eqb (f a b) v) y) x
 
-unfoldable pub word_of : Found → ℕ
-word_of (At v) = v
-word_of Nothing = 0
+unfoldable pub word_of : Option ℕ → ℕ
+word_of (Some v) = v
+word_of None = 0
 
 -- "the smallest ... result that the argument intervals give": the first word that some words of them give
 unfoldable pub smallest : ℕ → (ℕ → ℕ → ℕ) → Interval → Interval → ℕ
