@@ -1,13 +1,12 @@
 -- The four rules of a gate by their closed form: at least a limit is within it and the infinity above all, at most a limit within the
 -- infinity below all and it, since every number lies between the infinities. Assumes nothing.
 use mathlib.Core.Path.{◌≡◌, refl, sym, ap, ap₂, fun_ext, subst, ◌∙◌}
-use mathlib.Core.Bool.{Bool, true, false, not, ◌&&◌, and-true, cond, false≢true}
+use mathlib.Core.Bool.{Bool, true, false, ◌&&◌, and-true, cond}
 use Prim.Native.Nat.{ℕ, ◌+◌, ◌%◌, ◌^◌}
 use native.Mathlib.Omega.{arith}
 use lib.Dec.{T}
-use lib.Ieee.{Float, nan, inf, fin, binary32, fits, is_nan, ne, to_bits}
+use lib.Ieee.{Float, binary32, fits, is_nan, to_bits}
 use lib.Ieee.Bits.{nan_bits_above, nan_bits_is, of_bits-to_bits, to_bits-lt}
-use lib.Ieee.Compare.{differs_from_itself, nan_differs}
 use borrow.Author.Tests.{ltb-false}
 use Rattle.word.specs.Word.{half, top}
 use Rattle.word.proofs.Tests.{both_fail}
@@ -96,17 +95,3 @@ module _ (g : Gate) (single : Single g) (numbers : not_numbers g ≡ false) wher
 pub as_none : (g : Gate) → not_numbers g ≡ true → Err NotANumber ≡ turned g
 unfolding turned
 as_none g n = sym (ap (λ (b : Bool). cond b (Err NotANumber) (Ok (four_of (through g)))) n)
-
--- a float that differs from itself is not a number, and no other is
-pub differs : (x : Float) → ne x x ≡ true → is_nan x ≡ true
-unfolding is_nan
-differs x e = ap is_nan (differs_from_itself x (subst T (sym e) tt))
-
-pub equals_itself : (x : Float) → ne x x ≡ false → is_nan x ≡ false
-unfolding is_nan
-equals_itself nan e = absurd (false≢true (sym e ∙ nan_differs))
-equals_itself (inf s) e = refl
-equals_itself (fin s m k) e = refl
-
-pub has_bits : (x : Float) → is_nan x ≡ false → T (not (is_nan x))
-has_bits x e = subst (λ (b : Bool). T (not b)) (sym e) tt

@@ -10,3 +10,4 @@ pub mod Magnitude
 pub mod Order
 pub mod Reading
 pub mod Through
+pub mod SearchHalf

@@ -45,6 +45,7 @@ pub enum Refusal {
 
 // The patterns of a half that meet a gate, counted inside the half: from `under` on, and before `over`. Where none does,
 // both are the whole half.
+// No `band::Run`, whose last word is in it: a run here may be empty, and starts and ends where the rules of its half do.
 #[derive(Clone, Copy)]
 struct Run {
     under: u64,
@@ -88,12 +89,13 @@ impl Gate {
     }
 }
 
-// The bits of a limit that is a number: what is not a number differs from itself.
+// The bits of a limit that is a number.
+#[tactic(auto, unfolding(crate::specs::route::Route::bits_of))]
 fn bits_of(limit: f32) -> Result<u64, Refusal>
     ensures bits { result ≡ bits_of limit }
     ensures single { fits binary32 limit ≡ true }
 {
-    if limit != limit {
+    if limit.is_nan() {
         return Err(Refusal::NotANumber);
     }
     Ok(u64::from(limit.to_bits()))
@@ -118,6 +120,7 @@ fn between(low: u64, high: u64) -> Four
 }
 
 // The patterns of the lower half whose values lie from one pattern's to another's.
+#[tactic(auto, using(crate::proofs::SearchHalf::wanted), unfolding(crate::specs::route::Route::run_of))]
 fn fitting(low: u64, high: u64) -> Run
     requires limit { IsLimit low }
     requires limit_2 { IsLimit high }
@@ -136,6 +139,7 @@ fn fitting(low: u64, high: u64) -> Run
 }
 
 // The first pattern of the lower half whose value is not below the limit's: all are above one with the sign bit.
+#[tactic(auto, using(crate::proofs::SearchHalf::wanted), unfolding(crate::specs::route::Route::from_of))]
 fn from(low: u64) -> u64
     ensures { result ≡ from_of low }
 {
@@ -147,6 +151,7 @@ fn from(low: u64) -> u64
 }
 
 // Where the patterns of the lower half whose values are not above the limit's end: only zero is not above the other zero.
+#[tactic(auto, using(crate::proofs::SearchHalf::wanted), unfolding(crate::specs::route::Route::past_of))]
 fn past(high: u64) -> u64
     requires { IsLimit high }
     ensures { result ≡ past_of high }
@@ -162,6 +167,7 @@ fn past(high: u64) -> u64
 }
 
 // The rule of form 3, sense 0 that fails just the words from `from` on and before `past`.
+#[tactic(auto, using(crate::proofs::SearchHalf::wanted), unfolding(crate::specs::Gate::failing))]
 fn failing(from: u64, past: u64) -> Rule
     requires { past ≤ from + top 32 }
     ensures { result ≡ failing from past }

@@ -27,6 +27,7 @@ pub struct Net {
 }
 
 /// How a run ends: refused with a number, with an empty cut, with nothing left to change, or with the steps spent.
+// The refusal is a number here, since that is the answer that callers are promised; what it says is `Net::refusal`.
 #[derive(Clone, Copy, Debug, PartialEq, Eq)]
 pub enum Ended {
     Refused(u64),
@@ -71,6 +72,7 @@ impl Net {
         let mut steps = 0;
         let mut quiet = 0;
         let mut empty = false;
+        // by number, since the steps are counted, and are the answer
         'turns: loop {
             let steady = self.joined <= quiet;
             let spent = steps == pay;

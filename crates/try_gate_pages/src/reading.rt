@@ -1,7 +1,6 @@
 // Drawn gates on readings, against the reading by integers.
 use crate::draw;
 use crate::draw::Limits;
-use gate::Turned;
 use trial::trial_direct::draw::{SPREAD, next};
 use trial::trial_direct::rules::rule;
 use trial::trial_gates::direct;
@@ -67,8 +66,8 @@ fn word(limits: Limits, seed: u64, k: u64) -> u64 {
 // Whether x meets the gate's rules.
 fn holds(limits: Limits, x: u64) -> bool {
     match limits.gate().rules() {
-        Turned::Rules(four) => direct::all_hold(four, x),
-        Turned::NotANumber => false,
+        Ok(four) => direct::all_hold(four, x),
+        Err(_) => false,
     }
 }
 

@@ -4,7 +4,6 @@ ghost use Rattle.std.specs.Prelude.{◌^◌, ◌<◌, ◌≤◌};
 use crate::counts::Seen;
 use trial::trial_direct::draw;
 use trial::trial_tally::Tally;
-use watts::Limit;
 
 // The kinds that are drawn.
 #[derive(Clone, Copy)]
@@ -23,10 +22,7 @@ const LEAST: u64 = 0x80_0000;
 
 // The bits read, or none where there are too many digits after the point.
 pub fn bits(minus: bool, digits: u64, places: u64) -> Option<u32> {
-    match watts::nearest(minus, digits, places) {
-        Limit::Bits(pattern) => Some(pattern),
-        Limit::TooFine => None,
-    }
+    watts::nearest(minus, digits, places)
 }
 
 // One of a kind, drawn by s.

@@ -6,7 +6,7 @@ ghost use Rattle.gate.specs.Gate.{turned};
 ghost use Rattle.outside.specs.on_words.Gates.{gate_number, gate_of, gate_rows, row_of, rows_of};
 
 use crate::handing::NUMBERS;
-use gate::{Four, Gate, Span, Turned};
+use gate::{Four, Gate, Refusal, Span};
 use rule::Rule;
 
 /// Writes the rules of a gate, a row each. A refusal writes nothing.
@@ -16,11 +16,11 @@ pub fn gate_rules(kind: u64, low: u32, high: u32, rules: &mut [[u64; NUMBERS]; G
     ensures rules_after { rules.new ≡ gate_rows (turned (gate_of kind low high)) rules.old }
 {
     match gate_of(kind, low, high).rules() {
-        Turned::Rules(four) => {
+        Ok(four) => {
             *rules = rows_of(four);
             0
         }
-        Turned::NotANumber => 14,
+        Err(Refusal::NotANumber) => 14,
     }
 }
 
