@@ -8,7 +8,7 @@ use rule::Rule;
 use trial::trial_wheel::wheel::Wheel;
 use trial_sheets::trial_wide::stretches;
 use trial_sheets::trial_wide::stretches::STRETCHES;
-use word::{Found, Width};
+use word::Width;
 
 // The most bits of a word.
 const BITS: u64 = Width::LIMIT;
@@ -104,7 +104,7 @@ pub fn words(rules: &[Rule], wheel: Wheel, p: u64) -> Words {
     let mut n = 0;
     let mut from = p;
     for i in 0..MIXED {
-        let Found::At(x) = stretches::next(rules, wheel, from) else {
+        let Some(x) = stretches::next(rules, wheel, from) else {
             break;
         };
         list[i] = x;
