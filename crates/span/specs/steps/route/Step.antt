@@ -1,5 +1,5 @@
--- The way down the bits: what the highest bit of two intervals of words settles of the smallest result, and what the largest result is by
--- words turned round. It is a route, and no meaning: what it says is said of the smallest and the largest result themselves.
+-- A route down the bits: what the highest bit of two intervals of words settles of the smallest result, and what the largest result is by
+-- words turned round. It is no meaning: what it says is said of the smallest and the largest result themselves.
 use Rattle.std.specs.Prelude.{◌≡◌, ℕ, ◌+◌, ◌-◌, ◌≤◌}
 use Rattle.word.specs.Word.{half, top}
 use Rattle.span.specs.declared.interval.Interval.{Interval}
