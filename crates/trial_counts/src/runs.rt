@@ -9,7 +9,7 @@ use rule::Rule;
 use trial::trial_wheel::wheel::Wheel;
 use trial_sheets::trial_wide::stretches;
 use trial_sheets::trial_wide::stretches::STRETCHES;
-use word::{Found, Width};
+use word::Width;
 
 // The most bits of a word.
 const BITS: u64 = Width::LIMIT;
@@ -98,7 +98,7 @@ pub fn words(rules: &[Rule], wheel: Wheel, p: u64) -> ArrayVec<u64, MIXED> {
     let mut list = ArrayVec::new();
     let mut from = p;
     for _ in 0..MIXED {
-        let Found::At(x) = stretches::next(rules, wheel, from) else {
+        let Some(x) = stretches::next(rules, wheel, from) else {
             break;
         };
         let _ = list.try_push(x);

@@ -9,7 +9,7 @@ use trial::trial_direct::{direct, rules};
 use trial::trial_tally::Tally;
 use trial_sheets::trial_bits::masks::{Sought, Way, found, same};
 use trial_sheets::trial_bits::{called, masks};
-use word::{Found, Width};
+use word::Width;
 
 // The widest words that every rule is tried on by itself.
 const WIDEST: u64 = 4;
@@ -88,11 +88,11 @@ fn upwards(rules: &[Rule], rows: &[Row], width: Width) -> Tally
 }
 
 // One answer compared. Where rules clash, no word has their bits.
-fn next(fixed: Fixed, width: Width, p: u64, expected: Found) -> Tally
+fn next(fixed: Fixed, width: Width, p: u64, expected: Option<u64>) -> Tally
     requires { Narrow width.bits }
 {
     let Fixed::Bits { mask, value } = fixed else {
-        return Tally::one(same(Found::Nothing, expected));
+        return Tally::one(same(None, expected));
     };
     masks::compared(Way::Next, width, Sought { mask, value, p }, expected)
 }
@@ -110,10 +110,10 @@ fn downwards(rules: &[Rule], rows: &[Row], width: Width) -> Tally
 }
 
 // Where a walk up stopped, or none where that is at the end.
-fn below(up: u64, end: u64) -> Found {
+fn below(up: u64, end: u64) -> Option<u64> {
     if up < end {
-        Found::At(up)
+        Some(up)
     } else {
-        Found::Nothing
+        None
     }
 }

@@ -2,7 +2,7 @@
 use rule::bits::Fixed;
 use std::io::Result;
 use trial::trial_direct::draw::next;
-use word::{Found, Width};
+use word::Width;
 
 const LOOKED: u64 = 10_000_000;
 
@@ -37,7 +37,7 @@ fn found(mask: u64, value: u64, p: u64) -> u64 {
         value: value & mask,
     };
     match fixed.next(Width { bits: 64 }, p) {
-        Found::At(x) => x,
-        Found::Nothing => 0,
+        Some(x) => x,
+        None => 0,
     }
 }

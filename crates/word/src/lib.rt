@@ -30,13 +30,6 @@ pub struct Terms {
     pub adds: u64,
 }
 
-// What a search over words gives: the word found, or that there is none.
-#[derive(Clone, Copy)]
-pub enum Found {
-    At(u64),
-    Nothing,
-}
-
 impl Width {
     // The widest word that there is: 2^64 itself is none.
     pub const LIMIT: u64 = 64;

@@ -3,7 +3,7 @@
 use crate::trial_wheel::meaning;
 use crate::trial_wheel::wheel::Wheel;
 use rule::Rule;
-use word::{Found, Width};
+use word::Width;
 
 /// The most rules of a sheet that is looked at whole.
 pub const FEW: usize = 6;
@@ -37,11 +37,11 @@ fn meets_all(rules: &[Rule], wheel: Wheel, x: u64) -> bool {
 }
 
 /// The smallest word at or above p: from the largest, each free bit is cleared, the highest first, where p is not passed.
-pub fn next(rules: &[Rule], wheel: Wheel, p: u64) -> Found {
+pub fn next(rules: &[Rule], wheel: Wheel, p: u64) -> Option<u64> {
     let join = joined(rules, wheel);
     let mut x = join.least | join.free;
     if x < p || !meets_all(rules, wheel, x) {
-        return Found::Nothing;
+        return None;
     }
     for k in (0..Width::LIMIT).rev() {
         let cleared = x ^ join.free & 1 << k;
@@ -49,15 +49,15 @@ pub fn next(rules: &[Rule], wheel: Wheel, p: u64) -> Found {
             x = cleared;
         }
     }
-    Found::At(x)
+    Some(x)
 }
 
 /// The largest word at or below p: from the smallest, each free bit is set, the highest first, where p is not passed.
-pub fn prev(rules: &[Rule], wheel: Wheel, p: u64) -> Found {
+pub fn prev(rules: &[Rule], wheel: Wheel, p: u64) -> Option<u64> {
     let join = joined(rules, wheel);
     let mut x = join.least;
     if p < x || !meets_all(rules, wheel, x) {
-        return Found::Nothing;
+        return None;
     }
     for k in (0..Width::LIMIT).rev() {
         let set = x | join.free & 1 << k;
@@ -65,5 +65,5 @@ pub fn prev(rules: &[Rule], wheel: Wheel, p: u64) -> Found {
             x = set;
         }
     }
-    Found::At(x)
+    Some(x)
 }

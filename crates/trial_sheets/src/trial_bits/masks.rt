@@ -6,7 +6,7 @@ use crate::trial_bits::called;
 use rule::bits::Fixed;
 use trial::trial_direct::rules::rule;
 use trial::trial_tally::Tally;
-use word::{Found, Width};
+use word::Width;
 
 // The widest words that every mask is tried on.
 const WIDEST: u64 = 5;
@@ -52,7 +52,7 @@ fn over_numbers(way: Way, width: Width) -> Tally
 
 /// One answer compared, or none where it may not be looked for: a value has no bit outside its mask, p is a word, and looked
 /// for downwards, by calls, so is the mask.
-pub fn compared(way: Way, width: Width, sought: Sought, expected: Found) -> Tally
+pub fn compared(way: Way, width: Width, sought: Sought, expected: Option<u64>) -> Tally
     requires { IsWidth width.bits }
 {
     let Sought { mask, value, p } = sought;
@@ -74,24 +74,24 @@ pub fn compared(way: Way, width: Width, sought: Sought, expected: Found) -> Tall
 }
 
 /// Whether two searches found the same.
-pub fn same(found: Found, expected: Found) -> bool {
+pub fn same(found: Option<u64>, expected: Option<u64>) -> bool {
     match (found, expected) {
-        (Found::At(x), Found::At(y)) => x == y,
-        (Found::Nothing, Found::Nothing) => true,
+        (Some(x), Some(y)) => x == y,
+        (None, None) => true,
         _ => false,
     }
 }
 
 /// The word found, or that there is none.
-pub fn found(word: Option<u64>) -> Found {
+pub fn found(word: Option<u64>) -> Option<u64> {
     match word {
-        Some(x) => Found::At(x),
-        None => Found::Nothing,
+        Some(x) => Some(x),
+        None => None,
     }
 }
 
 // The first word from p up or down that has the bits.
-fn searched(way: Way, width: Width, sought: Sought) -> Found
+fn searched(way: Way, width: Width, sought: Sought) -> Option<u64>
     requires { (1 ≤ width.bits) × (width.bits < 6) }
 {
     let Sought { mask, value, p } = sought;
@@ -104,17 +104,17 @@ fn searched(way: Way, width: Width, sought: Sought) -> Found
 /// Wrong expectations, on the odd words: from 2 the next one is 3, and the one before is 1; and from 0 downwards there is none.
 pub fn known() -> Tally {
     [
-        wrong(Way::Next, 2, Found::At(2)),
-        wrong(Way::Next, 2, Found::Nothing),
-        wrong(Way::Prev, 2, Found::At(2)),
-        wrong(Way::Prev, 2, Found::Nothing),
-        wrong(Way::Prev, 0, Found::At(0)),
+        wrong(Way::Next, 2, Some(2)),
+        wrong(Way::Next, 2, None),
+        wrong(Way::Prev, 2, Some(2)),
+        wrong(Way::Prev, 2, None),
+        wrong(Way::Prev, 0, Some(0)),
     ]
     .into_iter()
     .sum()
 }
 
-fn wrong(way: Way, p: u64, expected: Found) -> Tally {
+fn wrong(way: Way, p: u64, expected: Option<u64>) -> Tally {
     let sought = Sought {
         mask: 1,
         value: 1,

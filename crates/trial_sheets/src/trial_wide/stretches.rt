@@ -6,7 +6,6 @@ use trial::trial_wheel::bit_rules::FEW;
 use trial::trial_wheel::turning::{Stretch, TURNS};
 use trial::trial_wheel::wheel::Wheel;
 use trial::trial_wheel::{bit_rules, meaning, turning};
-use word::Found;
 
 /// The most stretches of a sheet of few rules.
 pub const STRETCHES: u64 = TURNS * FEW as u64 + 1;
@@ -24,10 +23,10 @@ struct Link {
 
 /// The verdict and its words, and for none the chain. Puts its links into the buffer.
 pub fn searched(rules: &[Rule], wheel: Wheel, out: &mut [u64; NUMBERS]) -> Expected {
-    let Found::At(smallest) = next(rules, wheel, 0) else {
+    let Some(smallest) = next(rules, wheel, 0) else {
         return Expected::none(chain(rules, wheel, out));
     };
-    let Found::At(largest) = largest(rules, wheel) else {
+    let Some(largest) = largest(rules, wheel) else {
         return Expected::none(0);
     };
     Expected::some(smallest, largest)
@@ -55,57 +54,57 @@ pub fn around(rules: &[Rule], wheel: Wheel, x: u64) -> Stretch {
 }
 
 // The smallest word from one to another that fits, where no rule turns within.
-fn first(rules: &[Rule], wheel: Wheel, from: u64, to: u64) -> Found {
+fn first(rules: &[Rule], wheel: Wheel, from: u64, to: u64) -> Option<u64> {
     if !holds(rules, wheel, from) {
-        return Found::Nothing;
+        return None;
     }
     match bit_rules::next(rules, wheel, from) {
-        Found::At(word) if word <= to => Found::At(word),
-        _ => Found::Nothing,
+        Some(word) if word <= to => Some(word),
+        _ => None,
     }
 }
 
 // The largest, going down.
-fn last(rules: &[Rule], wheel: Wheel, from: u64, to: u64) -> Found {
+fn last(rules: &[Rule], wheel: Wheel, from: u64, to: u64) -> Option<u64> {
     if !holds(rules, wheel, from) {
-        return Found::Nothing;
+        return None;
     }
     match bit_rules::prev(rules, wheel, from) {
-        Found::At(word) if to <= word => Found::At(word),
-        _ => Found::Nothing,
+        Some(word) if to <= word => Some(word),
+        _ => None,
     }
 }
 
 /// The smallest word at or above p that fits.
-pub fn next(rules: &[Rule], wheel: Wheel, p: u64) -> Found {
+pub fn next(rules: &[Rule], wheel: Wheel, p: u64) -> Option<u64> {
     let mut x = p;
     for _ in 0..STRETCHES {
         let end = around(rules, wheel, x).to;
-        if let Found::At(word) = first(rules, wheel, x, end) {
-            return Found::At(word);
+        if let Some(word) = first(rules, wheel, x, end) {
+            return Some(word);
         }
         if wheel.top <= end {
             break;
         }
         x = end + 1;
     }
-    Found::Nothing
+    None
 }
 
 // The largest word that fits.
-fn largest(rules: &[Rule], wheel: Wheel) -> Found {
+fn largest(rules: &[Rule], wheel: Wheel) -> Option<u64> {
     let mut x = wheel.top;
     for _ in 0..STRETCHES {
         let start = around(rules, wheel, x).from;
-        if let Found::At(word) = last(rules, wheel, x, start) {
-            return Found::At(word);
+        if let Some(word) = last(rules, wheel, x, start) {
+            return Some(word);
         }
         if start == 0 {
             break;
         }
         x = start - 1;
     }
-    Found::Nothing
+    None
 }
 
 // "Stop after the link that ends at the top word; else go on with p = q + 1."
@@ -156,7 +155,7 @@ fn gap(rules: &[Rule], wheel: Wheel, p: u64) -> u64 {
         return wheel.top;
     }
     match bit_rules::next(rules, wheel, p + 1) {
-        Found::At(word) => word.wrapping_sub(1),
-        Found::Nothing => wheel.top,
+        Some(word) => word.wrapping_sub(1),
+        None => wheel.top,
     }
 }
