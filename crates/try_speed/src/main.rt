@@ -30,10 +30,10 @@ fn main(rt: HostRuntime) -> Result<()> {
     // By the first letters of the argument.
     match (word[0], word[1]) {
         (b'b', b'i') => look::all(&rt),
-        (b'b', _) => tell(&rt, right(MADE, |out| batch_links(opening, rules, out))),
-        (b'c', _) => tell(&rt, right(MADE, |out| call_links(opening, rules, out))),
+        (b'b', _) => tell(&rt, right(MADE, |out| batch_links(opening, &rules, out))),
+        (b'c', _) => tell(&rt, right(MADE, |out| call_links(opening, &rules, out))),
         _ => {
-            let sheet = full(opening, rules);
+            let sheet = full(opening, &rules);
             tell(&rt, right(ASKED, |out| sheet.ask(out).links))
         }
     }
@@ -63,20 +63,20 @@ fn rules(wide: bool) -> [Rule; Batch::MOST] {
     if wide { parts_of(u64::MAX) } else { parts() }
 }
 
-fn full(opening: Opening, rules: [Rule; Batch::MOST]) -> Sheet {
+fn full(opening: Opening, rules: &[Rule; Batch::MOST]) -> Sheet {
     let mut sheet = opened_in(opening.width, opening.edition);
-    for rule in &rules[..Rule::LIMIT] {
+    for rule in rules.iter().take(Rule::LIMIT) {
         sheet = added(sheet, *rule);
     }
     sheet
 }
 
 // The links that the batch call writes, and the calls one by one.
-fn batch_links(opening: Opening, rules: [Rule; Batch::MOST], out: &mut [u64]) -> usize {
-    batch::first(opening, rules, Rule::LIMIT, out).reply.links
+fn batch_links(opening: Opening, rules: &[Rule; Batch::MOST], out: &mut [u64]) -> usize {
+    batch::first(opening, *rules, Rule::LIMIT, out).reply.links
 }
 
-fn call_links(opening: Opening, rules: [Rule; Batch::MOST], out: &mut [u64]) -> usize {
+fn call_links(opening: Opening, rules: &[Rule; Batch::MOST], out: &mut [u64]) -> usize {
     calls(opening, &rules[..Rule::LIMIT], out).reply.links
 }
 
