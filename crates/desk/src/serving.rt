@@ -40,10 +40,11 @@ pub fn serve(
     let mut at = 0;
     while at < part.len() {
         let fed = crate::feed::feed(state, rows, marks, chain, &part[at..], out);
+        let written = fed.written;
         state = fed.state;
         at = at + fed.used;
-        let sent = coming::send(rt, &out[..fed.written]);
-        if sent.count < fed.written {
+        let sent = coming::send(rt, &out[..written]);
+        if sent.count < written {
             return Served {
                 state,
                 taken: false,

@@ -1,5 +1,5 @@
 // Gates and calls drawn from a fixed seed, so that every run makes the same ones.
-use gate::{Gate, Turned};
+use gate::Gate;
 use page::Opening;
 use rule::Rule;
 use sheet::Call;
@@ -28,8 +28,8 @@ impl Limits {
     /// The four rules that the gate is turned into, if it is.
     pub fn rules(self) -> Option<[Rule; 4]> {
         match self.gate().rules() {
-            Turned::Rules(four) => Some([four.first, four.second, four.third, four.fourth]),
-            Turned::NotANumber => None,
+            Ok(four) => Some([four.first, four.second, four.third, four.fourth]),
+            Err(_) => None,
         }
     }
 

@@ -8,7 +8,7 @@
 
 mod made;
 
-use gate::{Four, Turned};
+use gate::Four;
 use made::{CORNERS, WORDS, corner};
 use std::io;
 use trial::trial_gates::direct;
@@ -57,11 +57,11 @@ fn spans(look: Look) -> Tally {
 fn gated(kind: Kind, low: u32, high: u32, look: Look) -> Tally {
     let number = direct::limits(kind, low, high);
     match (gate(kind, low, high).rules(), look) {
-        (Turned::Rules(_), Look::Gates) => Tally::one(number),
-        (Turned::NotANumber, Look::Gates) => Tally::one(!number),
-        (Turned::Rules(four), Look::Fit) => words(kind, low, high, four, true),
-        (Turned::Rules(four), Look::Unfit) => words(kind, low, high, four, false),
-        (Turned::NotANumber, _) => Tally::none(),
+        (Ok(_), Look::Gates) => Tally::one(number),
+        (Err(_), Look::Gates) => Tally::one(!number),
+        (Ok(four), Look::Fit) => words(kind, low, high, four, true),
+        (Ok(four), Look::Unfit) => words(kind, low, high, four, false),
+        (Err(_), _) => Tally::none(),
     }
 }
 
@@ -81,7 +81,7 @@ fn known() -> Tally {
 // What is expected, wrongly, of a word and the gate at least zero.
 fn wrong(x: u64, expected: bool) -> Tally {
     match gate(Kind::Least, 0, 0).rules() {
-        Turned::Rules(four) => Tally::one(direct::all_hold(four, x) == expected),
-        Turned::NotANumber => Tally::none(),
+        Ok(four) => Tally::one(direct::all_hold(four, x) == expected),
+        Err(_) => Tally::none(),
     }
 }

@@ -1,5 +1,5 @@
 // Gates and sheets to try.
-use gate::{Gate, Span, Turned};
+use gate::{Gate, Span};
 use sheet::Sheet;
 use trial_calls::sheets::added;
 
@@ -15,10 +15,10 @@ pub fn no_number() -> f32 {
 /// The sheet that is left by adding a gate's rules one by one.
 pub fn adds(sheet: Sheet, gate: Gate) -> Sheet {
     match gate.rules() {
-        Turned::Rules(four) => {
+        Ok(four) => {
             let rules = [four.first, four.second, four.third, four.fourth];
             rules.iter().fold(sheet, |more, rule| added(more, *rule))
         }
-        Turned::NotANumber => sheet,
+        Err(_) => sheet,
     }
 }
