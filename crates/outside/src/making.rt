@@ -8,11 +8,12 @@ use crate::handing::{NUMBERS, rule_in};
 use page::Opening;
 use sheet::Sheet;
 
-/// The first refusal of a list: its number, and the place of the rule that was refused, or the list's length.
+/// The first refusal of a list: its number, the place of the rule that was refused, or the list's length, and the sheet as it is then.
 #[derive(Clone, Copy)]
 pub struct Refused {
     pub number: u64,
     pub place: usize,
+    pub sheet: Sheet,
 }
 
 /// Opens a sheet and adds each rule in order. The adds are of the opening's edition.
@@ -20,19 +21,21 @@ pub fn make(opening: Opening, rules: &[[u64; NUMBERS]]) -> Result<Sheet, Refused
     ensures { result ≡ given (makes opening (rules_in rules.now)) }
 {
     let opened = Sheet::blank().open(opening);
+    let mut sheet = opened.sheet;
     if opened.number != 0 {
         return Err(Refused {
             number: opened.number,
             place: rules.len(),
+            sheet,
         });
     }
-    let mut sheet = opened.sheet;
     for (place, row) in rules.iter().enumerate() {
         let answer = sheet.add(opening.edition, rule_in(row));
         if answer.number != 0 {
             return Err(Refused {
                 number: answer.number,
                 place,
+                sheet,
             });
         }
         sheet = answer.sheet;

@@ -21,14 +21,14 @@ pub record Stopped (m : Making) (e : Refused) : Type 0 where
   pub place : e.place ≡ m.place
 
 module _ (m : Making) where
-  ok_of : (t : Bool) → eqb m.number 0 ≡ t → {s : Sheet} → ◌≡◌ {A = Result Sheet Refused} (Ok s) (cond t (Ok (fresh m.on)) (Err (record { number = m.number; place = m.place }))) → Made m s
+  ok_of : (t : Bool) → eqb m.number 0 ≡ t → {s : Sheet} → ◌≡◌ {A = Result Sheet Refused} (Ok s) (cond t (Ok (fresh m.on)) (Err (record { number = m.number; place = m.place; sheet = fresh m.on }))) → Made m s
   ok_of true h e = record { number = eqb-true m.number 0 h; sheet = cc }
   ok_of false h e = absurd (cc)
 
-  err_of : (t : Bool) → eqb m.number 0 ≡ t → {x : Refused} → ◌≡◌ {A = Result Sheet Refused} (Err x) (cond t (Ok (fresh m.on)) (Err (record { number = m.number; place = m.place }))) → Stopped m x
+  err_of : (t : Bool) → eqb m.number 0 ≡ t → {x : Refused} → ◌≡◌ {A = Result Sheet Refused} (Err x) (cond t (Ok (fresh m.on)) (Err (record { number = m.number; place = m.place; sheet = fresh m.on }))) → Stopped m x
   err_of true h e = absurd (cc)
   err_of false h {x} e =
-      let same : x ≡ record { number = m.number; place = m.place } = cc in
+      let same : x ≡ record { number = m.number; place = m.place; sheet = fresh m.on } = cc in
       record { refused = eqb-false m.number 0 h; number = ap (λ (y : Refused). y.number) same; place = ap (λ (y : Refused). y.place) same }
 
   pub made : {r : Result Sheet Refused} → r ≡ given m → {s : Sheet} → r ≡ Ok s → Made m s

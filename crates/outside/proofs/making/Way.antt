@@ -18,18 +18,19 @@ use Rattle.sheet.specs.declared.Answer.{Answer}
 use Rattle.sheet.specs.declared.Sheet.{Sheet}
 use Rattle.sheet.specs.Record.{blank, fresh}
 use Rattle.sheet.specs.Statements.{Outcome, answers}
+use Rattle.page.proofs.Refusals.{after_refused}
 use Rattle.sheet.proofs.demands.Demand.{after_reached, outcome_on}
 use Rattle.outside.specs.declared.making.Refused.{Refused}
 use Rattle.outside.specs.making.Made.{Making, adding, given, makes, making}
 use Rattle.outside.specs.making.route.Way.{Under}
 
-abbrev pub refused_at : (number place : ℕ) → Result Sheet Refused
-refused_at k i = Err (record { number = k; place = i })
+abbrev pub refused_at : (number place : ℕ) → Sheet → Result Sheet Refused
+refused_at k i s = Err (record { number = k; place = i; sheet = s })
 
 given_ok : (m : Making) → m.number ≡ 0 → Ok (fresh m.on) ≡ given m
 given_ok m z = rw (eq-eqb m.number 0 z)
 
-given_err : (m : Making) → (m.number ≡ 0 → ⊥) → refused_at m.number m.place ≡ given m
+given_err : (m : Making) → (m.number ≡ 0 → ⊥) → refused_at m.number m.place (fresh m.on) ≡ given m
 given_err m n = rw (ne_eqb m.number 0 n)
 
 module _ (g : Opening) (us : List Rule) where
@@ -51,11 +52,12 @@ module _ (g : Opening) (us : List Rule) where
     unfolding fresh
     answered = outcome_on no_page refl start opens o
 
-    pub refused_opening : (a.number ≡ 0 → ⊥) → refused_at a.number (length us) ≡ given (makes g us)
+    pub refused_opening : (a.number ≡ 0 → ⊥) → refused_at a.number (length us) a.sheet ≡ given (makes g us)
     refused_opening n =
         let k : ℕ = refusal no_page opens in
         let z : k ≡ 0 → ⊥ = λ e. n (ap (λ (b : Answer). b.number) answered ∙ e) in
-        ap (λ (b : Answer). refused_at b.number (length us)) answered
+        ap (λ (b : Answer). refused_at b.number (length us) b.sheet) answered
+        ∙ ap (λ (pg : Page). refused_at k (length us) (fresh pg)) (after_refused no_page opens z)
         ∙ given_err (making k (length us) no_page) z
         ∙ sym (ap given (open_stops z))
 
@@ -99,11 +101,11 @@ module _ (g : Opening) (us : List Rule) where
       unfolding adding
       add_stops n = rw (ne_eqb (refusal pg adds) 0 n)
 
-      pub refused_rule : (a.number ≡ 0 → ⊥) → refused_at a.number i ≡ given (makes g us)
+      pub refused_rule : (a.number ≡ 0 → ⊥) → refused_at a.number i s ≡ given (makes g us)
       refused_rule n =
           let number : a.number ≡ refusal pg adds = ap (λ (b : Answer). b.number) says in
           let z : refusal pg adds ≡ 0 → ⊥ = λ e. n (number ∙ e) in
-          ap (λ (k : ℕ). refused_at k i) number ∙ given_err (making (refusal pg adds) i pg) z ∙ sym (ap given (comes_to ∙ add_stops z))
+          (λ j. refused_at (number j) i (way.gives j)) ∙ given_err (making (refusal pg adds) i pg) z ∙ sym (ap given (comes_to ∙ add_stops z))
 
       pub added : a.number ≡ 0 → Under g us (i + 1) a.sheet
       added z = record {

@@ -33,4 +33,4 @@ makes g us =
 
 -- that as a sheet, or the first refusal
 abbrev pub given : Making → Result Sheet Refused
-given m = cond (eqb m.number 0) (Ok (fresh m.on)) (Err (record { number = m.number; place = m.place }))
+given m = cond (eqb m.number 0) (Ok (fresh m.on)) (Err (record { number = m.number; place = m.place; sheet = fresh m.on }))

@@ -14,7 +14,7 @@ use Rattle.outside.proofs.making.make.Goals as goal
 
 pub returns-then-opened-ne0 : goal.returns-then-opened-ne0
 returns-then-opened-ne0 c =
-    subst (λ (n : ℕ). refused_at c.open-opened.result.number n ≡ given (makes c.args.opening (rules_in c.args.rules.now))) (as_many c.args.rules.now)
+    subst (λ (n : ℕ). refused_at c.open-opened.result.number n c.open-opened.result.sheet ≡ given (makes c.args.opening (rules_in c.args.rules.now))) (as_many c.args.rules.now)
     (refused_opening c.args.opening (rules_in c.args.rules.now) c.open-opened.result
     (subst (λ (s : Sheet). Outcome s (open_at c.args.opening) c.open-opened.result) c.blank.ensures c.open-opened.ensures)
     c.if-opened-ne0.true)
