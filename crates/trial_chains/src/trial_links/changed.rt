@@ -1,5 +1,4 @@
 // A list of numbers, three a link, changed at one place.
-ghost use Rattle.std.specs.Prelude.{◌<◌, length};
 
 use chain::Link;
 
@@ -53,26 +52,26 @@ impl Change {
         }
     }
 
-    /// Writes the changed list into another. A list that does not fit is cut.
-    pub fn put<'a>(self, list: &[u64], place: usize, out: &'a mut [u64; ROOM]) -> &'a [u64]
-        requires { place < length list.now }
-    {
+    /// Writes the changed list into another. A list that does not fit is cut; at a place past its end a number is not changed.
+    pub fn put<'a>(self, list: &[u64], place: usize, out: &'a mut [u64; ROOM]) -> &'a [u64] {
+        let place = place.min(list.len());
         let (before, rest) = list.split_at(place - place % 3);
         let (link, after) = rest.split_at(rest.len().min(3));
+        let (below, from) = list.split_at(place);
         match self {
             Change::Nothing => joined(list, &[], &[], out),
-            Change::Raised => {
-                let (below, from) = list.split_at(place);
-                joined(below, &[from[0].wrapping_add(1)], &from[1..], out)
-            }
-            Change::Lowered => {
-                let (below, from) = list.split_at(place);
-                joined(below, &[from[0].wrapping_sub(1)], &from[1..], out)
-            }
+            Change::Raised => match from.split_first() {
+                Some((number, later)) => joined(below, &[number.wrapping_add(1)], later, out),
+                None => joined(list, &[], &[], out),
+            },
+            Change::Lowered => match from.split_first() {
+                Some((number, later)) => joined(below, &[number.wrapping_sub(1)], later, out),
+                None => joined(list, &[], &[], out),
+            },
             Change::LeftOut => joined(before, after, &[], out),
             Change::Doubled => joined(before, link, rest, out),
             Change::Moved => joined(before, after, link, out),
-            Change::Cut => joined(&list[..place], &[], &[], out),
+            Change::Cut => joined(below, &[], &[], out),
         }
     }
 }
