@@ -3,5 +3,5 @@
 mod gates;
 mod joins;
 
-pub use gates::{gate_of, gate_rules};
+pub use gates::{gate_of, gate_rules, watts};
 pub use joins::{interval_in, join, op_of, row_of};
