@@ -61,10 +61,10 @@ fn float(n: u32) -> f32 {
 
 // The bits of what the machine found, which is a number.
 fn bits_of(x: f32) -> Option<u32> {
-    if x != x {
+    if x.is_nan() {
         return None;
     }
-    Some(f32::to_bits(x))
+    Some(x.to_bits())
 }
 
 // A pattern, by its exponent and its 24 binary places.
