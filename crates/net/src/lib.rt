@@ -37,7 +37,7 @@ pub enum Ended {
 }
 
 /// What a run answers: how it ended, the steps used, and the intervals. Places not in use are as they came.
-#[derive(Clone, Copy)]
+#[derive(Clone, Copy, Debug, PartialEq, Eq)]
 pub struct Answer {
     pub ended: Ended,
     pub steps: u64,
