@@ -44,9 +44,11 @@ fn over(bits: u64, by: u64) -> Tried
 {
     let mut table = direct::BLANK;
     let width = Width { bits };
-    (1..SHEETS + 1)
-        .map(|i| numbered(i, width, by, &mut table))
-        .sum()
+    let mut tried = Tried::none();
+    for i in 1..SHEETS + 1 {
+        tried = tried.plus(numbered(i, width, by, &mut table));
+    }
+    tried
 }
 
 fn numbered(i: u64, width: Width, by: u64, table: &mut Table) -> Tried
