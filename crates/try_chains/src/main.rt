@@ -67,9 +67,11 @@ fn over_firsts(second: Option<Rule>, width: Width) -> Split
     requires { Narrow width.bits }
 {
     let mut table = direct::BLANK;
-    (0..rules::count(width))
-        .map(|i| with_second(rules::numbered(i, width), second, width, &mut table))
-        .sum()
+    let mut split = Split::none();
+    for i in 0..rules::count(width) {
+        split = split.plus(with_second(rules::numbered(i, width), second, width, &mut table));
+    }
+    split
 }
 
 fn with_second(first: Rule, second: Option<Rule>, width: Width, table: &mut Table) -> Split
