@@ -3,7 +3,7 @@
 ghost use Rattle.std.specs.Prelude.{◌≡◌};
 ghost use Rattle.vet.specs.status.Status.{number_of, status_of};
 
-use checker::finding::Finding;
+use checker::finding::Breach;
 
 /// What is said of a chain: yes, no, or neither, where the chain is mistaken or a read or a write failed.
 #[derive(Clone, Copy, PartialEq, Eq)]
@@ -16,10 +16,10 @@ pub enum Verdict {
 impl Verdict {
     /// The verdict on what is found of a chain.
     #[tactic(auto, unfolding(crate::specs::status::Status::status_of))]
-    pub fn of(found: Finding) -> Verdict
+    pub fn of(found: Result<(), Breach>) -> Verdict
         ensures { number_of result ≡ status_of found }
     {
-        if found.is_yes() {
+        if found.is_ok() {
             Verdict::Yes
         } else {
             Verdict::No

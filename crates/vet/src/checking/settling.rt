@@ -1,30 +1,30 @@
 // What is found of a chain whose reasons may be names: a name that several rules in force share, as the four of a gate do, stands for
 // the first of them that all words of the link fail, and for the first of them where there is none.
 ghost use Rattle.std.specs.Prelude.{◌≡◌};
-ghost use Rattle.checker.specs.finding.Clauses.{is_yes};
+ghost use Rattle.std.specs.Result.{is_ok};
 ghost use Rattle.checker.specs.Check.{accepts};
 ghost use Rattle.checker.specs.clause.Finding.{finding};
 ghost use Rattle.vet.specs.gathering.Read.{numbers_in};
 
 use crate::gathering::Chain;
-use checker::clause::Finding;
+use checker::finding::Breach;
 use naming::MOST;
 use rule::Rule;
 use sheet::Sheet;
 
-/// What is found of the links of a chain. It is yes just where the check says yes.
-pub fn found_of(sheet: Sheet, chain: &Chain) -> Finding
+/// What is found of the links of a chain. All holds just where the check says yes.
+pub fn found_of(sheet: Sheet, chain: &Chain) -> Result<(), Breach>
     ensures value { result ≡ finding sheet (numbers_in chain.now) }
-    ensures result_value { is_yes result ≡ accepts sheet (numbers_in chain.now) }
+    ensures result_value { is_ok result ≡ accepts sheet (numbers_in chain.now) }
 {
     checker::clause::first(sheet, chain.numbers())
 }
 
 /// The link whose reason is a name and which the rule does not show that the name stands for.
-pub fn unshown(found: Finding, chain: &Chain) -> Option<usize> {
+pub fn unshown(found: Result<(), Breach>, chain: &Chain) -> Option<usize> {
     let link = match found {
-        Finding::BitRule { link } => link,
-        Finding::MeetsRule { link, word: _ } => link,
+        Err(Breach::BitRule { link }) => link,
+        Err(Breach::MeetsRule { link, word: _ }) => link,
         _ => return None,
     };
     let origin = chain.origin(link)?;

@@ -4,30 +4,31 @@ ghost use Rattle.vet.specs.status.Status.{number_of, status_of};
 
 use crate::gathering::Chain;
 use crate::status::Verdict;
-use checker::clause::Finding;
+use checker::finding::Breach;
 use naming::MOST;
 use rule::Rule;
 use std::fmt;
-use std::io::Result;
+use std::io;
 
 /// Tells it, and gives the verdict.
 pub fn tell(
     rt: &impl Print,
-    found: Finding,
+    found: Result<(), Breach>,
     names: &[[u8; MOST]; Rule::LIMIT],
     chain: &Chain,
-) -> Result<Verdict>
+) -> io::Result<Verdict>
     ensures { IfOk result (λ v. number_of v ≡ status_of found) }
 {
-    if found.is_yes() {
-        println!(rt; "yes: no word fits")?;
-    } else {
-        let why = Why {
-            found,
-            names,
-            chain,
-        };
-        println!(rt; "no: {why}")?;
+    match found {
+        Ok(_) => println!(rt; "yes: no word fits")?,
+        Err(breach) => {
+            let why = Why {
+                breach,
+                names,
+                chain,
+            };
+            println!(rt; "no: {why}")?;
+        }
     }
     Ok(Verdict::of(found))
 }
@@ -35,7 +36,7 @@ pub fn tell(
 // The clause of the paper that does not hold, with the names of the rules, and the chain whose link it may be one of.
 #[derive(Clone, Copy)]
 struct Why<'a> {
-    found: Finding,
+    breach: Breach,
     names: &'a [[u8; MOST]; Rule::LIMIT],
     chain: &'a Chain,
 }
@@ -61,35 +62,34 @@ impl Why<'_> {
 
 impl fmt::Display for Why<'_> {
     fn fmt<W: fmt::Write>(&self, f: &mut fmt::Formatter<W>) -> fmt::Result {
-        match self.found {
-            Finding::Yes => Ok(()),
-            Finding::NoSheet => write!(f, "no sheet is open"),
-            Finding::Empty => write!(f, "the chain is empty"),
-            Finding::Ragged => write!(f, "the numbers of the chain are no multiple of three"),
-            Finding::Short => write!(f, "the largest end is not the top word"),
-            Finding::Backward { link } => {
+        match self.breach {
+            Breach::NoSheet => write!(f, "no sheet is open"),
+            Breach::Empty => write!(f, "the chain is empty"),
+            Breach::Ragged => write!(f, "the numbers of the chain are no multiple of three"),
+            Breach::Short => write!(f, "the largest end is not the top word"),
+            Breach::Backward { link } => {
                 write!(f, "line {}: the link starts above its end", self.line(link))
             }
-            Finding::AboveTop { link } => {
+            Breach::AboveTop { link } => {
                 write!(
                     f,
                     "line {}: the link ends above the top word",
                     self.line(link)
                 )
             }
-            Finding::NotFromZero { link } => {
+            Breach::NotFromZero { link } => {
                 write!(
                     f,
                     "line {}: the first link does not start at 0",
                     self.line(link)
                 )
             }
-            Finding::Gap { link } => write!(
+            Breach::Gap { link } => write!(
                 f,
                 "line {}: the link starts more than one past the largest end so far",
                 self.line(link),
             ),
-            Finding::NoRule { link } => {
+            Breach::NoRule { link } => {
                 write!(
                     f,
                     "line {}: there is no rule {}",
@@ -97,13 +97,13 @@ impl fmt::Display for Why<'_> {
                     self.reason(link)
                 )
             }
-            Finding::BitRule { link } => write!(
+            Breach::BitRule { link } => write!(
                 f,
                 "line {}: {} is one on bits, which a link shows as bits",
                 self.line(link),
                 self.rule(link),
             ),
-            Finding::MeetsRule { link, word } => {
+            Breach::MeetsRule { link, word } => {
                 write!(
                     f,
                     "line {}: word {word} meets {}",
@@ -111,7 +111,7 @@ impl fmt::Display for Why<'_> {
                     self.rule(link)
                 )
             }
-            Finding::MeetsBits { link, word } => {
+            Breach::MeetsBits { link, word } => {
                 write!(
                     f,
                     "line {}: word {word} has the fixed bits",
