@@ -113,9 +113,5 @@ fn downwards(rules: &[Rule], rows: &[Row], width: Width) -> Tally
 
 // Where a walk up stopped, or none where that is at the end.
 fn below(up: u64, end: u64) -> Option<u64> {
-    if up < end {
-        Some(up)
-    } else {
-        None
-    }
+    if up < end { Some(up) } else { None }
 }

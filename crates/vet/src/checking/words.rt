@@ -7,8 +7,7 @@ use crate::status::Verdict;
 use checker::finding::Breach;
 use naming::MOST;
 use rule::Rule;
-use std::fmt;
-use std::io;
+use std::{fmt, io};
 
 /// Tells it, and gives the verdict.
 pub fn tell(
