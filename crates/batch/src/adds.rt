@@ -1,10 +1,10 @@
 // A list of rules added on a slate one after another, up to the first refusal.
 
-ghost use Rattle.std.specs.Prelude.{◌≡◌, MatchResult};
+ghost use Rattle.std.specs.Prelude.{◌≡◌, MatchResult, length};
 ghost use Rattle.sheet.specs.slate.route.Held.{Held};
 ghost use Rattle.sheet.specs.route.Held.{packed};
 ghost use Rattle.sheet.specs.Statements.{IsSheet};
-ghost use Rattle.batch.specs.adds.route.Course.{AllAdded, RefusedAt};
+ghost use Rattle.batch.specs.adds.route.Course.{Came};
 ghost use Rattle.batch.specs.adds.route.Few.{few};
 
 use crate::course::Batch;
@@ -12,10 +12,11 @@ use rule::Rule;
 use search::rows::NUMBERS;
 use sheet::{Head, Sheet, laid};
 
-/// Where a batch is stopped: the number of the first refusal, and the place at which it is said.
+/// Where a batch is stopped: the number of the first refusal, the head as it is then, and the place at which it is said.
 #[derive(Clone, Copy)]
 pub struct Stop {
     pub number: u64,
+    pub head: Head,
     pub place: usize,
 }
 
@@ -34,7 +35,7 @@ pub fn add_all(
     rules: &[Rule],
 ) -> Result<Head, Stop>
     requires { Held head rows.old marks.old × IsSheet (packed head rows.old marks.old) }
-    ensures { MatchResult result (λ h. Held h rows.new marks.new × AllAdded head.opening.edition rules.now (packed head rows.old marks.old) (packed h rows.new marks.new)) (λ s. RefusedAt head.opening.edition rules.now (packed head rows.old marks.old) s.number s.place) }
+    ensures { MatchResult result (λ h. Held h rows.new marks.new × Came head.opening.edition rules.now (packed head rows.old marks.old) (packed h rows.new marks.new) 0 (length rules.now)) (λ s. Held s.head rows.new marks.new × (s.number ≡ 0 → ⊥) × Came head.opening.edition rules.now (packed head rows.old marks.old) (packed s.head rows.new marks.new) s.number s.place) }
 {
     let edition = head.opening.edition;
     let mut head = head;
@@ -43,7 +44,11 @@ pub fn add_all(
         let number = said.number;
         let is_refused = number != 0;
         if is_refused {
-            return Err(Stop { number, place });
+            return Err(Stop {
+                number,
+                head: said.head,
+                place,
+            });
         }
         head = said.head;
     }

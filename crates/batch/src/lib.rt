@@ -1,8 +1,8 @@
 //! The batch call: an opening, a lent list of rules and a chain buffer, answered as the calls one by one would be.
 #![tactic(auto)]
 
-mod adds;
-mod begun;
+pub mod adds;
+pub mod begun;
 pub mod course;
 pub mod few_rules;
 

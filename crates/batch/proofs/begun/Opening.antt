@@ -22,8 +22,8 @@ use Rattle.sheet.specs.Record.{blank, fresh}
 use Rattle.sheet.specs.Statements.{IsSheet, answers}
 use Rattle.sheet.proofs.demands.Demand.{after_reached, outcome_on}
 use Rattle.batch.specs.declared.adds.Stop.{Stop}
-use Rattle.batch.specs.adds.route.Course.{AllAdded, RefusedAt, Stopped, Under}
-use Rattle.batch.specs.begun.route.Begun.{Begun, StoppedAt, opening, rule}
+use Rattle.batch.specs.adds.route.Course.{Came}
+use Rattle.batch.specs.begun.route.Begun.{Begun, opens, refuses}
 
 module _ (g : Opening) {s : Sheet} (laid : s ≡ blank) {k : ℕ} {h : Head} {rows : List (List ℕ)} {marks : List ℕ}
     (after_open : After s (open_at g) k h rows marks) where
@@ -46,30 +46,20 @@ module _ (g : Opening) {s : Sheet} (laid : s ≡ blank) {k : ℕ} {h : Head} {ro
   edition_is z = ap (λ (v : Sheet). v.edition) (sheet_is ∙ ap fresh (after_accepted no_page (open_at g) (number_is ∙ z)))
 
   module _ (us : List Rule) (n : ℕ) where
-    pub refused_opening : (k ≡ 0 → ⊥) → StoppedAt g us n k n
-    refused_opening z = opening number_is z
+    pub refused_opening : (k ≡ 0 → ⊥) → Begun g us n (packed h rows marks) k n
+    refused_opening z = refuses number_is z sheet_is
 
     -- what the adds came to on the sheet that was opened
     module _ (z : k ≡ 0) where
-      opened : refusal no_page (open_at g) ≡ 0
-      opened = number_is ∙ z
-
-      pub all_opened : {t : Sheet} → AllAdded h.opening.edition us (packed h rows marks) t → Begun g us t
-      all_opened {t} all =
-          record {
-            opens = opened;
-            went = subst (λ (e : Edition). Under e us (after no_page (open_at g)) (length us) t) (edition_is z) (all (after no_page (open_at g)) (after_reached start (open_at g)) sheet_is);
-          }
-
-      pub refused_opened : {j i : ℕ} → RefusedAt h.opening.edition us (packed h rows marks) j i → StoppedAt g us n j i
-      refused_opened {j} {i} stop =
-          let found = stop.stopped (after no_page (open_at g)) (after_reached start (open_at g)) sheet_is in
-          rule opened stop.refused
-          (subst (λ (e : Edition). Stopped e us (after no_page (open_at g)) j i found.0) (edition_is z) found.1)
+      pub opened_so : {t : Sheet} {j i : ℕ} → Came h.opening.edition us (packed h rows marks) t j i → Begun g us n t j i
+      opened_so {t} {j} {i} came =
+          let here = subst (λ (v : Sheet). Came h.opening.edition us v t j i) sheet_is came in
+          opens (number_is ∙ z) (subst (λ (e : Edition). Came e us (fresh (after no_page (open_at g))) t j i) (edition_is z) here)
 
       pub passed_on : (rows' : List (List ℕ)) (marks' : List ℕ) (r : Result Head Stop)
-          → MatchResult r (λ h'. Held h' rows' marks' × AllAdded h.opening.edition us (packed h rows marks) (packed h' rows' marks'))
-          (λ s. RefusedAt h.opening.edition us (packed h rows marks) s.number s.place)
-          → MatchResult r (λ h'. Held h' rows' marks' × Begun g us (packed h' rows' marks')) (λ s. StoppedAt g us n s.number s.place)
-      passed_on rows' marks' (Ok h') p = (p.0, all_opened p.1)
-      passed_on rows' marks' (Err s) p = refused_opened p
+          → MatchResult r (λ h'. Held h' rows' marks' × Came h.opening.edition us (packed h rows marks) (packed h' rows' marks') 0 (length us))
+          (λ s. Held s.head rows' marks' × (s.number ≡ 0 → ⊥) × Came h.opening.edition us (packed h rows marks) (packed s.head rows' marks') s.number s.place)
+          → MatchResult r (λ h'. Held h' rows' marks' × Begun g us n (packed h' rows' marks') 0 (length us))
+          (λ s. Held s.head rows' marks' × (s.number ≡ 0 → ⊥) × Begun g us n (packed s.head rows' marks') s.number s.place)
+      passed_on rows' marks' (Ok h') p = (p.0, opened_so p.1)
+      passed_on rows' marks' (Err s) p = (p.0, p.1, opened_so p.2)

@@ -18,7 +18,7 @@ use Rattle.sheet.specs.declared.Sheet.{Sheet}
 use Rattle.sheet.specs.Statements.{Asked, refuses}
 use Rattle.sheet.proofs.demands.Demand.{after_reached}
 use Rattle.batch.specs.adds.route.Course.{Stopped, Under, Went, begun, further}
-use Rattle.batch.specs.begun.route.Begun.{Begun, StoppedAt, opening, rule}
+use Rattle.batch.specs.begun.route.Begun.{Begun, opens}
 use Rattle.batch.specs.declared.course.Batch.{Batch}
 use Rattle.batch.specs.course.Batch.{Gives, added, batches, stops}
 use Rattle.batch.specs.course.route.Route.{batch_at}
@@ -67,9 +67,15 @@ module _ (g : Opening) (us : List Rule) (n : ℕ) where
   unfolding batch_at
   goes_on z m = rw (eq-eqb (refusal no_page (open_at g)) 0 z)
 
-  pub refused_batch : {k i : ℕ} → StoppedAt g us n k i → (b : List ℕ) {a : Reply} → a ≡ refuses k → Gives (batch_at g us n (length b)) b b (batches a i)
-  refused_batch (opening q z) b f = opening_stops q z b refl f
-  refused_batch {k} {i} (rule opens z stop) b f = rw (f, goes_on opens (length b), stop_way (length b) stop z) (stopped k i b)
+  pub refused_batch : {t : Sheet} {k i : ℕ} → Begun g us n t k i → (k ≡ 0 → ⊥) → (b : List ℕ) {a : Reply} {r : Batch} → r ≡ batches a i → a ≡ refuses k
+      → Gives (batch_at g us n (length b)) b b r
+  refused_batch (Begun.refuses q z g₁) y b e f = opening_stops q z b e f
+  refused_batch {k = k} {i = i} (opens z came) y b e f =
+      rw (e, f, goes_on z (length b), stop_way (length b) (came.refused y opened_page reached refl) y) (stopped k i b)
 
-  pub asked_batch : {t : Sheet} → Begun g us t → {b b' : List ℕ} {a : Reply} → Asked t b b' a → Gives (batch_at g us n (length b)) b b' (batches a (length us))
-  asked_batch h {b} asked = rw (goes_on h.opens (length b)) (asked_way g.edition us (length us) refl h.went asked)
+  pub asked_batch : {t : Sheet} {k i : ℕ} → Begun g us n t k i → k ≡ 0 → {b b' : List ℕ} {a : Reply} → Asked t b b' a → {r : Batch} → r ≡ batches a i
+      → Gives (batch_at g us n (length b)) b b' r
+  asked_batch (Begun.refuses q z g₁) y asked e = absurd (z y)
+  asked_batch {i = i} (opens z came) y {b} asked e =
+      let w = came.went y opened_page reached refl in
+      rw (e, goes_on z (length b)) (asked_way g.edition us i w.0 w.1 asked)

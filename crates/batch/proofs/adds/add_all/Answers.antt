@@ -10,10 +10,14 @@ loop-place-init c = record { held = c.requires.0; way = λ pg r q. begun_way _ _
 
 pub returns-then-is_refused : goal.returns-then-is_refused
 returns-then-is_refused c =
-    let done = add_after c.loop-place.invariant.held c.add-said.ensures in record {
-      refused = c.if-is_refused.true;
-      stopped = λ pg r q. (_, stop_way c.args.head.opening.edition c.args.rules.now c.loop-place.place (omega arith) (c.loop-place.invariant.way pg r q) refl done);
-    }
+    let done = add_after c.loop-place.invariant.held c.add-said.ensures in (
+      done.held,
+      c.if-is_refused.true,
+      record {
+        refused = λ z pg r q. stop_way c.args.head.opening.edition c.args.rules.now c.loop-place.place (omega arith) (c.loop-place.invariant.way pg r q) refl done;
+        went = λ e. absurd (c.if-is_refused.true e);
+      },
+    )
 
 pub loop-place-preserved : goal.loop-place-preserved
 loop-place-preserved c =

@@ -13,7 +13,11 @@ blank-is o = o.lay_out-head.ensures.marks_after ∙ o.blank.ensures
 
 pub returns-then-is_refused : goal.returns-then-is_refused
 returns-then-is_refused c =
-    refused_opening _ (blank-is (goal.at.returns-then-is_refused c).After-open-said) (open_after c.lay_out-head.ensures.held _ c.open-said.ensures) _ _ c.if-is_refused.true
+    let done = open_after c.lay_out-head.ensures.held _ c.open-said.ensures in (
+      done.held,
+      c.if-is_refused.true,
+      refused_opening _ (blank-is (goal.at.returns-then-is_refused c).After-open-said) done _ _ c.if-is_refused.true,
+    )
 
 pub add_all-requires : goal.add_all-requires
 add_all-requires c =

@@ -30,11 +30,9 @@ pub record Stopped (e : Edition) (us : List Rule) (pg : Page) (n i : ℕ) (t : S
   pub refuses : refusal on (add e this) ≡ n
   pub gives : t ≡ fresh (after on (add e this))
 
--- all the rules are added to the record s, a sheet, which leaves the record t
-abbrev pub AllAdded : Edition → List Rule → (s t : Sheet) → Type 0
-AllAdded e us s t = (pg : Page) → Reached pg → s ≡ fresh pg → Under e us pg (length us) t
-
--- of the adds to the record s, a sheet, that of the rule i is the first that is refused, with the number n
-pub record RefusedAt (e : Edition) (us : List Rule) (s : Sheet) (n i : ℕ) : Type 0 where
-  pub refused : n ≡ 0 → ⊥
-  pub stopped : (pg : Page) → Reached pg → s ≡ fresh pg → (t : Sheet) × Stopped e us pg n i t
+-- the number n and the place i that the adds to the record s, a sheet, came to, and the record t that they left
+pub record Came (e : Edition) (us : List Rule) (s t : Sheet) (n i : ℕ) : Type 0 where
+  -- refused at the rule i
+  pub refused : (n ≡ 0 → ⊥) → (pg : Page) → Reached pg → s ≡ fresh pg → Stopped e us pg n i t
+  -- or all are added
+  pub went : n ≡ 0 → (pg : Page) → Reached pg → s ≡ fresh pg → (i ≡ length us) × Under e us pg i t
