@@ -1,4 +1,4 @@
--- A line of a chain: `FROM TO kinds.Rule`, where kinds.Rule is a number, `bits` or a name; or a line that the desk writes for a link.
+-- A line of a chain: `FROM TO RULE`, where RULE is a number, `bits` or a name; or a line that the desk writes for a link.
 use Rattle.std.specs.Prelude.{Bool, true, false, not, cond, List, [], ◌∷◌, ℕ, eqb, ltb, length, Option, Some, None}
 use Rattle.chain.specs.Links.{BITS, link}
 use Rattle.chain.specs.declared.Link.{Link}
@@ -21,7 +21,7 @@ BITS_TEXT = packs 0 (98 ∷ 105 ∷ 116 ∷ 115 ∷ [])
 abbrev pub name : (from to : ℕ) → Name
 name from to = record { from = from; to = to }
 
--- kinds.Rule is a number, the word `bits`, or a name, which stands for a rule at its place of the line
+-- RULE is a number, the word `bits`, or a name, which stands for a rule at its place of the line
 unfoldable pub cited : (from to : ℕ) → Piece → Citation
 cited from to p =
     cond (same p.kind kinds.Number) (Numbered (link from to p.value))

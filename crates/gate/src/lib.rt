@@ -45,7 +45,7 @@ pub enum Refusal {
 
 // The patterns of a half that meet a gate, counted inside the half: from `under` on, and before `over`. Where none does,
 // both are the whole half.
-// No `band::Run`, whose last word is in it: a run here may be empty, and starts and ends where the rules of its half do.
+// No `rule::band::Run`, whose last word is in it: a run here may be empty, and starts and ends where the rules of its half do.
 #[derive(Clone, Copy)]
 struct Run {
     under: u64,

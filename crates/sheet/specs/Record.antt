@@ -24,7 +24,7 @@ blank =
     }
 
 -- The record that a page and its pile give: what stands, after that what waits, zeros in the other places, and what is kept of the rules
--- that stand. This is the route: that replaying the page gives it, from the blank sheet, is proved (demands: proofs/Demand.antt).
+-- that stand. This is the route: that replaying the page gives it, from the blank sheet, is proved (`sheet::demands: Demand`).
 unfoldable pub fresh : Page → Sheet
 fresh no_page = blank
 fresh (page o) =

@@ -1,5 +1,5 @@
 -- The same with no search: the breach is that of a clause that does not hold, and every clause before it holds. That the breach is
--- this, and no other is, is proved (proofs/Broken.antt).
+-- this, and no other is, is proved (proofs/finding/Broken.antt).
 use Rattle.std.specs.Prelude.{◌≡◌, Bool, true, false, List, ◌∷◌, ◌++◌, ℕ, ◌≤◌, ◌<◌}
 use Rattle.rule.specs.accept.Accept.{every}
 use Rattle.chain.specs.declared.Link.{Link}

@@ -1,4 +1,4 @@
--- A link as the desk writes it (`fields: Answers`, `link_line`), in either edition.
+-- A link as the desk writes it (`frame::fields: Answers`, `link_line`), in either edition.
 use Rattle.std.specs.Prelude.{Bool, ◌&&◌, cond, List, ℕ, ◌+◌, ◌-◌, eqb, get_or, length, take, Option, Some, None}
 use Rattle.std.proofs.Math.Seq.{slice}
 use Rattle.word.specs.declared.Edition.{Edition}

@@ -1,5 +1,5 @@
 -- The listing with no search: each word is the next that fits. That the listing is such a list, and that no other list is one, is
--- proved (proofs/Only.antt).
+-- proved (proofs/fitting/Only.antt).
 use Rattle.std.specs.Prelude.{List, [], ◌∷◌, ℕ, zero, suc, ◌≤◌}
 use Rattle.rule.specs.declared.Rule.{Rule}
 use Rattle.search.specs.verdict.Demand.{Fits}

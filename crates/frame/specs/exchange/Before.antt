@@ -1,6 +1,6 @@
 -- The exchange as it was before there was a new edition: its frames, its table of refusals and its answers, with every number, code and
 -- row written out, so that an old line's answer cannot change with today's tables unseen. These rows stand for one statement alone:
--- that the exchange comes out byte for byte as before (proofs/Before.antt). What it follows, since K7 has it "stated once over the width"
+-- that the exchange comes out byte for byte as before (proofs/exchange/Before.antt). What it follows, since K7 has it "stated once over the width"
 -- for both editions: what a rule means and the chain (`findings`), what the clerk writes (`written`), and how a number is written.
 use Rattle.std.specs.Prelude.{◌≡◌, Bool, true, false, not, ◌&&◌, ◌||◌, cond, List, [], ◌∷◌, ◌++◌, ℕ, ◌+◌, ◌*◌, eqb, leb, ltb, length, take}
 use Rattle.std.specs.Int.Bits.{bit_and}

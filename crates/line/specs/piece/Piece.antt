@@ -1,4 +1,4 @@
--- The words of a line, one after another: letters of one class in a row are one word, as in a sheet (`token: Token`).
+-- The words of a line, one after another: letters of one class in a row are one word, as in a sheet (`line::token: Token`).
 use Rattle.std.specs.Prelude.{Bool, false, not, ◌&&◌, cond, List, [], ◌∷◌, ℕ, suc, drop}
 use Rattle.line.specs.declared.grammar.kind.Kind.{Kind}
 use Rattle.line.specs.declared.grammar.kind.Kind.TheVariants.{End}

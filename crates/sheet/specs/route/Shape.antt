@@ -1,5 +1,5 @@
 -- How a record is told to be a sheet. A route and no meaning: that the test passes exactly for sheets is proved
--- (proofs/Tested.antt). The test's rows stand on a slate (slate: specs/Shape.antt).
+-- (proofs/Tested.antt). The test's rows stand on a slate (`sheet::slate: Shape`).
 use Rattle.std.specs.Prelude.{Bool, false}
 use Rattle.rule.specs.declared.bits.Fixed.TheVariants.{Bits}
 use Rattle.page.specs.Page.{at_width}

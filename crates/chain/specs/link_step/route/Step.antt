@@ -1,4 +1,4 @@
--- A link by the furthest reach that was found. A route: where that is the furthest of all, the link is the chain's (linking: proofs/Found.antt).
+-- A link by the furthest reach that was found. A route: where that is the furthest of all, the link is the chain's (`chain::linking: Found`).
 use Rattle.std.specs.Prelude.{◌≡◌, false, List, ℕ, ◌<◌, get_or}
 use Rattle.word.specs.Search.{sink}
 use Rattle.rule.specs.Meaning.{RULES}

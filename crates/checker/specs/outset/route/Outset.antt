@@ -1,4 +1,4 @@
--- A route: the clauses on the record and on the length of the list, which stand before those on links (`clause: Finding`).
+-- A route: the clauses on the record and on the length of the list, which stand before those on links (`checker::clause: Finding`).
 use Rattle.std.specs.Prelude.{Bool, not, List, [], ◌∷◌, ℕ, ◌%◌, eqb}
 use Rattle.checker.specs.declared.finding.Breach.TheVariants.{Empty, NoSheet, Ragged}
 use Rattle.checker.specs.finding.Clauses.{Clause, clause}

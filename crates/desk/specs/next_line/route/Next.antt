@@ -1,5 +1,5 @@
 -- A route: what comes next in a part of the input, where a line may have begun before it. That lines taken so are those of the exchange is proved
--- (proofs/Told.antt).
+-- (proofs/next_line/Told.antt).
 use Rattle.std.specs.Prelude.{cond, List, ℕ, ◌+◌, eqb, drop, length}
 use Rattle.frame.specs.route.Reading.{frame_of}
 use Rattle.frame.specs.input_line.Lines.{line_of}

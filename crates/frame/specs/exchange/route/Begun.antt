@@ -1,5 +1,5 @@
 -- A line that is not finished, as it is carried from one part of the input to the next. A route and no meaning: what is held is the
--- line's first bytes, and they tell which frame it is, as is proved (proofs/Held.antt).
+-- line's first bytes, and they tell which frame it is, as is proved (proofs/exchange/Held.antt).
 use Rattle.std.specs.Prelude.{cond, List, [], ◌∷◌, ℕ, suc, ltb, replicate, set, take}
 use Rattle.frame.specs.route.Reading.{LONGEST}
 use Rattle.frame.specs.declared.exchange.Begun.{Begun}

@@ -1,5 +1,5 @@
 -- What the exchange promises of a part of the input: a route, byte by byte and line by line. What it comes to over a whole input,
--- however that is cut, is `exchange` (specs/Exchange.antt), as is proved (proofs/Whole.antt).
+-- however that is cut, is `exchange` (specs/exchange/Exchange.antt), as is proved (proofs/exchange/Whole.antt).
 use Rattle.std.specs.Prelude.{◌≡◌, List, [], ◌∷◌, ◌++◌, ℕ, ◌+◌, ◌-◌, ◌≤◌, ◌<◌, drop, length, take}
 use Rattle.sheet.specs.declared.Sheet.{Sheet}
 use Rattle.frame.specs.fields.Answers.{NEWLINE, ROOM, answer_bytes}

@@ -1,5 +1,5 @@
 -- The record that any numbers are read as. A route and no meaning: that numbers are a sheet's exactly where this record is a sheet, and then
--- the sheet's own, is proved (proofs/Kept.antt).
+-- the sheet's own, is proved (proofs/kept_numbers/Kept.antt).
 use Rattle.std.specs.Prelude.{cond, List, [], ◌∷◌, ℕ, zero, suc, ltb, drop, get_or, take}
 use Rattle.rule.specs.declared.Rule.{Rule}
 use Rattle.rule.specs.Meaning.{RULES}

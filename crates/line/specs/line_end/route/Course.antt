@@ -1,4 +1,4 @@
--- The end found letter by letter. A route: it is the end that a line has (proofs/Ends.antt `ends`).
+-- The end found letter by letter. A route: it is the end that a line has (proofs/line_end/Ends.antt `ends`).
 use Rattle.std.specs.Prelude.{cond, List, [], ◌∷◌, ℕ, suc}
 use Rattle.line.specs.declared.token.class.Class.{Class}
 use Rattle.line.specs.declared.token.class.Class.TheVariants.{Blank, Comment}

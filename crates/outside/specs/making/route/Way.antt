@@ -1,4 +1,4 @@
--- A list on its way to a sheet. A route and no meaning: that it leads to what the list makes is proved (proofs/Way.antt).
+-- A list on its way to a sheet. A route and no meaning: that it leads to what the list makes is proved (proofs/making/Way.antt).
 use Rattle.std.specs.Prelude.{◌≡◌, List, ℕ, drop}
 use Rattle.rule.specs.declared.Rule.{Rule}
 use Rattle.page.specs.declared.Opening.{Opening}

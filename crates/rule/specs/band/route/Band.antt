@@ -1,5 +1,5 @@
 -- A rule laid on the wheel of words. This is a route and no meaning: that a word is on the holding side of a rule's band
--- exactly when it meets the rule is proved (proofs/Law.antt).
+-- exactly when it meets the rule is proved (proofs/band/Law.antt).
 use Rattle.std.specs.Prelude.{◌≡◌, ℕ, suc, ◌-◌, ◌≤◌, Bool, true, false, cond, not, ◌&&◌, ◌||◌, List, [], ◌∷◌, ◌==◌, nat_le, slice_index_or}
 use Rattle.word.specs.Word.{top, half, plus, minus}
 use Rattle.rule.specs.declared.Rule.{Rule}

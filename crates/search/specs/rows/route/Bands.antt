@@ -1,5 +1,5 @@
 -- The words that pass bands and bits, and bands as a search sees them. A route, as a single band is: that a word passes those of a list
--- of rules exactly when it fits is proved (proofs/Passes.antt).
+-- of rules exactly when it fits is proved (proofs/rows/Passes.antt).
 use Rattle.std.specs.Prelude.{◌≡◌, ℕ, ◌-◌, ◌≤◌, Bool, false, cond, ◌&&◌, List, map, length, take}
 use Rattle.rule.specs.Meaning.{RULES}
 use Rattle.rule.specs.declared.band.Band.{Band}

@@ -1,5 +1,5 @@
 -- A section of words from p on, by search. A route: which way the bands take a word is said elsewhere, and that every word of a section
--- goes as its first is proved (proofs/Alike.antt).
+-- goes as its first is proved (proofs/section/Alike.antt).
 use Rattle.std.specs.Prelude.{Bool, true, false, cond, List, ℕ, ◌-◌}
 use Rattle.word.specs.Search.{climb}
 use Rattle.rule.specs.declared.band.Band.{Band}

@@ -1,4 +1,4 @@
--- What is kept of bands and bits. A route: that it is what is kept of the rules that they are laid of is proved (proofs/Rules.antt).
+-- What is kept of bands and bits. A route: that it is what is kept of the rules that they are laid of is proved (proofs/verdict/Rules.antt).
 use Rattle.std.specs.Prelude.{◌≡◌, false, List, ℕ, suc, ◌≤◌, ◌<◌}
 use Rattle.word.specs.Word.{top}
 use Rattle.word.specs.Search.{first, last}

@@ -1,5 +1,5 @@
 -- One rule more, looked at first where the words that fit before begin and end. A route: that nothing moves where it passes there is proved
--- (verdict: proofs/Unmoved.antt).
+-- (`search::verdict: Unmoved`).
 use Rattle.std.specs.Prelude.{◌≡◌, Bool, true, not, ◌&&◌, List, ℕ, eqb, take}
 use Rattle.word.specs.Word.{IsWidth, top}
 use Rattle.rule.specs.declared.band.Band.{Band}
