@@ -12,7 +12,6 @@ mod case;
 use batch::Batch;
 use page::Opening;
 use rule::Rule;
-use std::io::Result;
 use trial::trial_direct::rules::{NO_FORM, rule};
 use trial::trial_tally::{Tally, total};
 use trial_calls::trial_lists::{alike, parts, parts_of, with};
@@ -21,12 +20,12 @@ use word::{Edition, Width};
 // The places of a list of which each is tried.
 const PLACES: usize = 5;
 
-fn main(rt: HostRuntime) -> Result<()> {
-    println!(rt; "widths {}", widths())?;
-    println!(rt; "editions {}", editions())?;
-    println!(rt; "rules {}", rules(old(4)).plus(rules(new(4))))?;
-    println!(rt; "lengths {}", lengths())?;
-    println!(rt; "known {}", case::known(old(4)).plus(case::known(new(4))))
+fn main(rt: HostRuntime) {
+    let _ = println!(rt; "widths {}", widths());
+    let _ = println!(rt; "editions {}", editions());
+    let _ = println!(rt; "rules {}", rules(old(4)).plus(rules(new(4))));
+    let _ = println!(rt; "lengths {}", lengths());
+    let _ = println!(rt; "known {}", case::known(old(4)).plus(case::known(new(4))));
 }
 
 fn old(width: u64) -> Opening {

@@ -11,16 +11,15 @@
 
 mod sheets;
 
-use std::io;
 use trial_sheets::trial_bits::masks::Way;
 use trial_sheets::trial_bits::{masks, wide};
 
-fn main(rt: HostRuntime) -> io::Result<()> {
-    println!(rt; "next {}", sheets::over_widths(Way::Next))?;
-    println!(rt; "prev {}", sheets::over_widths(Way::Prev))?;
-    println!(rt; "small next {}", masks::small(Way::Next))?;
-    println!(rt; "small prev {}", masks::small(Way::Prev))?;
-    println!(rt; "wide next {}", wide::over_widths(Way::Next))?;
-    println!(rt; "wide prev {}", wide::over_widths(Way::Prev))?;
-    println!(rt; "known {}", masks::known())
+fn main(rt: HostRuntime) {
+    let _ = println!(rt; "next {}", sheets::over_widths(Way::Next));
+    let _ = println!(rt; "prev {}", sheets::over_widths(Way::Prev));
+    let _ = println!(rt; "small next {}", masks::small(Way::Next));
+    let _ = println!(rt; "small prev {}", masks::small(Way::Prev));
+    let _ = println!(rt; "wide next {}", wide::over_widths(Way::Next));
+    let _ = println!(rt; "wide prev {}", wide::over_widths(Way::Prev));
+    let _ = println!(rt; "known {}", masks::known());
 }

@@ -9,7 +9,6 @@
 use page::Opening;
 use rule::Rule;
 use sheet::{Answer, Sheet};
-use std::io::Result;
 use trial::trial_direct::direct::UNTOUCHED;
 use trial::trial_direct::rules::{NO_FORM, rule};
 use trial::trial_tally::{Tally, total};
@@ -19,9 +18,9 @@ use trial_calls::sheets::{
 };
 use word::{Edition, Width};
 
-fn main(rt: HostRuntime) -> Result<()> {
-    println!(rt; "case13 {}", all())?;
-    println!(rt; "known {}", known())
+fn main(rt: HostRuntime) {
+    let _ = println!(rt; "case13 {}", all());
+    let _ = println!(rt; "known {}", known());
 }
 
 fn all() -> Tally {

@@ -13,7 +13,6 @@ ghost use Rattle.std.specs.Prelude.{◌≤◌, length};
 ghost use Rattle.trial.specs.trial_direct.Trial.{Narrow};
 
 use rule::Rule;
-use std::io;
 use trial::trial_direct::cases::{CASE8, CASES, Case};
 use trial::trial_direct::direct::{Table, UNTOUCHED};
 use trial::trial_direct::{cases, direct, draw, rules};
@@ -31,12 +30,12 @@ const PAIRED: u64 = 2;
 // How many sheets are drawn.
 const SHEETS: u64 = 20000;
 
-fn main(rt: HostRuntime) -> io::Result<()> {
-    println!(rt; "single {}", Verdicts(single()))?;
-    println!(rt; "pair {}", Verdicts(pairs()))?;
-    println!(rt; "drawn {}", Verdicts(drawn_sheets()))?;
-    println!(rt; "paper {}", Verdicts(paper()))?;
-    println!(rt; "known {}", known().joined())
+fn main(rt: HostRuntime) {
+    let _ = println!(rt; "single {}", Verdicts(single()));
+    let _ = println!(rt; "pair {}", Verdicts(pairs()));
+    let _ = println!(rt; "drawn {}", Verdicts(drawn_sheets()));
+    let _ = println!(rt; "paper {}", Verdicts(paper()));
+    let _ = println!(rt; "known {}", known().joined());
 }
 
 // Every rule by itself, at the widths 1 to 4.

@@ -15,7 +15,6 @@ ghost use Rattle.trial.specs.trial_direct.Trial.{Narrow};
 
 use arrayvec::ArrayVec;
 use rule::Rule;
-use std::io::Result;
 use trial::trial_direct::direct::{Row, Table};
 use trial::trial_direct::{direct, draw, rules};
 use trial_calls::sheets::{added, case2, opened_in};
@@ -40,10 +39,10 @@ const PAIR: usize = 2;
 // The bits from which on a rule by itself is not listed from every word, so that the run stays short.
 const WIDE: u64 = 4;
 
-fn main(rt: HostRuntime) -> Result<()> {
-    all_rules().tell(&rt, "rules")?;
-    drawn().tell(&rt, "drawn")?;
-    known().tell(&rt, "known")
+fn main(rt: HostRuntime) {
+    all_rules().tell(&rt, "rules");
+    drawn().tell(&rt, "drawn");
+    known().tell(&rt, "known");
 }
 
 // Every rule by itself.

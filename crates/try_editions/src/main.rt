@@ -5,7 +5,6 @@
 // answer to a sheet, and seven wrong ones.
 #![tactic(auto)]
 
-use std::io;
 use trial::trial_direct::direct::Table;
 use trial::trial_direct::{direct, draw, rules};
 use trial::trial_tally::{Count, Tally};
@@ -24,10 +23,10 @@ const SHEETS: u64 = 2000;
 
 const WALKS: u64 = 8000;
 
-fn main(rt: HostRuntime) -> io::Result<()> {
-    drawn().print(&rt, "drawn")?;
-    println!(rt; "ways {}", ways())?;
-    println!(rt; "known {}", known::all())
+fn main(rt: HostRuntime) {
+    drawn().print(&rt, "drawn");
+    let _ = println!(rt; "ways {}", ways());
+    let _ = println!(rt; "known {}", known::all());
 }
 
 // Sheets of any number of rules, asked in both editions.

@@ -1,5 +1,4 @@
 // The calls of sequences: gates by the number that they get, and the others.
-use std::io::Result;
 use trial::trial_tally::{Split, Tally};
 
 /// Gates that are accepted, and those refused: on the blank sheet, for its width, for a limit, and for want of room; and other calls.
@@ -43,16 +42,16 @@ impl Counts {
         self.others = self.others.plus(Split::one(kind, same));
     }
 
-    pub fn tell(self, rt: &impl Print) -> Result<()> {
-        println!(rt; "accepted {}", self.accepted)?;
-        println!(rt; "blank {}", self.blank)?;
-        println!(rt; "width {}", self.width)?;
-        println!(rt; "limit {}", self.limit)?;
-        println!(rt; "room {}", self.room)?;
-        println!(rt; "others {}", self.others.joined())?;
-        println!(rt;
+    pub fn tell(self, rt: &impl Print) {
+        let _ = println!(rt; "accepted {}", self.accepted);
+        let _ = println!(rt; "blank {}", self.blank);
+        let _ = println!(rt; "width {}", self.width);
+        let _ = println!(rt; "limit {}", self.limit);
+        let _ = println!(rt; "room {}", self.room);
+        let _ = println!(rt; "others {}", self.others.joined());
+        let _ = println!(rt;
             "others {} accepted, {} refused",
             self.others.first, self.others.second
-        )
+        );
     }
 }

@@ -12,20 +12,19 @@ mod made;
 use gate::Gate;
 use rule::Rule;
 use sheet::{Answer, Sheet};
-use std::io::Result;
 use trial::trial_tally::Tally;
 use trial_calls::answers::{accepted, kept, looks, refused};
 use trial_calls::records::hurt;
 use trial_calls::sheets::{added, case2, filled, gone_back, marked, opened_in};
 use word::Edition;
 
-fn main(rt: HostRuntime) -> Result<()> {
-    println!(rt; "kept {}", in_both(|edition| as_kept(edition)))?;
-    println!(rt; "added {}", in_both(|edition| as_added(edition)))?;
-    println!(rt; "order {}", in_both(|edition| order(edition)))?;
-    println!(rt; "room {}", in_both(|edition| room(edition)))?;
-    println!(rt; "waits {}", in_both(|edition| waits(edition)))?;
-    println!(rt; "known {}", known())
+fn main(rt: HostRuntime) {
+    let _ = println!(rt; "kept {}", in_both(|edition| as_kept(edition)));
+    let _ = println!(rt; "added {}", in_both(|edition| as_added(edition)));
+    let _ = println!(rt; "order {}", in_both(|edition| order(edition)));
+    let _ = println!(rt; "room {}", in_both(|edition| room(edition)));
+    let _ = println!(rt; "waits {}", in_both(|edition| waits(edition)));
+    let _ = println!(rt; "known {}", known());
 }
 
 fn in_both<F: Fn(Edition) -> Tally>(tried: F) -> Tally

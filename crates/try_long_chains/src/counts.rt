@@ -1,7 +1,6 @@
 // What is counted of sheets with chains of many links.
 ghost use Rattle.try_long_chains.specs.Counts.{nothing, both, laws};
 
-use std::io;
 use std::iter::Sum;
 use trial::trial_tally;
 use trial::trial_tally::{Count, Tally};
@@ -32,9 +31,9 @@ impl Tried {
     }
 
     // Three lines of the program's output.
-    pub fn print(self, rt: &impl Print, bits: &str) -> io::Result<()> {
-        self.seen.print(rt, bits, "bits")?;
-        println!(rt; "{bits} bits, longer {}", self.longer)
+    pub fn print(self, rt: &impl Print, bits: &str) {
+        self.seen.print(rt, bits, "bits");
+        let _ = println!(rt; "{bits} bits, longer {}", self.longer);
     }
 }
 

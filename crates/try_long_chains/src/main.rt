@@ -14,7 +14,6 @@ ghost use Rattle.trial.specs.trial_direct.Trial.{Narrow};
 
 use counts::{SHORT, Tried};
 use rule::Rule;
-use std::io;
 use tiles::Tiles;
 use trial::trial_direct::direct::Table;
 use trial::trial_direct::{direct, draw, rules};
@@ -28,13 +27,13 @@ use word::{Edition, Width};
 // How many sheets are drawn at each width.
 const SHEETS: u64 = 150;
 
-fn main(rt: HostRuntime) -> io::Result<()> {
-    over(6, 0).print(&rt, "6")?;
-    over(7, 0).print(&rt, "7")?;
-    over(8, 0).print(&rt, "8")?;
+fn main(rt: HostRuntime) {
+    over(6, 0).print(&rt, "6");
+    over(7, 0).print(&rt, "7");
+    over(8, 0).print(&rt, "8");
     let drawn_out = over(6, 58).plus(over(7, 57)).plus(over(8, 56));
-    drawn_out.print(&rt, "64")?;
-    println!(rt; "known {}", known())
+    drawn_out.print(&rt, "64");
+    let _ = println!(rt; "known {}", known());
 }
 
 // The sheets of a width, with every word drawn out by so many bits.

@@ -7,7 +7,6 @@
 
 use rule::Rule;
 use sheet::Sheet;
-use std::io::Result;
 use trial::trial_direct::direct::UNTOUCHED;
 use trial::trial_direct::rules::{NO_FORM, rule};
 use trial::trial_tally::Tally;
@@ -16,9 +15,9 @@ use trial_calls::records::hurt;
 use trial_calls::sheets::{added, all_marks, case2, full, opened_in, other};
 use word::Edition;
 
-fn main(rt: HostRuntime) -> Result<()> {
-    println!(rt; "order {}", all())?;
-    println!(rt; "known {}", known())
+fn main(rt: HostRuntime) {
+    let _ = println!(rt; "order {}", all());
+    let _ = println!(rt; "known {}", known());
 }
 
 fn all() -> Tally {

@@ -8,17 +8,16 @@
 mod full;
 mod long;
 
-use std::io::Result;
 use trial::trial_tally::Split;
 
-fn main(rt: HostRuntime) -> Result<()> {
-    tell(&rt, "long", long::all())?;
-    tell(&rt, "full", full::all())?;
-    println!(rt; "known {}", long::known())
+fn main(rt: HostRuntime) {
+    tell(&rt, "long", long::all());
+    tell(&rt, "full", full::all());
+    let _ = println!(rt; "known {}", long::known());
 }
 
 // How many calls were compared, and how many of them were accepted and refused.
-fn tell(rt: &impl Print, name: &str, calls: Split) -> Result<()> {
-    println!(rt; "{name} {}", calls.joined())?;
-    println!(rt; "{name} {} accepted, {} refused", calls.first, calls.second)
+fn tell(rt: &impl Print, name: &str, calls: Split) {
+    let _ = println!(rt; "{name} {}", calls.joined());
+    let _ = println!(rt; "{name} {} accepted, {} refused", calls.first, calls.second);
 }

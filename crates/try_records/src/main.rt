@@ -12,7 +12,6 @@
 #![tactic(auto)]
 
 use sheet::Sheet;
-use std::io::Result;
 use trial::trial_direct::rules::rule;
 use trial::trial_tally::{Tally, total};
 use trial_calls::answers::{accepted, ask_refused, looks, refused};
@@ -22,10 +21,10 @@ use trial_calls::records::{
 use trial_calls::sheets::{opened, opened_in, other};
 use word::Edition;
 
-fn main(rt: HostRuntime) -> Result<()> {
-    println!(rt; "damaged {}", damaged())?;
-    println!(rt; "edition {}", editions())?;
-    println!(rt; "known {}", known())
+fn main(rt: HostRuntime) {
+    let _ = println!(rt; "damaged {}", damaged());
+    let _ = println!(rt; "edition {}", editions());
+    let _ = println!(rt; "known {}", known());
 }
 
 // Records with one number raised.

@@ -10,7 +10,6 @@ use page::Opening;
 use rule::Rule;
 use sheet::Sheet;
 use std::env::Env;
-use std::io::Result;
 use trial_calls::sheets::{added, opened_in};
 use trial_calls::trial_lists::{calls, parts, parts_of};
 use word::Edition;
@@ -19,7 +18,7 @@ const ASKED: u64 = 10_000;
 
 const MADE: u64 = 1_000;
 
-fn main(rt: HostRuntime) -> Result<()> {
+fn main(rt: HostRuntime) {
     let mut word = [0u8; 8];
     let _ = rt.arg(1, &mut word);
     let mut bits = [0u8; 8];
@@ -34,13 +33,13 @@ fn main(rt: HostRuntime) -> Result<()> {
         (b'c', _) => tell(&rt, right(MADE, |out| call_links(opening, &rules, out))),
         _ => {
             let sheet = full(opening, &rules);
-            tell(&rt, right(ASKED, |out| sheet.ask(out).links))
+            tell(&rt, right(ASKED, |out| sheet.ask(out).links));
         }
     }
 }
 
-fn tell(rt: &impl Print, right: u64) -> Result<()> {
-    println!(rt; "{right} answers of {} links", Rule::LIMIT)
+fn tell(rt: &impl Print, right: u64) {
+    let _ = println!(rt; "{right} answers of {} links", Rule::LIMIT);
 }
 
 // The widest sheet of the new edition, or of the old one.

@@ -1,7 +1,6 @@
 // What is counted of decimals that are read.
 ghost use Rattle.try_watts.specs.Counts.{nothing, both, laws};
 
-use std::io;
 use std::iter::Sum;
 use trial::trial_tally;
 use trial::trial_tally::{Count, Tally};
@@ -23,16 +22,16 @@ impl Seen {
     }
 
     // Two lines of the program's output.
-    pub fn print(self, rt: &impl Print, name: &str) -> io::Result<()> {
-        println!(rt; "{name} {}", self.tally)?;
-        println!(rt; "{name} bits {}", self.bits)
+    pub fn print(self, rt: &impl Print, name: &str) {
+        let _ = println!(rt; "{name} {}", self.tally);
+        let _ = println!(rt; "{name} bits {}", self.bits);
     }
 
     // The same, of numbers by whether they were read.
-    pub fn print_read(self, rt: &impl Print, name: &str) -> io::Result<()> {
+    pub fn print_read(self, rt: &impl Print, name: &str) {
         let Tally { compared, differ } = self.tally;
-        println!(rt; "{name} {compared} accepted, {differ} refused")?;
-        println!(rt; "{name} bits {}", self.bits)
+        let _ = println!(rt; "{name} {compared} accepted, {differ} refused");
+        let _ = println!(rt; "{name} bits {}", self.bits);
     }
 }
 

@@ -12,22 +12,21 @@ mod made;
 
 use counts::Seen;
 use made::Kind;
-use std::io;
 use trial::trial_direct::draw;
 
 // How many are drawn for each line.
 const ROUNDS: u64 = 2000;
 
-fn main(rt: HostRuntime) -> io::Result<()> {
-    drawn(Kind::Divided).print(&rt, "divided")?;
-    drawn(Kind::Whole).print(&rt, "whole")?;
-    drawn(Kind::Half).print(&rt, "half")?;
-    drawn(Kind::Less).print(&rt, "less")?;
-    drawn(Kind::More).print(&rt, "more")?;
-    drawn(Kind::Large).print(&rt, "large")?;
-    known::corners().print(&rt, "corners")?;
-    drawn(Kind::Any).print_read(&rt, "drawn")?;
-    known::wrong().print(&rt, "known")
+fn main(rt: HostRuntime) {
+    drawn(Kind::Divided).print(&rt, "divided");
+    drawn(Kind::Whole).print(&rt, "whole");
+    drawn(Kind::Half).print(&rt, "half");
+    drawn(Kind::Less).print(&rt, "less");
+    drawn(Kind::More).print(&rt, "more");
+    drawn(Kind::Large).print(&rt, "large");
+    known::corners().print(&rt, "corners");
+    drawn(Kind::Any).print_read(&rt, "drawn");
+    known::wrong().print(&rt, "known");
 }
 
 // So many of a kind.

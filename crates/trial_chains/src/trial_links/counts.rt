@@ -1,6 +1,6 @@
 // How many lists of each kind were compared, by the answer, and how many answers differ.
 use crate::trial_links::changed::Change;
-use std::{fmt, io};
+use std::fmt;
 use trial::trial_tally::{Count, Split, Tally};
 
 /// The sheets, by whether no word fits or some word does; the chain of each sheet, by how it is changed; the chain on the sheet without
@@ -39,14 +39,14 @@ impl Counts {
     }
 
     /// The lines of the program's output.
-    pub fn print(&self, rt: &impl Print) -> io::Result<()> {
-        println!(rt; "sheets {} none, {} one or many", self.none, self.some)?;
+    pub fn print(&self, rt: &impl Print) {
+        let _ = println!(rt; "sheets {} none, {} one or many", self.none, self.some);
         for (change, split) in Change::ALL.iter().zip(self.changed) {
-            println!(rt; "{} {}", change.name(), Answers(split))?;
+            let _ = println!(rt; "{} {}", change.name(), Answers(split));
         }
-        println!(rt; "other {}", Answers(self.other))?;
-        println!(rt; "no sheet {}", Answers(self.no_sheet))?;
-        println!(rt; "fitting {}", Answers(self.fitting))
+        let _ = println!(rt; "other {}", Answers(self.other));
+        let _ = println!(rt; "no sheet {}", Answers(self.no_sheet));
+        let _ = println!(rt; "fitting {}", Answers(self.fitting));
     }
 }
 

@@ -2,7 +2,6 @@
 ghost use Rattle.trial_sheets.specs.Counts.{nothing_seen, both_seen, seen_laws, nothing_answered, both_answered, both_laws};
 
 use crate::expected::{Expected, NUMBERS};
-use std::io;
 use std::iter::Sum;
 use trial::trial_tally;
 use trial::trial_tally::{Count, Split, Tally, Verdicts};
@@ -47,7 +46,7 @@ impl Seen {
     }
 
     /// Two lines of the program's output.
-    pub fn print(self, rt: &impl Print, name: &str, edition: &str) -> io::Result<()> {
+    pub fn print(self, rt: &impl Print, name: &str, edition: &str) {
         let Seen {
             sheets,
             links,
@@ -56,9 +55,11 @@ impl Seen {
             zeros,
             tops,
         } = self;
-        println!(rt; "{name} {edition} {}", Verdicts(sheets))?;
-        print!(rt; "{name} {edition} {links} links, {bits} of bits, at most {most} a sheet; ")?;
-        println!(rt; "{zeros} from 0, {tops} to the top")
+        let _ = println!(rt; "{name} {edition} {}", Verdicts(sheets));
+        let _ = print!(rt;
+            "{name} {edition} {links} links, {bits} of bits, at most {most} a sheet; "
+        );
+        let _ = println!(rt; "{zeros} from 0, {tops} to the top");
     }
 }
 
@@ -100,13 +101,13 @@ impl Sum<Seen> for Seen {
 
 impl Both {
     /// Two lines for each edition, and one for the comparison of the two; or the new edition's alone, of widths that the old has not.
-    pub fn print(self, rt: &impl Print, name: &str) -> io::Result<()> {
-        self.new.print(rt, name, "new")?;
+    pub fn print(self, rt: &impl Print, name: &str) {
+        self.new.print(rt, name, "new");
         if self.editions.compared == 0 {
             return Ok(());
         }
-        self.old.print(rt, name, "old")?;
-        println!(rt; "{name} in both {}", self.editions)
+        self.old.print(rt, name, "old");
+        let _ = println!(rt; "{name} in both {}", self.editions);
     }
 }
 
