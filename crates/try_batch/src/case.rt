@@ -10,29 +10,48 @@ use trial_calls::trial_lists::{alike, calls};
 // What a lent number is before the call. Every number is a word of 64 bits; at this one no link of these lists begins or ends.
 const UNTOUCHED: u64 = 0x5a5a_5a5a_5a5a_5a5a;
 
-/// With enough lent for any list: what is answered, and at which rule.
-pub fn lent_enough(opening: Opening, rules: &[Rule], number: u64, place: usize) -> Tally {
-    compared(opening, rules, Sheet::LENT, number, place)
+/// With enough lent for any list: what is answered of the first rules of an array, and at which rule.
+pub fn lent_enough(
+    opening: Opening,
+    rules: &[Rule; Batch::MOST],
+    count: usize,
+    number: u64,
+    place: usize,
+) -> Tally {
+    compared(opening, rules, count, Sheet::LENT, number, place)
 }
 
-/// With just enough lent for the rules, which are all accepted, and with one number less.
-pub fn both_lent(opening: Opening, rules: &[Rule]) -> Tally {
-    let count = rules.len();
+/// With just enough lent for as many rules, which are all accepted, and with one number less.
+pub fn both_lent(opening: Opening, rules: &[Rule; Batch::MOST], count: usize) -> Tally {
     if Rule::LIMIT < count {
         return Tally::none();
     }
     let wanted = 3 * (4 * count + 1);
-    compared(opening, rules, wanted, 0, count).plus(compared(opening, rules, wanted - 1, 9, count))
+    compared(opening, rules, count, wanted, 0, count).plus(compared(
+        opening,
+        rules,
+        count,
+        wanted - 1,
+        9,
+        count,
+    ))
 }
 
-fn compared(opening: Opening, rules: &[Rule], lent: usize, number: u64, place: usize) -> Tally {
-    if Sheet::LENT < lent {
+fn compared(
+    opening: Opening,
+    rules: &[Rule; Batch::MOST],
+    count: usize,
+    lent: usize,
+    number: u64,
+    place: usize,
+) -> Tally {
+    if Sheet::LENT < lent || Batch::MOST < count {
         return Tally::none();
     }
     let mut out = [UNTOUCHED; Sheet::LENT];
-    let batch = batch::run(opening, rules, &mut out[..lent]);
+    let batch = batch::first(opening, *rules, count, &mut out[..lent]);
     let mut direct = [UNTOUCHED; Sheet::LENT];
-    let one_by_one = calls(opening, rules, &mut direct[..lent]);
+    let one_by_one = calls(opening, &rules[..count], &mut direct[..lent]);
     said(batch, number, place)
         .plus(same_answer(batch, one_by_one))
         .plus(same_numbers(&out, &direct))
@@ -63,7 +82,7 @@ fn same_numbers(out: &[u64], direct: &[u64]) -> Tally {
 /// Wrong expectations: at width 4 case 2 is answered with "many", 11 and 14, and leaves the buffer as it was.
 pub fn known(opening: Opening) -> Tally {
     let mut out = [UNTOUCHED; Sheet::LENT];
-    let batch = batch::run(opening, &alike()[..1], &mut out);
+    let batch = batch::first(opening, alike(), 1, &mut out);
     let reply = Reply {
         number: 9,
         kept: kept(1, 12, 13),

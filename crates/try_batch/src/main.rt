@@ -54,9 +54,9 @@ fn widths() -> Tally {
 }
 
 fn opening(opening: Opening) -> Tally {
-    case::lent_enough(opening, &[], 2, 0)
-        .plus(case::lent_enough(opening, &alike()[..3], 2, 3))
-        .plus(case::lent_enough(opening, &parts(), 2, Batch::MOST))
+    case::lent_enough(opening, &alike(), 0, 2, 0)
+        .plus(case::lent_enough(opening, &alike(), 3, 2, 3))
+        .plus(case::lent_enough(opening, &parts(), Batch::MOST, 2, Batch::MOST))
 }
 
 // Each width that the new edition has alone, and the one below it.
@@ -68,10 +68,9 @@ fn editions() -> Tally {
 // rule one bit below.
 fn edition(below: u64, width: u64, top: u64) -> Tally {
     let rules = with(alike(), 2, rule(1, 0, top, top));
-    let three = &rules[..3];
-    case::lent_enough(new(width), three, 0, 3)
-        .plus(case::lent_enough(old(width), three, 2, 3))
-        .plus(case::lent_enough(new(below), three, 5, 2))
+    case::lent_enough(new(width), &rules, 3, 0, 3)
+        .plus(case::lent_enough(old(width), &rules, 3, 2, 3))
+        .plus(case::lent_enough(new(below), &rules, 3, 5, 2))
 }
 
 // At width 4, each place of five.
@@ -99,7 +98,7 @@ fn refused(opening: Opening, place: usize, rule: Rule, number: u64) -> Tally {
 // A rule at a place of a list, with the number and the place that are answered.
 fn among(opening: Opening, place: usize, rule: Rule, number: u64, answered: usize) -> Tally {
     let rules = with(alike(), place, rule);
-    case::lent_enough(opening, &rules[..PLACES], number, answered)
+    case::lent_enough(opening, &rules, PLACES, number, answered)
 }
 
 // No rule, one, as many as a sheet takes, and one more: "many" at width 4, and of a full sheet at widths 32 and 64 "none".
@@ -112,9 +111,8 @@ fn lengths() -> Tally {
 }
 
 fn length(opening: Opening, rules: &[Rule; Batch::MOST]) -> Tally {
-    let all_but_one = &rules[..Rule::LIMIT];
-    case::both_lent(opening, &[])
-        .plus(case::both_lent(opening, &rules[..1]))
-        .plus(case::both_lent(opening, all_but_one))
-        .plus(case::lent_enough(opening, rules, 6, Rule::LIMIT))
+    case::both_lent(opening, rules, 0)
+        .plus(case::both_lent(opening, rules, 1))
+        .plus(case::both_lent(opening, rules, Rule::LIMIT))
+        .plus(case::lent_enough(opening, rules, Batch::MOST, 6, Rule::LIMIT))
 }
