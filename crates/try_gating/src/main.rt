@@ -111,7 +111,7 @@ fn limits(sheet: Sheet) -> Tally {
 // How many rules leave room.
 fn room(edition: Edition) -> Tally {
     let gate = Gate::AtMost(1.0);
-    let most = filled(opened_in(32, edition), Rule::LIMIT - Gate::RULES);
+    let most = filled(opened_in(32, edition), 196);
     looks(&[
         same_as(most, gate),
         refuses(filled(most, 1), gate, 6),
