@@ -9,10 +9,12 @@ const LOOKED: u64 = 10_000_000;
 const SUM: u64 = 1_475_656_598_760_131_695;
 
 pub fn all(rt: &impl Print) {
+    // How many comes before the work, so that it is written where the work is cut off.
+    let _ = print!(rt; "{LOOKED}");
     if summed() == SUM {
-        let _ = println!(rt; "{LOOKED} words found as expected");
+        let _ = println!(rt; " words found as expected");
     } else {
-        let _ = println!(rt; "{LOOKED} words found, and the sum differs");
+        let _ = println!(rt; " words found, and the sum differs");
     }
 }
 
