@@ -88,8 +88,8 @@ pub fn drawn(s: u64, top: u64) -> Interval {
     }
 }
 
-// 0, half, the top word and their neighbours, in rising order.
-fn corner(k: u64, top: u64) -> u64 {
+/// 0, half, the top word and their neighbours, in rising order.
+pub fn corner(k: u64, top: u64) -> u64 {
     let half = top / 2 + 1;
     match k % 7 {
         0 => 0,
