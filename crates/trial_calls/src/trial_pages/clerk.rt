@@ -1,18 +1,17 @@
 // The clerk's page: how it was opened, what stands on it, in order, and beside it the pile of what was struck out and waits.
 use crate::sheets::{gone_back, opened_in};
-use crate::trial_pages::lines::{LINES, Line};
-use arrayvec::ArrayVec;
+use crate::trial_pages::lines::{LINES, Line, Lines};
 use page::Opening;
 use sheet::{Call, Sheet};
 use word::Edition;
 
 /// What it was opened with; the lines that stand, the newest last; and those of the pile, the one next to come back last. A stretch lies
 /// on the pile with its mark on top. Where no place is free for a line more it is left out: a desk that accepts it is seen to differ.
-#[derive(Drop)]
+#[derive(Clone, Copy)]
 pub struct Page {
     pub opening: Opening,
-    stands: ArrayVec<Line, LINES>,
-    pile: ArrayVec<Line, LINES>,
+    stands: Lines,
+    pile: Lines,
 }
 
 impl Page {
@@ -28,8 +27,8 @@ impl Page {
     pub fn new(opening: Opening) -> Page {
         Page {
             opening,
-            stands: ArrayVec::new(),
-            pile: ArrayVec::new(),
+            stands: Lines::none(),
+            pile: Lines::none(),
         }
     }
 
@@ -46,20 +45,20 @@ impl Page {
 
     /// Whether something lies on the pile.
     pub fn waits(&self) -> bool {
-        !self.pile.is_empty()
+        !self.pile.as_slice().is_empty()
     }
 
     // One line more, and the pile cleared.
     fn add(&mut self, line: Line) {
-        let _ = self.stands.try_push(line);
-        self.pile.clear();
+        self.stands.push(line);
+        self.pile = Lines::none();
     }
 
     // The newest mark struck, and what was written after it: line by line, until the mark lies on the pile.
     fn strike(&mut self) {
         for _ in 0..LINES {
             let line = self.stands.pop().unwrap_or(Line::Mark);
-            let _ = self.pile.try_push(line);
+            self.pile.push(line);
             if line == Line::Mark {
                 return;
             }
@@ -70,7 +69,7 @@ impl Page {
     fn write_back(&mut self) {
         for _ in 0..LINES {
             let line = self.pile.pop().unwrap_or(Line::Mark);
-            let _ = self.stands.try_push(line);
+            self.stands.push(line);
             if !matches!(self.pile.as_slice().last(), Some(Line::Rule(_))) {
                 return;
             }
@@ -81,13 +80,12 @@ impl Page {
     /// come back first, and then taken back once for each.
     pub fn fresh(&self) -> Sheet {
         let opened = opened_in(self.opening.width, self.opening.edition);
-        let stands = self
-            .stands
-            .iter()
-            .fold(opened, |sheet, line| line.given(sheet));
-        let pile = self.pile.iter().rev();
-        let all = pile.fold(stands, |sheet, line| line.given(sheet));
-        let marks = self.pile.iter().filter(|line| **line == Line::Mark);
+        let lines = self.stands.as_slice();
+        let stands = lines.iter().fold(opened, |sheet, line| line.given(sheet));
+        let pile = self.pile.as_slice();
+        let lines = pile.iter().rev();
+        let all = lines.fold(stands, |sheet, line| line.given(sheet));
+        let marks = pile.iter().filter(|line| **line == Line::Mark);
         marks.fold(all, |sheet, _| gone_back(sheet))
     }
 }
