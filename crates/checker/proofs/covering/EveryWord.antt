@@ -58,6 +58,10 @@ module _ (f : ℕ → Bool) (p q : ℕ) where
   misses_all : ((x : ℕ) → p ≤ x → x ≤ q → f x ≡ false) → misses ≡ true
   misses_all h = each_every (λ (y : ℕ). not (f y)) p q (λ x a b. ap not (h x a b))
 
+  pub first_passes : p ≤ q → f p ≡ true → false ≡ misses
+  first_passes h t =
+      same_test false misses (λ e. absurd (false≢true e)) (λ e. absurd (false≢true (sym (missed e p (le_refl p) h) ∙ t)))
+
   -- the next word that passes comes after, or there is none
   pub next_after : (k x : ℕ) → first f k p ≡ Some x → ltb q x ≡ misses
   next_after k x e =
