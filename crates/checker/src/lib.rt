@@ -14,9 +14,11 @@ ghost use Rattle.checker.specs.Check.{accepts};
 use sheet::Sheet;
 
 /// Whether the links, three numbers each, are a chain of the sheet: any record, and any numbers.
+#[tactic(auto, using(crate::proofs::SearchAccepts::wanted))]
 pub fn accepts(sheet: Sheet, links: &[u64]) -> bool
     ensures value { result ≡ accepts sheet links.now }
     ensures variant { result ≡ true ↔ Accepted sheet links.now }
 {
-    clause::first(sheet, links).is_ok()
+    // an empty list shows nothing, whatever the sheet
+    !links.is_empty() && clause::first(sheet, links).is_ok()
 }
