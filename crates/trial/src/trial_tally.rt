@@ -97,6 +97,8 @@ impl Count for Tally {
 }
 
 impl Sum<Tally> for Tally {
+    ghost sum_gives = { λ xs s. s ≡ fold plus none xs };
+
     fn sum<I: Iterator<Item = Tally> + Drop>(all: I) -> Tally {
         total(all)
     }
@@ -188,6 +190,8 @@ impl Count for Split {
 }
 
 impl Sum<Split> for Split {
+    ghost sum_gives = { λ xs s. s ≡ fold plus_split no_kind xs };
+
     fn sum<I: Iterator<Item = Split> + Drop>(all: I) -> Split {
         total(all)
     }

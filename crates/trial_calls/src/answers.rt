@@ -1,4 +1,7 @@
 // What calls answer and leave, as the trials look at it.
+ghost use Rattle.std.specs.Prelude.{◌≡◌, fold, map};
+ghost use Rattle.trial.specs.trial_tally.Tally.{none, one, plus};
+
 use search::verdict::Kept;
 use sheet::{Answer, Reply, Sheet};
 use trial::trial_direct::direct::UNTOUCHED;
@@ -8,7 +11,9 @@ use trial::trial_tally::{Tally, total};
 const LENT: usize = 3 * (4 * 1 + 1) - 1;
 
 /// Several looks, each of which is right or not.
-pub fn looks(right: &[bool]) -> Tally {
+pub fn looks(right: &[bool]) -> Tally
+    ensures { result ≡ fold plus none (map one right.now) }
+{
     total(right.iter().map(|one| Tally::one(*one)))
 }
 

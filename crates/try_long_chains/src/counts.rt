@@ -1,4 +1,5 @@
 // What is counted of sheets with chains of many links.
+ghost use Rattle.std.specs.Prelude.{◌≡◌, fold};
 ghost use Rattle.try_long_chains.specs.Counts.{nothing, both, laws};
 
 use std::iter::Sum;
@@ -60,6 +61,8 @@ impl Count for Tried {
 }
 
 impl Sum<Tried> for Tried {
+    ghost sum_gives = { λ xs s. s ≡ fold both nothing xs };
+
     fn sum<I: Iterator<Item = Tried> + Drop>(all: I) -> Tried {
         trial_tally::total(all)
     }

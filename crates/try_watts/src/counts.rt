@@ -1,4 +1,5 @@
 // What is counted of decimals that are read.
+ghost use Rattle.std.specs.Prelude.{◌≡◌, fold};
 ghost use Rattle.try_watts.specs.Counts.{nothing, both, laws};
 
 use std::iter::Sum;
@@ -58,6 +59,8 @@ impl Count for Seen {
 }
 
 impl Sum<Seen> for Seen {
+    ghost sum_gives = { λ xs s. s ≡ fold both nothing xs };
+
     fn sum<I: Iterator<Item = Seen> + Drop>(all: I) -> Seen {
         trial_tally::total(all)
     }

@@ -1,4 +1,5 @@
 // What was compared: sheets by their verdicts, the links of their chains, and words at both ends.
+ghost use Rattle.std.specs.Prelude.{◌≡◌, fold};
 ghost use Rattle.trial_sheets.specs.Counts.{nothing_seen, both_seen, seen_laws, nothing_answered, both_answered, both_laws};
 
 use crate::expected::{Expected, NUMBERS};
@@ -94,6 +95,8 @@ impl Count for Seen {
 }
 
 impl Sum<Seen> for Seen {
+    ghost sum_gives = { λ xs s. s ≡ fold both_seen nothing_seen xs };
+
     fn sum<I: Iterator<Item = Seen> + Drop>(all: I) -> Seen {
         trial_tally::total(all)
     }
@@ -136,6 +139,8 @@ impl Count for Both {
 }
 
 impl Sum<Both> for Both {
+    ghost sum_gives = { λ xs s. s ≡ fold both_answered nothing_answered xs };
+
     fn sum<I: Iterator<Item = Both> + Drop>(all: I) -> Both {
         trial_tally::total(all)
     }
