@@ -51,7 +51,7 @@ impl Page {
     // One line more, and the pile cleared.
     fn add(&mut self, line: Line) {
         self.stands.push(line);
-        self.pile = Lines::none();
+        self.pile.clear();
     }
 
     // The newest mark struck, and what was written after it: line by line, until the mark lies on the pile.

@@ -51,6 +51,10 @@ impl Lines {
         }
     }
 
+    pub fn clear(&mut self) {
+        self.length = 0;
+    }
+
     /// Takes the last line off.
     pub fn pop(&mut self) -> Option<Line> {
         self.length = self.length.checked_sub(1)?;

@@ -107,7 +107,7 @@ impl Both {
     pub fn print(self, rt: &impl Print, name: &str) {
         self.new.print(rt, name, "new");
         if self.editions.compared == 0 {
-            return Ok(());
+            return;
         }
         self.old.print(rt, name, "old");
         let _ = println!(rt; "{name} in both {}", self.editions);
